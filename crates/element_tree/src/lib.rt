@@ -1,0 +1,8 @@
+//! The typed plan: its elements by number, in tree order.
+#![tactic(auto)]
+
+pub mod kinds;
+pub mod plan;
+
+pub use kinds::{Element, Kind, Loops};
+pub use plan::Plan;
