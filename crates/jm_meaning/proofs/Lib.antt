@@ -1,0 +1,2 @@
+pub mod SamplingLaws
+pub mod PlainLaws

@@ -1,0 +1,54 @@
+-- One sampler's calls make its run.
+use Rattle.std.proofs.Common.{◌≡◌, ℕ, List, [], Option}
+use Rattle.std.specs.Option.{option_map}
+use Rattle.jm_base.specs.declared.types.Sample.{Sample}
+use Rattle.jm_base.specs.declared.types.Request.TheVariants.{Script}
+use Rattle.jm_base.specs.declared.types.Outcome.{Outcome}
+use Rattle.jm_base.specs.Run.{over, ◌>>=◌, reading, outcome_of}
+use Rattle.jm_base.specs.Outside.{Account, Goes, TellsNothing}
+use Rattle.std.specs.Prelude.{Result, Ok, Err, OnErr}
+use Rattle.jm_base.proofs.RunLaws.{goes-append, goes-bind, goes-nothing, goes-tells_nothing}
+use Rattle.jm_meaning.specs.Left.{LeftOf}
+use Rattle.jm_meaning.specs.Sampling.{sampled, sample_of, reply_of}
+
+module _ {a b c d : Account} (e : ℕ) (n t u : ℕ) (text : List ℕ) (o : Outcome) (empty : text ≡ [])
+    (first : Goes a reading [] (over t) b)
+    (asked : Goes b (outcome_of n (Script text)) [] (over o) c)
+    (second : Goes c reading [] (over u) d) where
+  pub sampled_goes : (r : Option Sample) → r ≡ option_map (sample_of e t u) (reply_of o) → Goes a (sampled e n) [] (over r) d
+  unfolding sampled
+  sampled_goes r is =
+      let found : Option Sample = option_map (sample_of e t u) (reply_of o) in
+      let asked' : Goes b (outcome_of n (Script [])) [] (over o) c = rw empty at asked in
+      let third : Goes c (reading >>= λ second. over (option_map (sample_of e t second) (reply_of o))) [] (over found) d = goes-bind _ second in
+      let on : Goes b (outcome_of n (Script []) >>= λ o. reading >>= λ second. over (option_map (sample_of e t second) (reply_of o))) [] (over found) d =
+      goes-append (goes-bind _ asked') third in
+      let all : Goes a (sampled e n) [] (over found) d = goes-append (goes-bind _ first) on in
+      rw is all
+
+pub on_err : {X E : Type 0} (r : Result X E) (P : Type 0) → P → OnErr r P
+on_err (Ok x) P p = tt
+on_err (Err e) P p = p
+
+pub not_begun : (a b : Account) (e n : ℕ) → TellsNothing a b → LeftOf a e n b
+not_begun a b e n still = (sampled e n, goes-tells_nothing (goes-nothing a (sampled e n)) still)
+
+pub not_asked : (a : Account) (e n : ℕ) → LeftOf a e n a
+not_asked a e n = (sampled e n, goes-nothing a (sampled e n))
+
+at_account : (a b c : Account) (e n : ℕ) → TellsNothing b c → LeftOf a e n b → LeftOf a e n c
+at_account a b c e n still left = (left.0, goes-tells_nothing left.1 still)
+
+pub after_first : (a b c : Account) (e : ℕ) (n t : ℕ) → Goes a reading [] (over t) b → TellsNothing b c → LeftOf a e n c
+unfolding sampled
+after_first a b c e n t first same = at_account a b c e n same (_, (goes-bind (λ first. outcome_of n (Script []) >>= λ o. reading >>= λ second. over (option_map (sample_of e first second) (reply_of o))) first))
+
+pub after_outcome : (a b c d : Account) (e : ℕ) (n t : ℕ) (text : List ℕ) (o : Outcome) → text ≡ [] → Goes a reading [] (over t) b → Goes b (outcome_of n (Script text)) [] (over o) c → TellsNothing c d → LeftOf a e n d
+unfolding sampled
+after_outcome a b c d e n t text o empty first asked same =
+    let asked' : Goes b (outcome_of n (Script [])) [] (over o) c = rw empty at asked in
+    let one : Goes a (sampled e n) [] (outcome_of n (Script []) >>= λ o. reading >>= λ second. over (option_map (sample_of e t second) (reply_of o))) b =
+    goes-bind (λ first. outcome_of n (Script []) >>= λ o. reading >>= λ second. over (option_map (sample_of e first second) (reply_of o))) first in
+    let two : Goes b (outcome_of n (Script []) >>= λ o. reading >>= λ second. over (option_map (sample_of e t second) (reply_of o))) [] (reading >>= λ second. over (option_map (sample_of e t second) (reply_of o))) c =
+    goes-bind (λ o. reading >>= λ second. over (option_map (sample_of e t second) (reply_of o))) asked' in
+    at_account a c d e n same (_, goes-append one two)

@@ -1,0 +1,12 @@
+//! The meaning of a plan, which the contracts of the layers above cite, and a plain slow program that computes it.
+#![tactic(auto)]
+
+pub mod item;
+pub mod plain;
+pub mod sampler;
+pub mod signal;
+
+pub use item::Item;
+pub use plain::run_plainly;
+pub use sampler::sample_once;
+pub use signal::Signal;

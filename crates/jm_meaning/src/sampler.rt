@@ -1,0 +1,111 @@
+// One sampler: its request, its two readings of the clock, and the sample that follows from them.
+
+ghost use Rattle.std.specs.Prelude.{◌≡◌, [], ◌∷◌, IfOk, OnOk, OnErr, Option};
+ghost use Rattle.jm_base.specs.Run.{over};
+ghost use Rattle.jm_meaning.specs.Left.{LeftOf};
+ghost use Rattle.jm_base.specs.Outside.{Goes};
+ghost use Rattle.jm_meaning.specs.Sampling.{sampled, sample_of, reply_of};
+ghost use Rattle.std.specs.Option.{option_map};
+
+use jm_base::{M, Outcome, Outside, Reply, Request, Sample, Text, Wire};
+use std::alloc::Global;
+
+/// Runs a sampler by its label and its element's number: a reading of the clock, one request, a second reading, and the sample.
+/// There is none where the outcome is null.
+pub fn sample_once<O: Outside>(
+    alloc: Global,
+    label: u16,
+    number: u16,
+    outside: &mut O,
+) -> M<Option<Sample>>
+    ensures done { IfOk result (λ r. Goes (O.account outside.old) (sampled label number) [] (over r) (O.account outside.new)) }
+    ensures cut { OnErr result (LeftOf (O.account outside.old) label number (O.account outside.new)) }
+{
+    let request = Request::Script(Text::new(alloc, &[])?);
+    let first = outside.now()?;
+    let outcome = outside.ask(number, &request)?;
+    let second = outside.now()?;
+    sample_from(alloc, label, first, second, outcome)
+}
+
+// The sample of an outcome between two readings, or none.
+fn sample_from(
+    alloc: Global,
+    label: u16,
+    first: u64,
+    second: u64,
+    outcome: Outcome,
+) -> M<Option<Sample>>
+    ensures { IfOk result (λ r. r ≡ option_map (sample_of label first second) (reply_of outcome)) }
+{
+    match outcome {
+        Outcome::Reply(reply) => Ok(Some(sample_of_reply(alloc, label, first, second, &reply)?)),
+        Outcome::Null => Ok(None),
+        Outcome::Fault => {
+            let reply = fault_reply(alloc, b"fault")?;
+            Ok(Some(sample_of_reply(alloc, label, first, second, &reply)?))
+        }
+        Outcome::Broken(wire) => {
+            let reply = fault_reply(alloc, fault_text(wire))?;
+            Ok(Some(sample_of_reply(alloc, label, first, second, &reply)?))
+        }
+    }
+}
+
+fn fault_text(wire: Wire) -> &'static [u8]
+    ensures { result.now ≡ Rattle.jm_meaning.specs.Sampling.fault_text wire }
+{
+    match wire {
+        Wire::BadHead => b"bad head",
+        Wire::BadChunk => b"bad chunk",
+        Wire::TooLong => b"too long",
+        Wire::EndEarly => b"end early",
+    }
+}
+
+fn fault_reply(alloc: Global, message: &[u8]) -> M<Reply>
+    ensures { IfOk result (λ r. r ≡ record { code = 0; message = message.now; headers = []; body = [] }) }
+{
+    Ok(Reply {
+        code: 0,
+        message: Text::new(alloc, message)?,
+        headers: Text::new(alloc, &[])?,
+        body: Text::new(alloc, &[])?,
+    })
+}
+
+fn sample_of_reply(alloc: Global, label: u16, first: u64, second: u64, reply: &Reply) -> M<Sample>
+    ensures { IfOk result (λ s. s ≡ sample_of label first second reply.now) }
+{
+    Ok(Sample {
+        stamp: first,
+        elapsed: capped(second.saturating_sub(first)),
+        label,
+        code: reply.code,
+        message: Text::new(alloc, front(reply.message.bytes()))?,
+        ok: 200 <= reply.code && reply.code <= 399,
+        failure: Text::new(alloc, &[])?,
+        bytes: capped(reply.body.bytes().len() as u64),
+        listeners: 0,
+    })
+}
+
+fn capped(n: u64) -> u32
+    ensures { result ≡ Rattle.jm_meaning.specs.Sampling.capped n }
+{
+    if n > 0xffff_ffff {
+        0xffff_ffff
+    } else {
+        n as u32
+    }
+}
+
+fn front(bytes: &[u8]) -> &[u8]
+    ensures { result.now ≡ Rattle.std.specs.Prelude.take 256 bytes.now }
+{
+    if bytes.len() > 256 {
+        &bytes[..256]
+    } else {
+        bytes
+    }
+}
