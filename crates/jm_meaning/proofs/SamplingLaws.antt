@@ -1,12 +1,13 @@
 -- One sampler's calls make its run.
-use Rattle.std.proofs.Common.{◌≡◌, ℕ, List, [], Option}
+use Rattle.std.proofs.Common.{◌≡◌, ℕ, List, [], Option, Some, None, refl}
 use Rattle.std.specs.Option.{option_map}
 use Rattle.jm_base.specs.declared.types.Sample.{Sample}
 use Rattle.jm_base.specs.declared.types.Request.TheVariants.{Script}
 use Rattle.jm_base.specs.declared.types.Outcome.{Outcome}
 use Rattle.jm_base.specs.Run.{over, ◌>>=◌, reading, outcome_of}
 use Rattle.jm_base.specs.Outside.{Account, Goes, TellsNothing}
-use Rattle.std.specs.Prelude.{Result, Ok, Err, OnErr}
+use Rattle.jm_base.specs.declared.types.Reply.{Reply}
+use Rattle.std.specs.Prelude.{Result, Ok, Err, OnErr, IfSome}
 use Rattle.jm_base.proofs.RunLaws.{goes-append, goes-bind, goes-nothing, goes-tells_nothing}
 use Rattle.jm_meaning.specs.Left.{LeftOf}
 use Rattle.jm_meaning.specs.Sampling.{sampled, sample_of, reply_of}
@@ -52,3 +53,11 @@ after_outcome a b c d e n t text o empty first asked same =
     let two : Goes b (outcome_of n (Script []) >>= λ o. reading >>= λ second. over (option_map (sample_of e t second) (reply_of o))) [] (reading >>= λ second. over (option_map (sample_of e t second) (reply_of o))) c =
     goes-bind (λ o. reading >>= λ second. over (option_map (sample_of e t second) (reply_of o))) asked' in
     at_account a c d e n same (_, goes-append one two)
+
+-- a sample stands under the label of its sampler
+labelled_reply : (label t u : ℕ) (o : Option Reply) → IfSome (option_map (sample_of label t u) o) (λ s. s.label ≡ label)
+labelled_reply label t u None = tt
+labelled_reply label t u (Some r) = refl
+
+pub labelled : (label t u : ℕ) (o : Outcome) (r : Option Sample) → r ≡ option_map (sample_of label t u) (reply_of o) → IfSome r (λ s. s.label ≡ label)
+labelled label t u o r is = rw is (labelled_reply label t u (reply_of o))

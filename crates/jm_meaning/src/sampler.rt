@@ -1,6 +1,6 @@
 // One sampler: its request, its two readings of the clock, and the sample that follows from them.
 
-ghost use Rattle.std.specs.Prelude.{◌≡◌, [], ◌∷◌, IfOk, OnOk, OnErr, Option};
+ghost use Rattle.std.specs.Prelude.{IfSome, ◌≡◌, [], ◌∷◌, IfOk, OnOk, OnErr, Option};
 ghost use Rattle.jm_base.specs.Run.{over};
 ghost use Rattle.jm_meaning.specs.Left.{LeftOf};
 ghost use Rattle.jm_base.specs.Outside.{Goes};
@@ -19,6 +19,7 @@ pub fn sample_once<O: Outside>(
     outside: &mut O,
 ) -> M<Option<Sample>>
     ensures done { IfOk result (λ r. Goes (O.account outside.old) (sampled label number) [] (over r) (O.account outside.new)) }
+    ensures label { IfOk result (λ r. IfSome r (λ s. s.label ≡ label)) }
     ensures cut { OnErr result (LeftOf (O.account outside.old) label number (O.account outside.new)) }
 {
     let request = Request::Script(Text::new(alloc, &[])?);

@@ -1,6 +1,6 @@
 use Rattle.std.proofs.lemmas.Result.{IfOk-weaker}
 use Rattle.std.proofs.Common.{refl}
-use Rattle.jm_meaning.proofs.SamplingLaws.{sampled_goes, on_err, not_asked, not_begun, after_first, after_outcome}
+use Rattle.jm_meaning.proofs.SamplingLaws.{labelled, sampled_goes, on_err, not_asked, not_begun, after_first, after_outcome}
 use Rattle.jm_meaning.proofs.sampler.sample_once.Goals as goal
 
 pub returns-clause-done : goal.returns-clause-done
@@ -30,3 +30,7 @@ returns-clause-cut g c = on_err c.sample_from.result _ (
   sampled_goes c.args.label c.args.number c.in_ok-first.first c.in_ok-second.second c.in_ok-new.field-0 c.in_ok-outcome.outcome
       c.in_ok-new.ensures c.in_ok-first.ensures.ok c.in_ok-outcome.ensures.ok c.in_ok-second.ensures.ok _ refl,
 )
+
+pub returns-clause-label : goal.returns-clause-label
+returns-clause-label g c = IfOk-weaker c.sample_from.result _ _
+    (labelled c.args.label c.in_ok-first.first c.in_ok-second.second c.in_ok-outcome.outcome) c.sample_from.ensures

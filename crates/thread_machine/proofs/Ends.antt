@@ -1,0 +1,162 @@
+-- What an ended thread's standing says over each form of an outside, and how each step goes on from the one before.
+use Rattle.std.proofs.Common.{◌≡◌, ℕ, Bool, List, [], ◌∷◌, ◌++◌, Some, None, refl, sym, ap, ◌∙◌}
+use Rattle.std.specs.Prelude.{map, MatchOption, IfSome}
+use Rattle.std.specs.Option.{option_map}
+use Rattle.std.proofs.lemmas.List.{append-nil, map-append}
+use Rattle.jm_base.specs.declared.types.Entry.{Entry}
+use Rattle.jm_base.specs.declared.types.Sample.{Sample}
+use Rattle.jm_base.specs.declared.types.End.{End}
+use Rattle.jm_base.specs.declared.types.End.TheVariants.{Completed, StopThread, StopTest, Stopped, SampleLimit, RoundLimit, ValueLimit, NoMemory}
+use Rattle.jm_base.specs.Run.{Run, over, Event, Sampled, Nothing, Ended, Sampler, over_value}
+use Rattle.jm_base.specs.Outside.{Account, Goes, Scripts, Replays, list_form, script_form}
+use Rattle.jm_base.proofs.RunLaws.{path-value, list-replays, goes-append, goes-nothing}
+use Rattle.element_tree.specs.Tree.{Tree}
+use Rattle.jm_meaning.specs.declared.item.Item.{Item}
+use Rattle.jm_meaning.specs.declared.item.Item.TheVariants.{Sampled as SampledItem, Null as NullItem, Ended as EndedItem}
+use Rattle.jm_meaning.specs.Meaning.{events}
+use Rattle.jm_meaning.specs.Shown.{shown}
+use Rattle.thread_machine.specs.declared.trace.TraceItem.{TraceItem}
+use Rattle.thread_machine.specs.declared.trace.TraceItem.TheVariants.{Sampled as TracedSample, Null as TracedNull, Ended as TracedEnd}
+use Rattle.thread_machine.specs.Bare.{bare}
+use Rattle.thread_machine.specs.Standing.{Standing, rest, IsAtStart, owed_items, Stands}
+use Rattle.thread_machine.specs.Stepped.{GivesSample, GivesNone, IsOver, Ends}
+use Rattle.thread_machine.specs.Follows.{FollowsWhole, Follows, HasRun}
+
+-- From start to now the run has given what the items show, and is over.
+record Ran (start now : Account) (run : Run (Unit {0})) (items : List Item) : Type 0 where
+  all_events : List Event
+  goes : Goes start run all_events (over tt) now
+  shows : map shown all_events ≡ items
+
+module _ (start now : Account) (run : Run (Unit {0})) (items : List Item) (ran : Ran start now run items) where
+  shown_all : map shown (ran.all_events ++ []) ≡ items
+  shown_all = ap (map shown) (append-nil ran.all_events) ∙ ran.shows
+
+  given_list : over_value list_form run ran.goes.heard ≡ record { events = ran.all_events ++ []; value = []; came_to = Some tt }
+  unfolding over_value
+  given_list =
+      let e : over_value list_form run (ran.goes.heard ++ []) ≡ record { events = ran.all_events ++ []; value = []; came_to = Some tt } =
+      path-value list_form ran.goes.path _ _ (list-replays ran.goes.heard []) in
+      ap (over_value list_form run) (sym (append-nil ran.goes.heard)) ∙ e
+
+  given_scripts : (v : Scripts) → start.value ≡ Some v → (w : Scripts) × (over_value script_form run v ≡ record { events = ran.all_events ++ []; value = w; came_to = Some tt })
+  unfolding over_value
+  given_scripts v is =
+      let m : MatchOption start.value (now.value ≡ None) (λ v. (w : Scripts) × (now.value ≡ Some w) × Replays script_form v ran.goes.heard w) = ran.goes.hears.value in
+      let m' : MatchOption (Some v) (now.value ≡ None) (λ v. (w : Scripts) × (now.value ≡ Some w) × Replays script_form v ran.goes.heard w) = rw is at m in
+      (m'.0, path-value script_form ran.goes.path v m'.0 m'.2)
+
+follows : (start now : Account) (plan : Tree) (thread budget : ℕ) (trace front : List TraceItem) (end : End) → trace ≡ front ++ TracedEnd end ∷ []
+    → Ran start now (events plan thread budget) (bare trace) → Follows start now plan thread budget trace end
+follows start now plan thread budget trace front end last ran = record {
+  last = (front, last);
+  told = λ nothing. (ran.goes.heard, told_all nothing, over_list);
+  scripted = λ v is. record {
+    items = ap (λ g. map shown g.events) (given_scripts start now _ _ ran v is).1 ∙ shown_all start now _ _ ran;
+    comes_to_its_end = ap (λ g. g.came_to) (given_scripts start now _ _ ran v is).1;
+  };
+} where
+  told_all : start.told ≡ Some [] → now.told ≡ Some ran.goes.heard
+  told_all nothing = ran.goes.hears.told ∙ ap (option_map (λ t. t ++ ran.goes.heard)) nothing
+
+  over_list : FollowsWhole plan thread budget ran.goes.heard trace
+  over_list = record {
+    items = ap (λ g. map shown g.events) (given_list start now _ _ ran) ∙ shown_all start now _ _ ran;
+    used = ap (λ g. g.value) (given_list start now _ _ ran);
+    comes_to_its_end = ap (λ g. g.came_to) (given_list start now _ _ ran);
+  }
+
+-- the run of a thread by its plan and its number
+same_thread : (start now : Account) (budget : ℕ) (w new : Standing) (given : List Event) (left : Run (Unit {0})) → new.plan ≡ w.plan → new.thread ≡ w.thread
+    → Goes start (events w.plan w.thread budget) given left now → Goes start (events new.plan new.thread budget) given left now
+same_thread start now budget w new given left plan thread g = rw (plan, thread) g
+
+nothing_given : (a : Account) (plan : Tree) (thread budget : ℕ) (w : Standing) (left : Run (Unit {0})) → w.plan ≡ plan → w.thread ≡ thread → left ≡ events plan thread budget
+    → Goes a (events w.plan w.thread budget) [] left a
+nothing_given a plan thread budget w left plan_is thread_is is = rw (plan_is, thread_is, is) (goes-nothing a (events plan thread budget))
+
+-- before the first step nothing was given
+pub stands_first : (a : Account) (plan : Tree) (thread budget : ℕ) (w : Standing) → IsAtStart plan thread budget w → Stands a a budget w
+stands_first a plan thread budget w is = record {
+  so_far = [];
+  goes = nothing_given a plan thread budget w (rest w) is.plan_is is.thread_is is.left;
+  shows = rw (is.no_items, is.owes_nothing) refl;
+}
+
+shown-append : (xs ys : List Event) → map shown (xs ++ ys) ≡ map shown xs ++ map shown ys
+shown-append xs ys = map-append shown xs ys
+
+bare-append : (xs ys : List TraceItem) → bare (xs ++ ys) ≡ bare xs ++ bare ys
+bare-append xs ys = map-append _ xs ys
+
+module _ (start now later : Account) (budget : ℕ) (w new : Standing) (stands : Stands start now budget w) (none : w.owed ≡ None) where
+  shows_so_far : map shown stands.so_far ≡ bare w.trace
+  shows_so_far = stands.shows ∙ ap (λ o. bare w.trace ++ owed_items o) none ∙ append-nil (bare w.trace)
+
+  -- a sample was given and is owed
+  pub stands_sample : (entry : Entry) → GivesSample now later w new entry → Stands start later budget new
+  stands_sample entry g = record {
+    so_far = stands.so_far ++ Sampled Sampler g.sample ∷ [];
+    goes = same_thread start later budget w new _ (rest new) (ap (λ s. s.plan) g.new_is) (ap (λ s. s.thread) g.new_is) (goes-append stands.goes g.goes);
+    shows = shown-append stands.so_far (Sampled Sampler g.sample ∷ []) ∙ ap (λ xs. xs ++ SampledItem g.sample ∷ []) shows_so_far
+        ∙ sym (ap (λ s. bare s.trace ++ owed_items s.owed) g.new_is);
+  }
+
+  -- none was given
+  pub stands_none : GivesNone now later w new → Stands start later budget new
+  stands_none g = record {
+    so_far = stands.so_far ++ Nothing g.number ∷ [];
+    goes = same_thread start later budget w new _ (rest new) (ap (λ s. s.plan) g.new_is) (ap (λ s. s.thread) g.new_is) (goes-append stands.goes g.goes);
+    shows = shown-append stands.so_far (Nothing g.number ∷ []) ∙ ap (λ xs. xs ++ NullItem g.number ∷ []) shows_so_far
+        ∙ sym (ap (λ s. bare s.trace ++ owed_items s.owed) g.new_is ∙ ap (λ o. bare (w.trace ++ TracedNull g.number ∷ []) ++ owed_items o) none
+        ∙ append-nil (bare (w.trace ++ TracedNull g.number ∷ [])) ∙ bare-append w.trace (TracedNull g.number ∷ []));
+  }
+
+  ran_over : (end : End) → IsOver now later w new end → Follows start later w.plan w.thread budget new.trace end
+  ran_over end o = follows start later w.plan w.thread budget new.trace w.trace end (ap (λ s. s.trace) o.new_is) (record {
+    all_events = stands.so_far ++ Ended end ∷ [];
+    goes = goes-append stands.goes o.goes;
+    shows = shown-append stands.so_far (Ended end ∷ []) ∙ ap (λ xs. xs ++ EndedItem end ∷ []) shows_so_far
+        ∙ sym (ap (λ s. bare s.trace) o.new_is ∙ bare-append w.trace (TracedEnd end ∷ []));
+  })
+
+  -- the thread has ended
+  pub has_run : (end : End) → Ends now later w new end → HasRun start later w.plan w.thread budget new.trace end
+  has_run Completed o = ran_over Completed o
+  has_run StopThread o = ran_over StopThread o
+  has_run StopTest o = ran_over StopTest o
+  has_run Stopped o = o
+  has_run SampleLimit o = ran_over SampleLimit o
+  has_run RoundLimit o = ran_over RoundLimit o
+  has_run ValueLimit o = ran_over ValueLimit o
+  has_run NoMemory o = (w.trace, ap (λ s. s.trace) o.new_is)
+
+-- the sample that was owed is in the trace
+pub stands_noted : (start now : Account) (budget interval : ℕ) (w new : Standing) (sample : Sample) → w.owed ≡ Some sample
+    → new ≡ record w { owed = None; trace = w.trace ++ TracedSample sample interval ∷ [] }
+    → Stands start now budget w → Stands start now budget new
+stands_noted start now budget interval w new sample owed is stands = record {
+  so_far = stands.so_far;
+  goes = rw is (going w.ended refl);
+  shows = stands.shows ∙ ap (λ o. bare w.trace ++ owed_items o) owed
+      ∙ sym (ap (λ s. bare s.trace ++ owed_items s.owed) is ∙ append-nil (bare (w.trace ++ TracedSample sample interval ∷ []))
+      ∙ bare-append w.trace (TracedSample sample interval ∷ []));
+} where
+  going : (e : Bool) → w.ended ≡ e → Goes start (events w.plan w.thread budget) stands.so_far (rest (record w { owed = None; trace = w.trace ++ TracedSample sample interval ∷ [] })) now
+  going e h = stands.goes
+
+-- what a sample that is noted leaves as it was
+pub record NotedOn (old new : Standing) : Type 0 where
+  pub owed : new.owed ≡ None
+  pub ended : new.ended ≡ old.ended
+  pub plan : new.plan ≡ old.plan
+  pub thread : new.thread ≡ old.thread
+
+pub noted_on : (interval : ℕ) (old new : Standing) (sample : Sample) → new ≡ record old { owed = None; trace = old.trace ++ TracedSample sample interval ∷ [] } → NotedOn old new
+noted_on interval old new sample is = record { owed = ap (λ s. s.owed) is; ended = ap (λ s. s.ended) is; plan = ap (λ s. s.plan) is; thread = ap (λ s. s.thread) is }
+
+-- the clause of a noted sample, where the sample is known
+pub noted_is : (interval : ℕ) (old new : Standing) (sample : Sample) → old.owed ≡ Some sample
+    → IfSome old.owed (λ s. new ≡ record old { owed = None; trace = old.trace ++ TracedSample s interval ∷ [] })
+    → new ≡ record old { owed = None; trace = old.trace ++ TracedSample sample interval ∷ [] }
+noted_is interval old new sample owed h = rw owed at h

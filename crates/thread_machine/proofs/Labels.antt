@@ -1,0 +1,54 @@
+-- A sampler's label is one of the plan's labels.
+use Rattle.std.proofs.Common.{◌≡◌, ℕ, zero, suc, ◌≤◌, ◌<◌, Bool, true, false, List, [], ◌∷◌, ◌++◌, length, Option, Some, None, refl, ap, ◌∙◌, arith, length-append}
+use Rattle.std.specs.Prelude.{slice_get, unwrap_or, position, if◌then◌else◌}
+use Rattle.std.specs.List.{filter_map, list_any}
+use Rattle.std.proofs.lemmas.List.Quantifiers.{position-Some}
+use Rattle.std.proofs.lemmas.Option.{slice_get_within}
+use Rattle.jm_base.specs.Outside.{same_bytes}
+use Rattle.jm_base.specs.declared.types.ScriptReply.{ScriptReply}
+use Rattle.element_tree.specs.declared.kinds.Element.{Element}
+use Rattle.element_tree.specs.declared.kinds.Kind.TheVariants.{Script}
+use Rattle.element_tree.specs.Tree.{sampler_name, with_text, distinct_after, labels_of, label_of}
+
+no_fewer : (seen : List (List ℕ)) (x : List ℕ) → length seen ≤ length (with_text seen x)
+no_fewer seen x = by_test (list_any (same_bytes x) seen) where
+  by_test : (b : Bool) → length seen ≤ length (if b then seen else seen ++ x ∷ [])
+  by_test true = omega arith
+  by_test false = omega (arith, length-append seen (x ∷ []))
+
+none_lost : (seen xs : List (List ℕ)) → length seen ≤ length (distinct_after seen xs)
+none_lost seen [] = omega arith
+none_lost seen (x ∷ xs) =
+    let a = no_fewer seen x in
+    let b = none_lost (with_text seen x) xs in
+    omega arith
+
+some_distinct : (xs : List (List ℕ)) → 1 ≤ length xs → 1 ≤ length (distinct_after [] xs)
+some_distinct [] h = absurd (omega arith)
+some_distinct (x ∷ xs) h = none_lost (x ∷ []) xs
+
+named : (elements : List Element) (n : ℕ) (e : Element) (x : List ℕ) → slice_get elements n ≡ Some e → sampler_name e ≡ Some x → 1 ≤ length (filter_map sampler_name elements)
+named [] n e x h is = absurd (let w : n < 0 = slice_get_within [] n e h in omega arith)
+named (y ∷ ys) zero e x h is = here (sampler_name y) (ap sampler_name (first h) ∙ is) where
+  first : slice_get (y ∷ ys) 0 ≡ Some e → y ≡ e
+  first h = cc
+
+  here : (o : Option (List ℕ)) → o ≡ Some x → 1 ≤ length (filter_map sampler_name (y ∷ ys))
+  here o is' = let s : sampler_name y ≡ Some x = ap sampler_name (first h) ∙ is in rw s (omega arith)
+named (y ∷ ys) (suc n) e x h is = behind (sampler_name y) refl (named ys n e x h is) where
+  behind : (o : Option (List ℕ)) → sampler_name y ≡ o → 1 ≤ length (filter_map sampler_name ys) → 1 ≤ length (filter_map sampler_name (y ∷ ys))
+  behind None is' later = rw is' later
+  behind (Some z) is' later = rw is' (omega arith)
+
+within : (p : List ℕ → Bool) (xs : List (List ℕ)) → 1 ≤ length xs → unwrap_or (position p xs) 0 < length xs
+within p xs some = by_place (position p xs) refl where
+  by_place : (o : Option ℕ) → position p xs ≡ o → unwrap_or o 0 < length xs
+  by_place None is = some
+  by_place (Some i) is = (position-Some p xs i [] is).0
+
+pub label_within : (elements : List Element) (n : ℕ) (e : Element) (replies : List ScriptReply) → slice_get elements n ≡ Some e → e.kind ≡ Script replies
+    → label_of elements e.name < length (labels_of elements)
+unfolding labels_of
+label_within elements n e replies there kind =
+    let name : sampler_name e ≡ Some e.name = rw kind refl in
+    within (same_bytes e.name) _ (some_distinct _ (named elements n e e.name there name))

@@ -1,0 +1,16 @@
+use Rattle.std.proofs.Common.{◌≡◌, ℕ, false, None}
+use Rattle.jm_base.specs.Outside.{Account}
+use Rattle.thread_machine.specs.Standing.{Stands}
+use Rattle.thread_machine.proofs.solo.run_to_end.Given as goal
+
+abbrev pub invariant-steps : goal.invariant-steps
+invariant-steps g l = record {
+  owed : l.worker.owed ≡ None;
+  going : l.worker.ended ≡ false;
+  plan : l.worker.plan ≡ l.fn.worker.plan;
+  thread : l.worker.thread ≡ l.fn.worker.thread;
+  stands : (start : Account) (budget : ℕ) → Stands start (g.O.Outside.account l.fn.outside) budget l.fn.worker → Stands start (g.O.Outside.account l.outside) budget l.worker;
+}
+
+abbrev pub decreases-steps : goal.decreases-steps
+decreases-steps g l = l.worker.units

@@ -1,0 +1,9 @@
+use Rattle.std.proofs.Common.{◌≡◌, false, ap, ◌∙◌}
+use Rattle.thread_machine.proofs.Sound.{sound_behind}
+use Rattle.thread_machine.proofs.worker.Worker.step.Goals as goal
+
+pub invariant_of-self : goal.invariant_of-self
+invariant_of-self g c =
+    let going : c.self.inside.ended ≡ false = ap (λ s. s.ended) c.self.view_is ∙ c.requires.going in
+    rw c.is_end-self-inside.ensures
+    (sound_behind _ _ c.self.inside.runner c.try_step.new.self (rw going at c.self.invariant) c.in-Ok.step c.in-Ok.ensures.steps c.in-Ok.ensures.on)

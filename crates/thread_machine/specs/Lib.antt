@@ -1,0 +1,11 @@
+pub mod Stack
+pub mod Turned
+pub mod Moves
+pub mod Recorded
+pub mod Load
+pub mod Bare
+pub mod Standing
+pub mod Stepped
+pub mod Follows
+pub mod Inside
+pub mod Ran

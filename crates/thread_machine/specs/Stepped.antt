@@ -1,0 +1,76 @@
+-- What one step of a thread does.
+use Rattle.std.specs.Prelude.{◌≡◌, ℕ, ◌-◌, ◌<◌, true, List, [], ◌∷◌, ◌++◌, Some, slice_get}
+use Rattle.jm_base.specs.declared.types.Entry.{Entry}
+use Rattle.jm_base.specs.declared.types.Sample.{Sample}
+use Rattle.jm_base.specs.declared.types.ScriptReply.{ScriptReply}
+use Rattle.jm_base.specs.declared.types.End.{End}
+use Rattle.jm_base.specs.declared.types.End.TheVariants.{Completed, StopThread, StopTest, Stopped, SampleLimit, RoundLimit, ValueLimit, NoMemory}
+use Rattle.jm_base.specs.Run.{Run, over, Sampled, Nothing, Ended, Sampler}
+use Rattle.jm_base.specs.Outside.{Account, Goes}
+use Rattle.element_tree.specs.declared.kinds.Element.{Element}
+use Rattle.element_tree.specs.declared.kinds.Kind.TheVariants.{Script}
+use Rattle.element_tree.specs.Tree.{Tree, label_of}
+use Rattle.thread_machine.specs.declared.trace.TraceItem.TheVariants.{Null as NullItem, Ended as EndedItem}
+use Rattle.thread_machine.specs.declared.step.Step.{Step}
+use Rattle.thread_machine.specs.declared.step.Step.TheVariants.{Sampled as SampledStep, Null as NullStep, Enter, Leave, Ended as EndedStep}
+use Rattle.thread_machine.specs.Standing.{Standing, rest}
+
+-- what a recorder counts of a sample
+abbrev pub entry_of : Sample → Entry
+entry_of s = record { label = s.label; ok = s.ok; elapsed = s.elapsed; bytes = s.bytes }
+
+-- the number is that of a sampler of the plan, and this is its label
+pub record IsSampler (plan : Tree) (number label : ℕ) : Type 0 where
+  pub element : Element
+  pub replies : List ScriptReply
+  pub there : slice_get plan.elements number ≡ Some element
+  pub kind : element.kind ≡ Script replies
+  pub label_is : label ≡ label_of plan.elements element.name
+
+-- a sampler of the plan has used a unit and given a sample, which is owed to the trace
+pub record GivesSample (before after : Account) (old new : Standing) (entry : Entry) : Type 0 where
+  pub sample : Sample
+  pub number : ℕ
+  pub sampler : IsSampler old.plan number sample.label
+  pub goes : Goes before (rest old) (Sampled Sampler sample ∷ []) (rest new) after
+  pub entry_is : entry ≡ entry_of sample
+  pub unit : 0 < old.units
+  pub new_is : new ≡ record old { units = old.units - 1; rounds = new.rounds; frames = new.frames; owed = Some sample }
+
+-- a sampler of the plan has used a unit and given none, and the trace says so
+pub record GivesNone (before after : Account) (old new : Standing) : Type 0 where
+  pub number : ℕ
+  pub label : ℕ
+  pub sampler : IsSampler old.plan number label
+  pub goes : Goes before (rest old) (Nothing number ∷ []) (rest new) after
+  pub unit : 0 < old.units
+  pub new_is : new ≡ record old { units = old.units - 1; rounds = new.rounds; frames = new.frames; trace = old.trace ++ NullItem number ∷ [] }
+
+-- the run is over, and the trace says how
+pub record IsOver (before after : Account) (old new : Standing) (end : End) : Type 0 where
+  pub goes : Goes before (rest old) (Ended end ∷ []) (over tt) after
+  pub new_is : new ≡ record old { rounds = new.rounds; frames = new.frames; trace = old.trace ++ EndedItem end ∷ []; ended = true }
+
+-- memory was wanting: the run has given nothing more, was cut somewhere on its way, and the trace says so
+pub record IsCut (before after : Account) (old new : Standing) : Type 0 where
+  pub left : Run (Unit {0})
+  pub goes : Goes before (rest old) [] left after
+  pub new_is : new ≡ record old { units = new.units; rounds = new.rounds; frames = new.frames; trace = old.trace ++ EndedItem NoMemory ∷ []; ended = true }
+
+abbrev pub Ends : Account → Account → Standing → Standing → End → Type 0
+Ends before after old new Completed = IsOver before after old new Completed
+Ends before after old new StopThread = IsOver before after old new StopThread
+Ends before after old new StopTest = IsOver before after old new StopTest
+Ends before after old new Stopped = ⊥
+Ends before after old new SampleLimit = IsOver before after old new SampleLimit
+Ends before after old new RoundLimit = IsOver before after old new RoundLimit
+Ends before after old new ValueLimit = IsOver before after old new ValueLimit
+Ends before after old new NoMemory = IsCut before after old new
+
+-- what a step that answers so has done
+abbrev pub Steps : Account → Account → Standing → Standing → Step → Type 0
+Steps before after old new (SampledStep entry) = GivesSample before after old new entry
+Steps before after old new NullStep = GivesNone before after old new
+Steps before after old new (Enter lock) = ⊥
+Steps before after old new (Leave lock) = ⊥
+Steps before after old new (EndedStep end) = Ends before after old new end

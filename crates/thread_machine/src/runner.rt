@@ -1,0 +1,110 @@
+// A thread of a plan as its worker keeps it.
+
+ghost use Rattle.std.specs.Prelude.{◌≡◌, ◌+◌, ◌-◌, ◌≤◌, ◌<◌, ℕ, true, false, None, Some, [], ◌∷◌, ◌++◌, length, slice_get, IfOk, OnErr};
+ghost use Rattle.element_tree.specs.declared.kinds.Element.{Element};
+ghost use Rattle.element_tree.specs.Tree.{label_of, threads_of};
+ghost use Rattle.jm_meaning.specs.Left.{LeftOf};
+ghost use Rattle.thread_machine.specs.Inside.{standing_of, GoesOn};
+ghost use Rattle.thread_machine.specs.Standing.{IsAtStart};
+ghost use Rattle.thread_machine.specs.Stepped.{Steps};
+ghost use Rattle.thread_machine.specs.Ran.{RanOne, IsCutAt, IsSameThread, GoesOnBehind, is_end};
+
+use crate::machine::{Machine, Move};
+use crate::step::Step;
+use crate::trace::{Trace, TraceItem};
+use element_tree::Plan;
+use jm_base::{End, M, Outside, Sample};
+use jm_meaning::sample_once;
+use std::alloc::Global;
+
+#[derive(Drop)]
+pub struct Runner<'p> {
+    pub plan: &'p Plan,
+    pub thread: u16,
+    pub machine: Machine,
+    pub units: u32,
+    pub owed: Option<Sample>,
+    pub trace: Trace,
+    pub alloc: Global,
+}
+
+impl<'p> Runner<'p> {
+    pub fn new(alloc: Global, plan: &'p Plan, thread: u16, budget: u32) -> M<Runner<'p>>
+        requires { thread < threads_of plan.now }
+        ensures start { IfOk result (λ r. IsAtStart plan.now thread budget (standing_of r false)) }
+        ensures on { IfOk result GoesOn }
+    {
+        let group = plan.group_of(thread);
+        Ok(Runner {
+            plan,
+            thread,
+            machine: Machine::new(alloc, plan, group)?,
+            units: budget,
+            owed: None,
+            trace: Trace::new(alloc)?,
+            alloc,
+        })
+    }
+
+    // A step, or the thread as it was cut for want of memory.
+    pub fn try_step<O: Outside>(&mut self, outside: &mut O) -> M<Step>
+        requires owed { self.old.owed ≡ None }
+        requires on { GoesOn self.old }
+        ensures steps { IfOk result (λ step. Steps (O.account outside.old) (O.account outside.new)
+            (standing_of self.old false) (standing_of self.new (is_end step)) step) }
+        ensures on { IfOk result (GoesOnBehind self.new) }
+        ensures cut { OnErr result (IsCutAt (O.account outside.old) (O.account outside.new) self.old self.new) }
+        ensures room { OnErr result (1 ≤ self.new.trace.room) }
+    {
+        self.trace.make_room()?;
+        match self.machine.next(self.plan)? {
+            Move::Finished(end) => Ok(self.finish(end)),
+            Move::RunSampler(number) => {
+                if self.units == 0 {
+                    return Ok(self.finish(End::SampleLimit));
+                }
+                self.run_sampler(number, outside)
+            }
+        }
+    }
+
+    // The thread ends, and its trace says so.
+    fn finish(&mut self, end: End) -> Step
+        requires room { 1 ≤ self.old.trace.room }
+        ensures step { result ≡ Step.Ended end }
+        ensures items { self.new.trace.items ≡ self.old.trace.items ++ TraceItem.Ended end ∷ [] }
+        ensures kept { self.new ≡ record self.old { trace = self.new.trace } }
+    {
+        self.trace.put(TraceItem::Ended(end));
+        Step::Ended(end)
+    }
+
+    // A unit is used, and the sampler runs.
+    fn run_sampler<O: Outside>(&mut self, number: u16, outside: &mut O) -> M<Step>
+        requires units { 1 ≤ self.old.units }
+        requires room { 2 ≤ self.old.trace.room }
+        requires there { (e : Element) × (slice_get self.old.plan.now.elements number ≡ Some e) }
+        ensures ran { IfOk result (λ step. (e : Element) → slice_get self.old.plan.now.elements number ≡ Some e
+            → RanOne (O.account outside.old) (O.account outside.new) self.old
+            (label_of self.old.plan.now.elements e.name) number step self.new) }
+        ensures cut { OnErr result ((e : Element) → slice_get self.old.plan.now.elements number ≡ Some e
+            → LeftOf (O.account outside.old) (label_of self.old.plan.now.elements e.name) number (O.account outside.new)) }
+        ensures still { OnErr result ((self.new.trace ≡ self.old.trace) × (self.new.owed ≡ self.old.owed)) }
+        ensures same { IsSameThread self.old self.new }
+    {
+        let label = self.plan.label_of(number);
+        self.units -= 1;
+        match sample_once(self.alloc, label, number, outside)? {
+            None => {
+                self.owed = None;
+                self.trace.put(TraceItem::Null { sampler: number });
+                Ok(Step::Null)
+            }
+            Some(sample) => {
+                let entry = sample.entry();
+                self.owed = Some(sample);
+                Ok(Step::Sampled(entry))
+            }
+        }
+    }
+}

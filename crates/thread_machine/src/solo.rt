@@ -1,0 +1,62 @@
+// One thread of a plan from its start to its end, with nobody who counts its samples.
+
+ghost use Rattle.std.specs.Prelude.{◌≡◌, ◌<◌, ℕ, All, length, IfOk, false, None};
+ghost use Rattle.element_tree.specs.Tree.{threads_of, labels_of};
+ghost use Rattle.jm_base.specs.Outside.{Account};
+ghost use Rattle.thread_machine.specs.Bare.{IsLabelled};
+ghost use Rattle.thread_machine.specs.Standing.{Stands};
+ghost use Rattle.thread_machine.specs.Follows.{HasRun};
+
+use crate::step::Step;
+use crate::trace::TraceItem;
+use crate::worker::Worker;
+use element_tree::Plan;
+use jm_base::{End, M, Outside};
+use std::alloc::Global;
+
+/// The whole trace of a thread, and how the thread ended.
+#[derive(Drop)]
+pub struct Solo {
+    pub trace: Vec<TraceItem>,
+    pub end: End,
+}
+
+/// Runs a thread of the plan over an outside that has told nothing, from its start to its end. Every sample is counted in interval 0.
+/// `budget` is how many samplers it may run at most.
+pub fn run_alone<O: Outside>(
+    alloc: Global,
+    plan: &Plan,
+    thread: u16,
+    budget: u32,
+    outside: &mut O,
+) -> M<Solo>
+    requires { thread < threads_of plan.now }
+    ensures has_run { IfOk result (λ solo. HasRun (O.account outside.old) (O.account outside.new)
+        plan.now thread budget solo.trace.items solo.end) }
+    ensures labels { IfOk result (λ solo. All (IsLabelled (length (labels_of plan.now.elements))) solo.trace.items) }
+{
+    let mut worker = Worker::new(alloc, plan, thread, budget)?;
+    let end = run_to_end(&mut worker, outside);
+    Ok(Solo {
+        trace: worker.into_trace(),
+        end,
+    })
+}
+
+// Steps until the thread has ended.
+fn run_to_end<O: Outside>(worker: &mut Worker<'_>, outside: &mut O) -> End
+    requires owed { worker.old.owed ≡ None }
+    requires going { worker.old.ended ≡ false }
+    ensures has_run { (start : Account) (budget : ℕ) → Stands start (O.account outside.old) budget worker.old
+        → HasRun start (O.account outside.new) worker.old.plan worker.old.thread budget worker.new.trace result }
+    ensures plan { worker.new.plan ≡ worker.old.plan }
+{
+    'steps: loop {
+        match worker.step(outside) {
+            Step::Ended(end) => return end,
+            Step::Sampled(_) => worker.noted(0),
+            Step::Null => {}
+            Step::Enter(_) | Step::Leave(_) => unreachable!(),
+        }
+    }
+}

@@ -1,0 +1,82 @@
+// The trace of a thread, with room for what must still be said.
+
+ghost use Rattle.std.specs.Prelude.{◌≡◌, ◌∷◌, [], ◌++◌, ◌+◌, ◌-◌, ◌<◌, ◌≤◌, OnOk, OnErr, IfOk, List};
+
+use jm_base::{End, M, Sample};
+use std::alloc::Global;
+use std::marker::Model;
+
+/// One item of a thread's trace.
+#[derive(Drop)]
+pub enum TraceItem {
+    /// A pause of so many milliseconds.
+    Paused(u32),
+    /// A sample, and the interval in which it was counted.
+    Sampled { sample: Sample, interval: u64 },
+    /// The sampler of this number gave no sample.
+    Null { sampler: u16 },
+    /// The section of this lock was entered, as the one of this place.
+    Entered { lock: u16, place: u64 },
+    /// The section of this lock was left.
+    Left { lock: u16 },
+    /// The thread ended so. It is the last item.
+    Ended(End),
+}
+
+/// Items in order, and room for more.
+#[derive(Drop)]
+pub struct Trace {
+    items: Vec<TraceItem>,
+}
+
+impl Model for Trace {
+    ghost use Rattle.std.specs.Prelude.{ℕ, ◌-◌, vec_len, vec_capacity};
+    ghost use Rattle.thread_machine.specs.Recorded.{Recorded};
+
+    ghost Value = { Recorded };
+
+    ghost view = { λ t. record { items = t.items.items; room = vec_capacity t.items - vec_len t.items } };
+}
+
+impl Trace {
+    pub fn new(alloc: Global) -> M<Trace>
+        ensures { IfOk result (λ t. (t.items ≡ []) × (1 ≤ t.room)) }
+    {
+        let mut items = Vec::new(alloc);
+        items.reserve(1)?;
+        Ok(Trace { items })
+    }
+
+    /// Takes room for two items, so that a last one can be put behind the next.
+    pub fn make_room(&mut self) -> M<()>
+        ensures ok { OnOk result (2 ≤ self.new.room) }
+        ensures kept { self.old.room ≤ self.new.room }
+        ensures same { self.new.items ≡ self.old.items }
+    {
+        self.items.reserve(2)?;
+        Ok(())
+    }
+
+    pub fn put(&mut self, item: TraceItem)
+        requires { 0 < self.old.room }
+        ensures items { self.new.items ≡ self.old.items ++ item ∷ [] }
+        ensures room { self.old.room ≤ self.new.room + 1 }
+    {
+        let pushed = self.items.push(item);
+        if pushed.is_err() {
+            unreachable!();
+        }
+    }
+
+    pub fn items(&self) -> &[TraceItem]
+        ensures { result.now ≡ self.now.items }
+    {
+        &self.items
+    }
+
+    pub fn into_vec(self) -> Vec<TraceItem>
+        ensures { result.items ≡ self.items }
+    {
+        self.items
+    }
+}

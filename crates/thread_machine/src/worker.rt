@@ -1,0 +1,107 @@
+// One thread of a plan, a step at a time.
+
+ghost use Rattle.std.specs.Prelude.{◌≡◌, ◌<◌, ◌++◌, ◌∷◌, [], length, false, None, All, IsSome, IfOk, IfSome};
+ghost use Rattle.element_tree.specs.Tree.{threads_of, labels_of};
+ghost use Rattle.thread_machine.specs.Bare.{IsLabelled};
+ghost use Rattle.thread_machine.specs.Standing.{IsAtStart};
+ghost use Rattle.thread_machine.specs.Stepped.{Steps};
+ghost use Rattle.thread_machine.specs.Ran.{is_end};
+
+use crate::runner::Runner;
+use crate::step::Step;
+use crate::trace::TraceItem;
+use element_tree::Plan;
+use jm_base::{End, M, Outside};
+use std::alloc::Global;
+use std::marker::Model;
+
+/// One thread of a plan: its open controllers, its sample budget and its trace.
+/// It is used with one outside, from the first step to the last.
+#[derive(Drop)]
+pub struct Worker<'p> {
+    runner: Runner<'p>,
+    ended: bool,
+}
+
+impl<'p> Model for Worker<'p> {
+    ghost use Rattle.thread_machine.specs.Standing.{Standing};
+    ghost use Rattle.thread_machine.specs.Inside.{standing_of, IsSound};
+
+    ghost Value = { Standing };
+
+    ghost view = { λ w. standing_of w.runner w.ended };
+
+    ghost invariant = { λ w. IsSound w.runner w.ended };
+}
+
+impl<'p> Worker<'p> {
+    /// A thread before its first step, by its number from 0 over all groups.
+    /// `budget` is how many samplers it may run at most.
+    pub fn new(alloc: Global, plan: &'p Plan, number: u16, budget: u32) -> M<Worker<'p>>
+        requires { number < threads_of plan.now }
+        ensures { IfOk result (IsAtStart plan.now number budget) }
+    {
+        Ok(Worker {
+            runner: Runner::new(alloc, plan, number, budget)?,
+            ended: false,
+        })
+    }
+
+    /// Goes on to the next sampler and runs it, or to the thread's end.
+    /// Where memory is wanting the thread ends with `End::NoMemory`.
+    pub fn step<O: Outside>(&mut self, outside: &mut O) -> Step
+        requires owed { self.old.owed ≡ None }
+        requires going { self.old.ended ≡ false }
+        ensures { Steps (O.account outside.old) (O.account outside.new) self.old self.new result }
+    {
+        match self.runner.try_step(outside) {
+            Ok(step) => {
+                self.ended = is_end(&step);
+                step
+            }
+            Err(_) => {
+                self.runner.trace.put(TraceItem::Ended(End::NoMemory));
+                self.ended = true;
+                Step::Ended(End::NoMemory)
+            }
+        }
+    }
+
+    /// Says in which interval the sample of the last step was counted. Its item is appended to the trace.
+    pub fn noted(&mut self, interval: u64)
+        requires { IsSome self.old.owed }
+        ensures { IfSome self.old.owed (λ s. self.new
+            ≡ record self.old { owed = None; trace = self.old.trace ++ TraceItem.Sampled s interval ∷ [] }) }
+    {
+        if let Some(sample) = self.runner.owed.take() {
+            self.runner
+                .trace
+                .put(TraceItem::Sampled { sample, interval });
+        }
+    }
+
+    /// The trace so far.
+    pub fn trace(&self) -> &[TraceItem]
+        ensures items { result.now ≡ self.now.trace }
+        ensures labels { All (IsLabelled (length (labels_of self.now.plan.elements))) result.now }
+    {
+        self.runner.trace.items()
+    }
+
+    /// The trace itself.
+    pub fn into_trace(self) -> Vec<TraceItem>
+        ensures items { result.items ≡ self.entry.trace }
+        ensures labels { All (IsLabelled (length (labels_of self.entry.plan.elements))) result.items }
+    {
+        self.runner.trace.into_vec()
+    }
+}
+
+fn is_end(step: &Step) -> bool
+    ensures { result ≡ is_end step.now }
+{
+    match step {
+        Step::Ended(_) => true,
+        Step::Sampled(_) | Step::Null | Step::Enter(_) | Step::Leave(_) => false,
+    }
+}
