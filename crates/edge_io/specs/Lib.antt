@@ -1,0 +1,4 @@
+pub mod Edges
+pub mod Memory
+pub mod Adapter
+pub mod Reading
