@@ -1,0 +1,31 @@
+// Rows of comma-separated fields.
+
+ghost use Rattle.std.specs.Prelude.{◌≡◌, ◌++◌, map, OnOk, OnErr, IfOk};
+ghost use Rattle.output_lines.specs.Lines.{csv_line};
+
+use csv::WriterBuilder;
+use jm_base::{M, NoMemory};
+use std::alloc::Global;
+
+fn row_bytes(alloc: Global, fields: &[&[u8]]) -> M<Vec<u8>>
+    ensures { IfOk result (λ v. v.items ≡ csv_line (map (λ f. f.now) fields.now)) }
+{
+    let mut writer = WriterBuilder::new().from_writer(Vec::new(alloc));
+    if writer.write_fields(fields).is_err() {
+        return Err(NoMemory);
+    }
+    match writer.into_inner() {
+        Ok(text) => Ok(text),
+        Err(_) => Err(NoMemory),
+    }
+}
+
+/// Appends one row. Where memory is wanting nothing is appended.
+pub fn push_row(alloc: Global, out: &mut Vec<u8>, fields: &[&[u8]]) -> M<()>
+    ensures ok { OnOk result (out.new.items ≡ out.old.items ++ csv_line (map (λ f. f.now) fields.now)) }
+    ensures err { OnErr result (out.new.items ≡ out.old.items) }
+{
+    let text = row_bytes(alloc, fields)?;
+    out.extend_from_slice(&text)?;
+    Ok(())
+}
