@@ -1,8 +1,11 @@
 //! The typed plan: its elements by number, in tree order.
 #![tactic(auto)]
 
+pub mod error;
+pub mod form;
 pub mod kinds;
 pub mod plan;
 
+pub use error::FirstError;
 pub use kinds::{Element, Kind, Loops};
 pub use plan::Plan;
