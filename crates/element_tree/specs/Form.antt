@@ -90,12 +90,14 @@ replies_of (item d ds) = do
   replies ← replies_of ds
   Some (reply ∷ replies)
 
+-- from 1 to 4,096 replies
+abbrev pub counted : Option (List ScriptReply) → Option (List ScriptReply)
+counted None = None
+counted (Some replies) = if nat_le 1 (length replies) && nat_le (length replies) 4096 then Some replies else None
+
 -- a list of 1 to 4,096 replies
 abbrev pub replies_in : Data → Option (List ScriptReply)
-replies_in d = do
-  ds ← as_array d
-  replies ← replies_of ds
-  if nat_le 1 (length replies) && nat_le (length replies) 4096 then Some replies else None
+replies_in d = counted (as_array d >>= replies_of)
 
 -- ---- the types
 
@@ -124,10 +126,15 @@ loop_kind ms = do
   loops ← required (codes "loops") loops_in props
   Some (Loop loops)
 
+abbrev pub script_replies : Members → Option Data
+script_replies ms = do
+  props ← props_of (codes "replies" ∷ []) ms
+  get_member (codes "replies") props
+
 abbrev pub script_kind : Members → Option Kind
 script_kind ms = do
-  props ← props_of (codes "replies" ∷ []) ms
-  replies ← required (codes "replies") replies_in props
+  given ← script_replies ms
+  replies ← replies_in given
   Some (Script replies)
 
 -- the kind of an element of this type at this place: a test plan at the top, a thread group right below it, and the others below the group

@@ -1,6 +1,6 @@
 -- What the bytes of a plan are read as, in the first form of a plan.
-use Rattle.std.specs.Prelude.{◌≡◌, ℕ, zero, suc, ◌+◌, ◌==◌, Bool, List, [], ◌∷◌, ◌++◌, length, Option, Some, None, Result, Ok, Err, if◌then◌else◌, nat_lt, nat_le}
-use Rattle.std.specs.Str.Lossy.{utf8_valid_len}
+use Rattle.std.specs.Prelude.{◌≡◌, ℕ, zero, suc, ◌+◌, List, [], ◌∷◌, ◌++◌, length, Option, Some, None, Result, Ok, Err, if◌then◌else◌, nat_lt, nat_le}
+use Rattle.std.specs.Str.{is_utf8}
 use Rattle.serde_json.specs.Data.{Data, Items, no_items, item}
 use Rattle.serde_json.specs.Read.{read}
 use Rattle.element_tree.specs.declared.error.FirstError.{FirstError}
@@ -55,10 +55,6 @@ reading_of_plan (Some plan) = the_plan plan
 abbrev pub reading_of_json : Option Data → Reading
 reading_of_json None = outside_json
 reading_of_json (Some d) = reading_of_plan (plan_of d)
-
--- UTF-8 as a whole
-abbrev pub is_utf8 : List ℕ → Bool
-is_utf8 bytes = utf8_valid_len bytes == length bytes
 
 -- the plan of these bytes, or why they are none
 unfoldable pub reading_of : List ℕ → Reading

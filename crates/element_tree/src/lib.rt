@@ -5,6 +5,8 @@ pub mod error;
 pub mod form;
 pub mod kinds;
 pub mod plan;
+mod replies;
+mod values;
 
 pub use error::FirstError;
 pub use kinds::{Element, Kind, Loops};
