@@ -3,6 +3,8 @@ use Rattle.std.proofs.Common.{◌≡◌, ℕ, suc, ◌+◌, ◌<◌, ◌≤◌, 
 use Rattle.serde_json.specs.Data.{Data, Items, item}
 use Rattle.serde_json.specs.View.{view, items_view}
 use Rattle.serde_json.specs.declared.value.Value.{Value}
+use Rattle.serde_json.specs.Events.{items_len}
+use Rattle.serde_json.proofs.Views.{items_len-items_view}
 use Rattle.jm_base.specs.declared.types.ScriptReply.{ScriptReply}
 use Rattle.element_tree.specs.Form.{◌>>=◌, reply_of, replies_of, counted}
 
@@ -58,3 +60,6 @@ replies_fit vs low high = all_fit (length vs) _ (length_read vs) (both_true 4096
 
 pub replies_none : (vs : List Value) → (nat_le 1 (length vs) && nat_le (length vs) 4096) ≡ false → counted (replies_of (items_view vs)) ≡ None
 replies_none vs h = none_fits (length vs) _ (length_read vs) h
+
+pub items_len_seen : (vs : List Value) → items_len (items_view vs) ≡ length vs
+items_len_seen vs = items_len-items_view vs

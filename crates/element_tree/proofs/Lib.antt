@@ -1,1 +1,3 @@
 pub mod ItemLaws
+pub mod LabelLaws
+pub mod WalkLaws

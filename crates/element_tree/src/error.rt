@@ -1,5 +1,6 @@
 // Why bytes are no plan.
 
+use jm_base::NoMemory;
 use std::alloc::{AllocError, AllocFailed};
 use std::error::Error;
 use std::fmt;
@@ -15,6 +16,17 @@ pub enum FirstError {
     NotBuilt,
     /// Memory was wanting.
     NoMemory,
+}
+
+impl From<NoMemory> for FirstError {
+    ghost use Rattle.std.specs.Prelude.{◌≡◌};
+    ghost use Rattle.element_tree.specs.declared.error.FirstError.TheVariants as errors;
+
+    ghost from_gives = { λ _ e. e ≡ errors.NoMemory };
+
+    fn from(_: NoMemory) -> FirstError {
+        FirstError::NoMemory
+    }
 }
 
 impl From<AllocError> for FirstError {

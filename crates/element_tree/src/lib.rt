@@ -1,10 +1,13 @@
 //! The typed plan: its elements by number, in tree order.
 #![tactic(auto)]
 
+pub mod build;
 pub mod error;
 pub mod form;
 pub mod kinds;
 pub mod plan;
+
+mod labels;
 mod replies;
 mod values;
 
