@@ -3,6 +3,8 @@ use Rattle.std.specs.Prelude.{◌≡◌, ℕ, zero, suc, List, [], ◌∷◌, �
 use Rattle.element_tree.specs.declared.error.FirstError.{FirstError}
 use Rattle.element_tree.specs.declared.error.FirstError.TheVariants.{NotUtf8, NotJson, NotBuilt, NoMemory}
 use Rattle.element_tree.specs.declared.kinds.Element.{Element}
+use Rattle.serde_json.specs.Data.{Data}
+use Rattle.element_tree.specs.Reading.{Reading, the_plan, outside_utf8, outside_json, outside_form}
 use Rattle.element_tree.specs.Tree.{Tree}
 
 -- a JSON value is refused where it reads as nothing, unless memory was wanting
@@ -22,6 +24,22 @@ abbrev pub Gives : Option Tree → Result Tree FirstError → Type 0
 Gives reading (Ok plan) = reading ≡ Some plan
 Gives reading (Err e) = Refuses e reading
 
+-- a text is no JSON, unless memory was wanting
+abbrev pub IsUnread : Option Data → FirstError → Type 0
+IsUnread value NotUtf8 = ⊥
+IsUnread value NotJson = value ≡ None
+IsUnread value NotBuilt = ⊥
+IsUnread value NoMemory = Unit {0}
+
+-- a call answers what bytes are read as, unless memory was wanting
+abbrev pub Answers : Reading → Result Tree FirstError → Type 0
+Answers reading (Ok plan) = reading ≡ the_plan plan
+Answers reading (Err NotUtf8) = reading ≡ outside_utf8
+Answers reading (Err NotJson) = reading ≡ outside_json
+Answers reading (Err NotBuilt) = reading ≡ outside_form
+Answers reading (Err NoMemory) = Unit {0}
+
+-- the list with these children in the element of that number
 abbrev pub with_children : List Element → ℕ → List ℕ → List Element
 with_children [] n cs = []
 with_children (e ∷ es) zero cs = record e { children = cs } ∷ es

@@ -11,6 +11,7 @@ mod labels;
 mod replies;
 mod values;
 
+pub use build::build_first;
 pub use error::FirstError;
 pub use kinds::{Element, Kind, Loops};
 pub use plan::Plan;

@@ -2,7 +2,7 @@
 
 ghost use Rattle.std.specs.Prelude.{◌≡◌, ◌<◌, length, slice_get, IfOk, IfSome, OnSome, IsSome, ◌↔◌};
 ghost use Rattle.std.specs.Option.{option_copied};
-ghost use Rattle.element_tree.specs.Tree.{Tree, IsPlan, IsGroup, threads_of, group_of, thread_name_of, labels_of, label_of};
+ghost use Rattle.element_tree.specs.Tree.{Tree, IsPlan, IsGroup, threads_of, group_of, thread_name_of, labels_of, label_of, IsWellKept};
 
 use crate::kinds::Element;
 use jm_base::{Items, M, Text};
@@ -29,6 +29,19 @@ impl Model for Plan {
 }
 
 impl Plan {
+    /// The plan of these elements, with its labels and the number of each element's label.
+    pub(crate) fn of(elements: Vec<Element>, labels: Items<Text>, label_numbers: Items<u16>) -> Plan
+        requires { IsWellKept (record { version = 1; elements = elements.items }) labels label_numbers }
+        ensures { result ≡ record { version = 1; elements = elements.items } }
+    {
+        Plan {
+            version: 1,
+            elements,
+            labels,
+            label_numbers,
+        }
+    }
+
     /// The element of this number.
     pub fn element(&self, number: u16) -> Option<&Element>
         ensures { option_copied result ≡ slice_get self.now.elements number }
