@@ -1,7 +1,8 @@
 -- A plan that was read has a group, and nests as deep as its reading went.
-use Rattle.std.proofs.Common.{◌≡◌, ℕ, zero, suc, ◌+◌, ◌≤◌, Bool, true, false, List, [], ◌∷◌, ◌++◌, length, Option, Some, None, cond, nat_lt, nat_le, codes, map, refl, sym, ap, ◌∙◌, subst, append_assoc, arith, length-append}
+use Rattle.std.proofs.Common.{◌≡◌, ℕ, zero, suc, ◌+◌, ◌≤◌, Bool, true, false, List, [], ◌∷◌, ◌++◌, length, Option, Some, None, cond, nat_lt, nat_le, ◌<◌, ◌==◌, bytes_eq, is_none, codes, map, refl, sym, ap, ◌∙◌, subst, append_assoc, arith, length-append}
 use Rattle.std.specs.List.{AllByRecursion, slice_get}
 use Rattle.serde_json.specs.Data.{Data, Items, no_items, item, Members}
+use Rattle.serde_json.specs.Events.{items_len}
 use Rattle.serde_json.specs.Find.{as_str, as_array, get_member}
 use Rattle.element_tree.specs.declared.form.Place.{Place}
 use Rattle.element_tree.specs.declared.form.Place.TheVariants.{Top, BelowRoot, BelowGroup}
@@ -12,6 +13,9 @@ use Rattle.element_tree.specs.declared.kinds.Loops.{Loops}
 use Rattle.element_tree.specs.declared.kinds.Loops.TheVariants.{Times}
 use Rattle.element_tree.specs.Form.{◌>>=◌, object_of, element_keys, required, at_key, text_within, loops_in, kind_of, root_kind, group_kind, props_of, may_have, Node, node_of, place_below}
 use Rattle.element_tree.specs.Reading.{Below, below, elements_of, plan_of}
+use Rattle.element_tree.specs.declared.error.FirstError.{FirstError}
+use Rattle.element_tree.specs.declared.error.FirstError.TheVariants as errors
+use Rattle.element_tree.specs.Steps.{Refuses}
 use Rattle.element_tree.specs.Tree.{Tree, Nests, IsGroup, IsPlan, IsWellKept, labels_of, label_of}
 use Rattle.element_tree.proofs.WalkLaws.{bind_some, cond_some}
 
@@ -22,7 +26,7 @@ cond_of false o y h = cc
 some_is : {A : Type 0} (x y : A) → Some x ≡ Some y → x ≡ y
 some_is x y h = cc
 
-node : Node → ℕ → List ℕ → Element
+abbrev node : Node → ℕ → List ℕ → Element
 node n parent numbers = record { name = n.name; kind = n.kind; parent = parent; children = numbers }
 
 -- ---- one element
@@ -72,4 +76,119 @@ nests zero place parent n d xs front after h len = cc
 nests (suc depth) place parent n d xs front after h len =
     let r = is_read depth place parent n d xs h in
     let first = node r.own parent r.under.numbers in
-    ?
+    let longer : length (front ++ first ∷ []) ≡ n + 1 = length-append front (first ∷ []) ∙ ap (λ (m : ℕ). m + 1) len in
+    let ih = nests_below depth (elements_of depth (place_below place) n) (λ m e ys f a k l. nests depth (place_below place) n m e ys f a k l) r.own.children (n + 1) r.under (front ++ first ∷ []) after r.rest longer in
+    let there : AllByRecursion (Nests depth (front ++ first ∷ (r.under.elements ++ after))) r.under.numbers = rw (append_assoc front (first ∷ []) (r.under.elements ++ after)) at ih in
+    rw (← r.all) (first, get_middle front (r.under.elements ++ after) first n len, there)
+
+-- ---- the root and the group
+
+record Parts (place : Place) (n : Node) : Type 0 where
+  members : Members
+  type_ : List ℕ
+  kind : kind_of place type_ members ≡ Some n.kind
+  fits : may_have n.kind n.children ≡ true
+
+parts : (place : Place) (d : Data) (n : Node) → node_of place d ≡ Some n → Parts place n
+unfolding node_of
+parts place d n h =
+    let found = bind_some (object_of element_keys d) _ n h in
+    let text = bind_some (required (codes "type") as_str found.0) _ n found.2 in
+    let name = bind_some (at_key (codes "name") (text_within 256) text.0 found.0) _ n text.2 in
+    let children = bind_some (at_key (codes "children") as_array no_items found.0) _ n name.2 in
+    let own = bind_some (kind_of place text.0 found.0) _ n children.2 in
+    let last = cond_some (may_have own.0 children.0) _ n own.2 in
+    record {
+      members = found.0;
+      type_ = text.0;
+      kind = own.1 ∙ ap (λ (m : Node). Some m.kind) last.1;
+      fits = ap (λ (m : Node). may_have m.kind m.children) (sym last.1) ∙ last.0;
+    }
+
+top_kind : (text : List ℕ) (ms : Members) (k : Kind) → kind_of Top text ms ≡ Some k → k ≡ TestPlan
+top_kind text ms k h =
+    let a = cond_of (bytes_eq text (codes "TestPlan")) (root_kind ms) k h in
+    let b = cond_some (is_none (get_member (codes "props") ms)) TestPlan k a.1 in
+    sym b.1
+
+group_loops : (text : List ℕ) (ms : Members) (k : Kind) → kind_of BelowRoot text ms ≡ Some k → (l : Loops) × (k ≡ ThreadGroup l)
+group_loops text ms k h =
+    let a = cond_of (bytes_eq text (codes "ThreadGroup")) (group_kind ms) k h in
+    let props = bind_some (props_of (codes "loops" ∷ []) ms) _ k a.1 in
+    let loops = bind_some (at_key (codes "loops") loops_in (Times 1) props.0) _ k props.2 in
+    (loops.0, sym (some_is _ k loops.2))
+
+first_child : (ds : Items) → (items_len ds == 1) ≡ true → (d : Data) × (rest : Items) × (ds ≡ item d rest)
+first_child no_items h = cc
+first_child (item d ds) h = (d, ds, refl)
+
+-- the group below a root, whose children nest at most this deep
+pub record Group (depth : ℕ) (es : List Element) : Type 0 where
+  pub element : Element
+  pub loops : Loops
+  pub there : slice_get es 1 ≡ Some element
+  pub kind : element.kind ≡ ThreadGroup loops
+  pub nests : AllByRecursion (Nests depth es) element.children
+
+pub has_group : (depth : ℕ) (d : Data) (es : List Element) → elements_of (suc (suc depth)) Top 0 0 d ≡ Some es → Group depth es
+has_group depth d es h =
+    let top = is_read (suc depth) Top 0 0 d es h in
+    let p = parts Top d top.own top.here in
+    let only = ap (λ (k : Kind). may_have k top.own.children) (sym (top_kind p.type_ p.members top.own.kind p.kind)) ∙ p.fits in
+    let child = first_child top.own.children only in
+    let opened : below (elements_of (suc depth) BelowRoot 0) 1 (item child.0 child.1) ≡ Some top.under = ap (below (elements_of (suc depth) BelowRoot 0) 1) (sym child.2) ∙ top.rest in
+    let first = bind_some (elements_of (suc depth) BelowRoot 0 1 child.0) _ top.under opened in
+    let rest = bind_some (below (elements_of (suc depth) BelowRoot 0) (1 + length first.0) child.1) _ top.under first.2 in
+    let group = is_read depth BelowRoot 0 1 child.0 first.0 first.1 in
+    let gp = parts BelowRoot child.0 group.own group.here in
+    let kind = group_loops gp.type_ gp.members group.own.kind gp.kind in
+    let e0 = node top.own 0 top.under.numbers in
+    let e1 = node group.own 0 group.under.numbers in
+    let inner = nests_below depth (elements_of depth BelowGroup 1) (λ m e ys f a k l. nests depth BelowGroup 1 m e ys f a k l) group.own.children 2 group.under (e0 ∷ e1 ∷ []) rest.0.elements group.rest refl in
+    let list : e0 ∷ e1 ∷ (group.under.elements ++ rest.0.elements) ≡ es =
+    ap (λ (ys : List Element). e0 ∷ (ys ++ rest.0.elements)) group.all ∙ ap (λ (b : Below). e0 ∷ b.elements) (some_is _ top.under rest.2) ∙ top.all in
+    let P : List Element → Type 0 = λ xs. Group depth xs in
+    subst P list (record { element = e1; loops = kind.0; there = refl; kind = kind.1; nests = inner })
+
+-- ---- the plan
+
+pub read_all : (depth : ℕ) (d : Data) (old new xs : List Element) → old ≡ [] → new ≡ old ++ xs → elements_of depth Top 0 (length old) d ≡ Some xs → elements_of depth Top 0 0 d ≡ Some new
+read_all depth d old new xs none is h = rw (is, none) (rw none at h)
+
+pub read_none : (depth : ℕ) (d : Data) (old : List Element) → old ≡ [] → elements_of depth Top 0 (length old) d ≡ None → elements_of depth Top 0 0 d ≡ None
+read_none depth d old none h = rw none at h
+
+pub plan_refused : (d : Data) → elements_of 32 Top 0 0 d ≡ None → plan_of d ≡ None
+unfolding plan_of
+plan_refused d h = rw h refl
+
+pub refused : (e : FirstError) (d : Data) (old : List Element) → old ≡ [] → Refuses e (elements_of 32 Top 0 (length old) d) → Refuses e (plan_of d)
+refused errors.NotUtf8 d old none h = h
+refused errors.NotJson d old none h = h
+refused errors.NotBuilt d old none h = plan_refused d (read_none 32 d old none h)
+refused errors.NoMemory d old none h = tt
+
+few : (n : ℕ) → n ≤ 256 → nat_le n 256 ≡ true
+few n h = grind arith
+
+many : (n : ℕ) → 256 < n → nat_le n 256 ≡ false
+many n h = grind arith
+
+pub plan_labels : (d : Data) (es : List Element) → elements_of 32 Top 0 0 d ≡ Some es → 256 < length (labels_of es) → plan_of d ≡ None
+unfolding plan_of
+plan_labels d es h over = rw (h, many _ over) refl
+
+pub plan_is : (d : Data) (es : List Element) → elements_of 32 Top 0 0 d ≡ Some es → length (labels_of es) ≤ 256 → plan_of d ≡ Some (record { version = 1; elements = es })
+unfolding plan_of
+plan_is d es h under = rw (h, few _ under) refl
+
+pub group_is : (es : List Element) → Group 30 es → IsGroup es 1
+group_is es g = record { element = g.element; loops = g.loops; there = g.there; kind = g.kind; nests = g.nests }
+
+pub well_kept : (d : Data) (es : List Element) (labels : List (List ℕ)) (numbers : List ℕ) → elements_of 32 Top 0 0 d ≡ Some es → length es ≤ 4096 → labels ≡ labels_of es → length labels ≤ 256
+    → numbers ≡ map (λ e. label_of es e.name) es → IsWellKept (record { version = 1; elements = es }) labels numbers
+well_kept d es labels numbers h count are under kept = record {
+  plan_ = record { count = count; labels = rw are at under; group = group_is es (has_group 30 d es h) };
+  labels_ = are;
+  numbers_ = kept;
+}
