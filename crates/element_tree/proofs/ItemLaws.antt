@@ -1,5 +1,6 @@
 -- The items of a JSON list, one after another.
-use Rattle.std.proofs.Common.{◌≡◌, ℕ, suc, ◌+◌, ◌<◌, ◌≤◌, Bool, true, false, ◌&&◌, List, [], ◌∷◌, ◌++◌, length, get_or, drop, Option, Some, None, nat_le, cond, refl, sym, ap, ◌∙◌, append_assoc, add-one, drop-cons, arith}
+use Rattle.std.proofs.Common.{◌≡◌, ℕ, suc, ◌+◌, ◌<◌, ◌≤◌, Bool, true, false, ◌&&◌, List, [], ◌∷◌, ◌++◌, length, get_or, drop, map, Bor, bytes_eq, ◌||◌, Option, Some, None, nat_le, cond, refl, sym, ap, ◌∙◌, append_assoc, add-one, drop-cons, arith}
+use Rattle.std.specs.List.{list_any}
 use Rattle.serde_json.specs.Data.{Data, Items, item}
 use Rattle.serde_json.specs.View.{view, items_view}
 use Rattle.serde_json.specs.declared.value.Value.{Value}
@@ -63,3 +64,7 @@ replies_none vs h = none_fits (length vs) _ (length_read vs) h
 
 pub items_len_seen : (vs : List Value) → items_len (items_view vs) ≡ length vs
 items_len_seen vs = items_len-items_view vs
+
+pub keys_seen : (key : List ℕ) (ks : List (Bor (List ℕ))) → list_any (bytes_eq key) (map (λ k. k.now) ks) ≡ list_any (λ k. bytes_eq key k.now) ks
+keys_seen key [] = refl
+keys_seen key (k ∷ ks) = ap (λ b. bytes_eq key k.now || b) (keys_seen key ks)

@@ -9,9 +9,9 @@ use Rattle.serde_json.specs.declared.value.Value.{Value}
 use Rattle.element_tree.specs.declared.form.Place.{Place}
 use Rattle.element_tree.specs.declared.kinds.Element.{Element}
 use Rattle.element_tree.specs.declared.kinds.Kind.{Kind}
-use Rattle.element_tree.specs.Form.{◌>>=◌, object_of, element_keys, has_only, required, at_key, text_within, kind_of, may_have, Node, node_of, place_below, children_in, own_element}
+use Rattle.element_tree.specs.Form.{◌>>=◌, object_of, element_keys, has_only, required, at_key, text_within, kind_of, may_have, Node, node_of, place_below}
 use Rattle.element_tree.specs.Reading.{Below, below, elements_of}
-use Rattle.element_tree.specs.Steps.{with_children}
+use Rattle.element_tree.specs.Steps.{children_in, own_element, with_children}
 use Rattle.element_tree.proofs.ItemLaws.{items_step}
 
 -- ---- the parts of a reading that gave something

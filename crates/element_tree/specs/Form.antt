@@ -1,14 +1,13 @@
 -- What a JSON value says of one element, in the first form of a plan: its type, name, properties and children.
-use Rattle.std.specs.Prelude.{ℕ, zero, suc, ℤ, pos, negsuc, Bool, true, false, ◌&&◌, ◌==◌, List, [], ◌∷◌, length, Option, Some, None, if◌then◌else◌, nat_le, is_none, unwrap_or, option_map, option_and_then, codes, bytes_eq}
+use Rattle.std.specs.Prelude.{ℕ, zero, suc, ℤ, pos, negsuc, Bool, true, false, ◌&&◌, ◌==◌, List, [], ◌∷◌, length, Option, Some, None, if◌then◌else◌, nat_le, is_none, codes, bytes_eq}
 use Rattle.std.specs.List.{list_any}
 use Rattle.std.specs.Option.{option_map_or}
 use Rattle.jm_base.specs.declared.types.ScriptReply.{ScriptReply}
 use Rattle.serde_json.specs.Data.{Data, Items, no_items, item, Members, no_members, member}
 use Rattle.serde_json.specs.Events.{items_len}
-use Rattle.serde_json.specs.Find.{get, get_member, as_str, as_array, as_object, as_number, as_u64, as_i64}
+use Rattle.serde_json.specs.Find.{get_member, as_str, as_array, as_object, as_number, as_u64, as_i64}
 use Rattle.element_tree.specs.declared.form.Place.{Place}
 use Rattle.element_tree.specs.declared.form.Place.TheVariants.{Top, BelowRoot, BelowGroup}
-use Rattle.element_tree.specs.declared.kinds.Element.{Element}
 use Rattle.element_tree.specs.declared.kinds.Kind.{Kind}
 use Rattle.element_tree.specs.declared.kinds.Kind.TheVariants.{TestPlan, ThreadGroup, Simple, Loop, Script}
 use Rattle.element_tree.specs.declared.kinds.Loops.{Loops}
@@ -182,13 +181,3 @@ node_of place d = do
   children ← at_key (codes "children") as_array no_items ms
   kind ← kind_of place type_ ms
   if may_have kind children then Some (record { name = name; kind = kind; children = children }) else None
-
--- ---- what the code reads one after another
-
--- the children as they are written
-abbrev pub children_in : Data → Items
-children_in d = unwrap_or (option_and_then as_array (get (codes "children") d)) no_items
-
--- the element, but for the numbers of its children
-abbrev pub own_element : ℕ → Option Node → Option Element
-own_element parent node = option_map (λ n. record { name = n.name; kind = n.kind; parent = parent; children = [] }) node

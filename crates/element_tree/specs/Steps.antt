@@ -1,9 +1,11 @@
 -- What the steps of the reading answer.
-use Rattle.std.specs.Prelude.{◌≡◌, ℕ, zero, suc, List, [], ◌∷◌, ◌++◌, Option, Some, None, Result, Ok, Err}
+use Rattle.std.specs.Prelude.{◌≡◌, ℕ, zero, suc, List, [], ◌∷◌, ◌++◌, Option, Some, None, Result, Ok, Err, unwrap_or, option_map, option_and_then, codes}
 use Rattle.element_tree.specs.declared.error.FirstError.{FirstError}
 use Rattle.element_tree.specs.declared.error.FirstError.TheVariants.{NotUtf8, NotJson, NotBuilt, NoMemory}
 use Rattle.element_tree.specs.declared.kinds.Element.{Element}
-use Rattle.serde_json.specs.Data.{Data}
+use Rattle.serde_json.specs.Data.{Data, Items, no_items}
+use Rattle.serde_json.specs.Find.{get, as_array}
+use Rattle.element_tree.specs.Form.{Node}
 use Rattle.element_tree.specs.Reading.{Reading, the_plan, outside_utf8, outside_json, outside_form}
 use Rattle.element_tree.specs.Tree.{Tree}
 
@@ -44,3 +46,11 @@ abbrev pub with_children : List Element → ℕ → List ℕ → List Element
 with_children [] n cs = []
 with_children (e ∷ es) zero cs = record e { children = cs } ∷ es
 with_children (e ∷ es) (suc n) cs = e ∷ with_children es n cs
+
+-- the children as they are written
+abbrev pub children_in : Data → Items
+children_in d = unwrap_or (option_and_then as_array (get (codes "children") d)) no_items
+
+-- the element, but for the numbers of its children
+abbrev pub own_element : ℕ → Option Node → Option Element
+own_element parent node = option_map (λ n. record { name = n.name; kind = n.kind; parent = parent; children = [] }) node

@@ -16,6 +16,7 @@ use serde_json::Value;
 use std::alloc::Global;
 
 const ELEMENT_LIMIT: usize = 4096;
+
 const NESTING_LIMIT: u8 = 32;
 
 fn set_children(elements: &mut Vec<Element>, number: usize, children: Vec<u16>)
@@ -51,7 +52,14 @@ fn add_elements(
     let mut numbers = Vec::new(alloc);
     'below: for child in children_of(value) {
         numbers.push(elements.len() as u16)?;
-        add_elements(alloc, depth - 1, place.below(), number as u16, child, elements)?;
+        add_elements(
+            alloc,
+            depth - 1,
+            place.below(),
+            number as u16,
+            child,
+            elements,
+        )?;
     }
     set_children(elements, number, numbers);
     Ok(())

@@ -4,7 +4,8 @@ ghost use Rattle.std.specs.Prelude.{◌≡◌, IfOk, [], option_map, codes};
 ghost use Rattle.serde_json.specs.View.{view, items_view, members_view};
 ghost use Rattle.serde_json.specs.Data.{no_items};
 ghost use Rattle.serde_json.specs.Find.{as_array, as_str};
-ghost use Rattle.element_tree.specs.Form.{props_of, root_kind, group_kind, simple_kind, loop_kind, script_replies, script_kind, kind_of, place_below, may_have, node_of, at_key, required, children_in, own_element};
+ghost use Rattle.element_tree.specs.Form.{props_of, root_kind, group_kind, simple_kind, loop_kind, script_replies, script_kind, kind_of, place_below, may_have, node_of, at_key, required};
+ghost use Rattle.element_tree.specs.Steps.{children_in, own_element};
 
 use crate::kinds::{Element, Kind, Loops};
 use crate::replies::replies_in;
@@ -98,12 +99,25 @@ fn script_kind(alloc: Global, members: &Map<String, Value>) -> M<Option<Kind>>
 }
 
 // The kind of an element of this type at this place.
-fn kind_of(alloc: Global, place: Place, type_: &str, members: &Map<String, Value>) -> M<Option<Kind>>
+fn kind_of(
+    alloc: Global,
+    place: Place,
+    type_: &str,
+    members: &Map<String, Value>,
+) -> M<Option<Kind>>
     ensures { IfOk result (λ o. o ≡ kind_of place type_.now (members_view members.now.entries)) }
 {
     match place {
-        Place::Top => Ok(if type_ == "TestPlan" { root_kind(members) } else { None }),
-        Place::BelowRoot => Ok(if type_ == "ThreadGroup" { group_kind(members) } else { None }),
+        Place::Top => Ok(if type_ == "TestPlan" {
+            root_kind(members)
+        } else {
+            None
+        }),
+        Place::BelowRoot => Ok(if type_ == "ThreadGroup" {
+            group_kind(members)
+        } else {
+            None
+        }),
         Place::BelowGroup => inner_kind(alloc, type_, members),
     }
 }
@@ -174,7 +188,12 @@ pub(crate) fn children_of(value: &Value) -> &[Value]
 
 #[tactic(auto, unfolding(crate::specs::Form::node_of))]
 /// The element that a value is at this place, but for the numbers of its children.
-pub(crate) fn own_element(alloc: Global, place: Place, parent: u16, value: &Value) -> M<Option<Element>>
+pub(crate) fn own_element(
+    alloc: Global,
+    place: Place,
+    parent: u16,
+    value: &Value,
+) -> M<Option<Element>>
     ensures { IfOk result (λ o. o ≡ own_element parent (node_of place (view value.now))) }
 {
     let Some(members) = object_of(&["type", "name", "props", "children"], value) else {

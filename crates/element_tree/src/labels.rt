@@ -31,7 +31,9 @@ fn sampler_name(element: &Element) -> Option<&Text>
 fn has_text(texts: &[Text], text: &Text) -> bool
     ensures { result ≡ list_any (same_bytes text.now) texts.now }
 {
-    texts.iter().any(|known| same_bytes(text.bytes(), known.bytes()))
+    texts
+        .iter()
+        .any(|known| same_bytes(text.bytes(), known.bytes()))
 }
 
 fn add_text(alloc: Global, texts: &mut Vec<Text>, text: &Text) -> M<()>
@@ -72,7 +74,9 @@ fn place_of(texts: &[Text], text: &Text) -> Option<usize>
     ensures place { result ≡ position (same_bytes text.now) texts.now }
     ensures within { IfSome result (λ i. i < length texts.now) }
 {
-    texts.iter().position(|known| same_bytes(text.bytes(), known.bytes()))
+    texts
+        .iter()
+        .position(|known| same_bytes(text.bytes(), known.bytes()))
 }
 
 fn label_of(labels: &[Text], name: &Text) -> u16

@@ -5,9 +5,8 @@ pub mod build;
 pub mod error;
 pub mod form;
 pub mod kinds;
-pub mod plan;
-
 mod labels;
+pub mod plan;
 mod replies;
 mod values;
 
@@ -15,3 +14,6 @@ pub use build::build_first;
 pub use error::FirstError;
 pub use kinds::{Element, Kind, Loops};
 pub use plan::Plan;
+
+#[cfg(test)]
+mod tests;

@@ -17,15 +17,13 @@ pub(crate) fn member<'a>(members: &'a Map<String, Value>, key: &str) -> Option<&
 }
 
 fn is_among(keys: &[&str], key: &str) -> bool
-    ensures { result ≡ list_any (bytes_eq key.now) (map (λ k. k.now) keys.now) }
+    ensures { result ≡ list_any (λ k. bytes_eq key.now k.now) keys.now }
 {
-    match keys {
-        [] => false,
-        [known, rest @ ..] => key == *known || is_among(rest, key),
-    }
+    keys.iter().any(|known| key == *known)
 }
 
 // Whether each key is one of these.
+#[tactic(auto, using(crate::proofs::ItemLaws::keys_seen))]
 pub(crate) fn has_only(keys: &[&str], members: &Map<String, Value>) -> bool
     ensures { result ≡ has_only (map (λ k. k.now) keys.now) (members_view members.now.entries) }
 {
@@ -54,7 +52,11 @@ pub(crate) fn text_within(limit: usize, value: &Value) -> Option<&str>
     ensures { option_map (λ s. s.now) result ≡ text_within limit (view value.now) }
 {
     let text = value.as_str()?;
-    if text.len() <= limit { Some(text) } else { None }
+    if text.len() <= limit {
+        Some(text)
+    } else {
+        None
+    }
 }
 
 // A whole number from 0 to the limit.
@@ -88,7 +90,12 @@ pub(crate) fn loops_in(value: &Value) -> Option<Loops>
 }
 
 // The text at a key, of at most so many bytes.
-pub(crate) fn text_at<'a>(members: &'a Map<String, Value>, key: &str, limit: usize, default: &'a str) -> Option<&'a str>
+pub(crate) fn text_at<'a>(
+    members: &'a Map<String, Value>,
+    key: &str,
+    limit: usize,
+    default: &'a str,
+) -> Option<&'a str>
     ensures { option_map (λ s. s.now) result ≡ at_key key.now (text_within limit) default.now (members_view members.now.entries) }
 {
     match member(members, key) {
@@ -98,7 +105,12 @@ pub(crate) fn text_at<'a>(members: &'a Map<String, Value>, key: &str, limit: usi
 }
 
 // The whole number at a key, from 0 to the limit.
-pub(crate) fn whole_at(members: &Map<String, Value>, key: &str, limit: u32, default: u32) -> Option<u32>
+pub(crate) fn whole_at(
+    members: &Map<String, Value>,
+    key: &str,
+    limit: u32,
+    default: u32,
+) -> Option<u32>
     requires { default ≤ limit }
     ensures value { result ≡ at_key key.now (whole_within limit) default (members_view members.now.entries) }
     ensures bound { IfSome result (λ n. n ≤ limit) }

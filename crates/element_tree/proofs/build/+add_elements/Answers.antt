@@ -50,10 +50,11 @@ below-preserved t c =
 
 pub returns-clause-adds : goal.returns-clause-adds
 returns-clause-adds t c =
-    let n : c.len-number.result ≡ length c.args.elements.now.items = let k = c.args.elements.now.ok in c.len-number.ensures ∙ k.0 in
-    (record c.below.invariant.own { children = c.below.numbers.items } ∷ c.below.invariant.added,
-    c.set_children.ensures ∙ ap (λ (es : List Element). with_children es c.len-number.result c.below.numbers.items) c.below.invariant.list ∙ with_middle c.args.elements.now.items c.below.invariant.own c.below.invariant.added c.below.numbers.items _ n,
-    walk_end _ _ c.below.invariant.own c.below.numbers.items c.below.invariant.added c.children_of-child-items.result.now c.below.child-index _ (omega arith) c.below.invariant.kept)
+    let n : c.len-number.result ≡ length c.args.elements.now.items = let k = c.args.elements.now.ok in c.len-number.ensures ∙ k.0 in (
+      record c.below.invariant.own { children = c.below.numbers.items } ∷ c.below.invariant.added,
+      c.set_children.ensures ∙ ap (λ (es : List Element). with_children es c.len-number.result c.below.numbers.items) c.below.invariant.list ∙ with_middle c.args.elements.now.items c.below.invariant.own c.below.invariant.added c.below.numbers.items _ n,
+      walk_end _ _ c.below.invariant.own c.below.numbers.items c.below.invariant.added c.children_of-child-items.result.now c.below.child-index _ (omega arith) c.below.invariant.kept,
+    )
 
 pub returns-clause-few : goal.returns-clause-few
 returns-clause-few t c = rw (c.set_children.ensures, len_with c.below.elements.items c.len-number.result c.below.numbers.items) c.below.invariant.few
