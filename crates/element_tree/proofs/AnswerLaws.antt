@@ -1,13 +1,13 @@
 -- From what a call answered to what it says of the bytes.
-use Rattle.std.proofs.Common.{◌≡◌, ℕ, Bool, true, false, List, Option, Some, None, Result, Ok, Err, cond, IsUtf8, true≢false, refl, sym, ap, ◌∙◌}
+use Rattle.std.proofs.Common.{◌≡◌, ℕ, Bool, true, false, List, Option, Some, None, Result, Ok, Err, IsUtf8, refl, sym, ap, ◌∙◌}
 use Rattle.std.specs.Str.{is_utf8}
 use Rattle.std.proofs.lemmas.Str.{IsUtf8-from_is_utf8, is_utf8-from_IsUtf8}
 use Rattle.serde_json.specs.Data.{Data}
 use Rattle.serde_json.specs.Read.{read}
 use Rattle.element_tree.specs.declared.error.FirstError.{FirstError}
 use Rattle.element_tree.specs.declared.error.FirstError.TheVariants as errors
-use Rattle.element_tree.specs.Reading.{Reading, the_plan, outside_utf8, outside_json, outside_form, reading_of_plan, reading_of_json, reading_of, plan_of}
-use Rattle.element_tree.specs.Steps.{Refuses, Gives, Answers, IsUnread}
+use Rattle.element_tree.specs.Reading.{outside_utf8, reading_of_plan, reading_of_json, reading_of, plan_of}
+use Rattle.element_tree.specs.Steps.{Gives, Answers, IsUnread}
 use Rattle.element_tree.specs.Tree.{Tree}
 
 not_true : (b : Bool) → (b ≡ true → ⊥) → b ≡ false

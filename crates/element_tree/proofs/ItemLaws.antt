@@ -1,7 +1,7 @@
 -- The items of a JSON list, one after another.
-use Rattle.std.proofs.Common.{◌≡◌, ℕ, suc, ◌+◌, ◌<◌, ◌≤◌, Bool, true, false, ◌&&◌, List, [], ◌∷◌, ◌++◌, length, get_or, drop, map, Bor, bytes_eq, ◌||◌, Option, Some, None, nat_le, cond, refl, sym, ap, ◌∙◌, append_assoc, add-one, drop-cons, arith}
+use Rattle.std.proofs.Common.{◌≡◌, ℕ, suc, ◌+◌, ◌<◌, ◌≤◌, true, false, ◌&&◌, List, [], ◌∷◌, ◌++◌, length, get_or, drop, map, Bor, bytes_eq, ◌||◌, Option, Some, None, nat_le, refl, sym, ap, ◌∙◌, append_assoc, add-one, drop-cons, arith}
 use Rattle.std.specs.List.{list_any}
-use Rattle.serde_json.specs.Data.{Data, Items, item}
+use Rattle.serde_json.specs.Data.{item}
 use Rattle.serde_json.specs.View.{view, items_view}
 use Rattle.serde_json.specs.declared.value.Value.{Value}
 use Rattle.serde_json.specs.Events.{items_len}

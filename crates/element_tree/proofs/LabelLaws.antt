@@ -3,7 +3,7 @@ use Rattle.std.proofs.Common.{◌≡◌, ℕ, suc, ◌+◌, ◌<◌, ◌≤◌, 
 use Rattle.std.specs.List.{list_any, filter_map}
 use Rattle.jm_base.specs.Outside.{same_bytes}
 use Rattle.element_tree.specs.declared.kinds.Element.{Element}
-use Rattle.element_tree.specs.Tree.{sampler_name, with_text, distinct_after, labels_of}
+use Rattle.element_tree.specs.Tree.{sampler_name, with_text, distinct_after}
 use Rattle.element_tree.specs.Labels.{with_name}
 
 one_name : (seen : List (List ℕ)) (name : Option (List ℕ)) (e : Element) (es : List Element) → sampler_name e ≡ name

@@ -11,12 +11,12 @@ use Rattle.element_tree.specs.declared.kinds.Kind.{Kind}
 use Rattle.element_tree.specs.declared.kinds.Kind.TheVariants.{TestPlan, ThreadGroup}
 use Rattle.element_tree.specs.declared.kinds.Loops.{Loops}
 use Rattle.element_tree.specs.declared.kinds.Loops.TheVariants.{Times}
-use Rattle.element_tree.specs.Form.{◌>>=◌, object_of, element_keys, required, at_key, text_within, loops_in, kind_of, root_kind, group_kind, props_of, may_have, Node, node_of, place_below}
+use Rattle.element_tree.specs.Form.{object_of, element_keys, required, at_key, text_within, loops_in, kind_of, root_kind, group_kind, props_of, may_have, Node, node_of, place_below}
 use Rattle.element_tree.specs.Reading.{Below, below, elements_of, plan_of}
 use Rattle.element_tree.specs.declared.error.FirstError.{FirstError}
 use Rattle.element_tree.specs.declared.error.FirstError.TheVariants as errors
 use Rattle.element_tree.specs.Steps.{Refuses}
-use Rattle.element_tree.specs.Tree.{Tree, Nests, IsGroup, IsPlan, IsWellKept, labels_of, label_of}
+use Rattle.element_tree.specs.Tree.{Nests, IsGroup, IsWellKept, labels_of, label_of}
 use Rattle.element_tree.proofs.WalkLaws.{bind_some, cond_some}
 
 cond_of : {A : Type 0} (b : Bool) (o : Option A) (y : A) → cond b o None ≡ Some y → (b ≡ true) × (o ≡ Some y)
@@ -130,25 +130,45 @@ pub record Group (depth : ℕ) (es : List Element) : Type 0 where
   pub kind : element.kind ≡ ThreadGroup loops
   pub nests : AllByRecursion (Nests depth es) element.children
 
-pub has_group : (depth : ℕ) (d : Data) (es : List Element) → elements_of (suc (suc depth)) Top 0 0 d ≡ Some es → Group depth es
-has_group depth d es h =
+-- a root, its first child, and what comes behind that child
+record Root (depth : ℕ) (es : List Element) : Type 0 where
+  root : Element
+  child : Data
+  first : List Element
+  rest : List Element
+  below : elements_of (suc depth) BelowRoot 0 1 child ≡ Some first
+  all : root ∷ (first ++ rest) ≡ es
+
+opened_root : (depth : ℕ) (own : Node) (under : Below) (ds : Items) (d : Data) (es : List Element) → below (elements_of (suc depth) BelowRoot 0) 1 (item d ds) ≡ Some under → node own 0 under.numbers ∷ under.elements ≡ es → Root depth es
+opened_root depth own under ds d es h all =
+    let first = bind_some (elements_of (suc depth) BelowRoot 0 1 d) _ under h in
+    let rest = bind_some (below (elements_of (suc depth) BelowRoot 0) (1 + length first.0) ds) _ under first.2 in
+    let same : first.0 ++ rest.0.elements ≡ under.elements = ap (λ (b : Below). b.elements) (some_is _ under rest.2) in
+    record { root = node own 0 under.numbers; child = d; first = first.0; rest = rest.0.elements; below = first.1; all = ap (λ (ys : List Element). node own 0 under.numbers ∷ ys) same ∙ all }
+
+is_root : (depth : ℕ) (d : Data) (es : List Element) → elements_of (suc (suc depth)) Top 0 0 d ≡ Some es → Root depth es
+is_root depth d es h =
     let top = is_read (suc depth) Top 0 0 d es h in
     let p = parts Top d top.own top.here in
     let only = ap (λ (k : Kind). may_have k top.own.children) (sym (top_kind p.type_ p.members top.own.kind p.kind)) ∙ p.fits in
     let child = first_child top.own.children only in
-    let opened : below (elements_of (suc depth) BelowRoot 0) 1 (item child.0 child.1) ≡ Some top.under = ap (below (elements_of (suc depth) BelowRoot 0) 1) (sym child.2) ∙ top.rest in
-    let first = bind_some (elements_of (suc depth) BelowRoot 0 1 child.0) _ top.under opened in
-    let rest = bind_some (below (elements_of (suc depth) BelowRoot 0) (1 + length first.0) child.1) _ top.under first.2 in
-    let group = is_read depth BelowRoot 0 1 child.0 first.0 first.1 in
-    let gp = parts BelowRoot child.0 group.own group.here in
-    let kind = group_loops gp.type_ gp.members group.own.kind gp.kind in
-    let e0 = node top.own 0 top.under.numbers in
-    let e1 = node group.own 0 group.under.numbers in
-    let inner = nests_below depth (elements_of depth BelowGroup 1) (λ m e ys f a k l. nests depth BelowGroup 1 m e ys f a k l) group.own.children 2 group.under (e0 ∷ e1 ∷ []) rest.0.elements group.rest refl in
-    let list : e0 ∷ e1 ∷ (group.under.elements ++ rest.0.elements) ≡ es =
-    ap (λ (ys : List Element). e0 ∷ (ys ++ rest.0.elements)) group.all ∙ ap (λ (b : Below). e0 ∷ b.elements) (some_is _ top.under rest.2) ∙ top.all in
+    opened_root depth top.own top.under child.1 child.0 es (ap (below (elements_of (suc depth) BelowRoot 0) 1) (sym child.2) ∙ top.rest) top.all
+
+group_below : (depth : ℕ) (d : Data) (root : Element) (first rest : List Element) → elements_of (suc depth) BelowRoot 0 1 d ≡ Some first → Group depth (root ∷ (first ++ rest))
+group_below depth d root first rest h =
+    let group = is_read depth BelowRoot 0 1 d first h in
+    let p = parts BelowRoot d group.own group.here in
+    let kind = group_loops p.type_ p.members group.own.kind p.kind in
+    let own = node group.own 0 group.under.numbers in
+    let inner = nests_below depth (elements_of depth BelowGroup 1) (λ m e ys f a k l. nests depth BelowGroup 1 m e ys f a k l) group.own.children 2 group.under (root ∷ own ∷ []) rest group.rest refl in
+    let P : List Element → Type 0 = λ ys. Group depth (root ∷ (ys ++ rest)) in
+    subst P group.all (record { element = own; loops = kind.0; there = refl; kind = kind.1; nests = inner })
+
+pub has_group : (depth : ℕ) (d : Data) (es : List Element) → elements_of (suc (suc depth)) Top 0 0 d ≡ Some es → Group depth es
+has_group depth d es h =
+    let r = is_root depth d es h in
     let P : List Element → Type 0 = λ xs. Group depth xs in
-    subst P list (record { element = e1; loops = kind.0; there = refl; kind = kind.1; nests = inner })
+    subst P r.all (group_below depth r.child r.root r.first r.rest r.below)
 
 -- ---- the plan
 

@@ -1,6 +1,6 @@
 -- The walk over a JSON value, one element and one child after another.
 use Rattle.std.proofs.lemmas.List.{append-nil, drop_all}
-use Rattle.std.proofs.Common.{◌≡◌, ℕ, zero, suc, ◌+◌, ◌-◌, ◌<◌, ◌≤◌, Bool, true, false, List, [], ◌∷◌, ◌++◌, length, get_or, set, drop, Option, Some, None, cond, nat_lt, option_and_then, unwrap_or, codes, refl, sym, ap, ap₂, ◌∙◌, subst, append_assoc, arith, rules, length-append}
+use Rattle.std.proofs.Common.{◌≡◌, ℕ, zero, suc, ◌+◌, ◌-◌, ◌<◌, ◌≤◌, Bool, true, false, List, [], ◌∷◌, ◌++◌, length, get_or, set, drop, Option, Some, None, cond, nat_lt, option_and_then, unwrap_or, codes, refl, sym, ap, ap₂, ◌∙◌, append_assoc, arith}
 use Rattle.std.specs.Option.{option_map_or}
 use Rattle.serde_json.specs.Data.{Data, null, boolean, number, string, array, object, Items, no_items, item, Members}
 use Rattle.serde_json.specs.Find.{get_member, as_str, as_array}
@@ -8,7 +8,6 @@ use Rattle.serde_json.specs.View.{view, items_view}
 use Rattle.serde_json.specs.declared.value.Value.{Value}
 use Rattle.element_tree.specs.declared.form.Place.{Place}
 use Rattle.element_tree.specs.declared.kinds.Element.{Element}
-use Rattle.element_tree.specs.declared.kinds.Kind.{Kind}
 use Rattle.element_tree.specs.Form.{◌>>=◌, object_of, element_keys, has_only, required, at_key, text_within, kind_of, may_have, Node, node_of, place_below}
 use Rattle.element_tree.specs.Reading.{Below, below, elements_of}
 use Rattle.element_tree.specs.Steps.{children_in, own_element, with_children}

@@ -29,6 +29,8 @@ const REPLY: (&str, &str) = (
     "]}}]}]}",
 );
 
+const ALONE: (&str, &str) = ("", "");
+
 fn refusal(
     alloc: Global,
     around: (&str, &str),
@@ -315,7 +317,7 @@ fn the_root_has_one_group_and_no_props(rt: HostRuntime) -> Result<(), Fail> {
         ("{\"type\":\"ThreadGroup\"}", false),
         ("[]", false),
     ];
-    assert_eq!(rt; first_wrong(rt.alloc(), ("", ""), &cases)?, None);
+    assert_eq!(rt; first_wrong(rt.alloc(), ALONE, &cases)?, None);
     Ok(())
 }
 
@@ -325,16 +327,13 @@ fn bytes_that_are_no_plan_are_refused_by_their_fault(rt: HostRuntime) -> Result<
         build_first(rt.alloc(), b"\xff").err(),
         Some(FirstError::NotUtf8)
     );
+    assert_eq!(rt; refusal(rt.alloc(), ALONE, "")?, Some(FirstError::NotJson));
     assert_eq!(rt;
-        refusal(rt.alloc(), ("", ""), "")?,
+        refusal(rt.alloc(), ALONE, "{\"type\":\"TestPlan\"} {}")?,
         Some(FirstError::NotJson)
     );
     assert_eq!(rt;
-        refusal(rt.alloc(), "{\"type\":\"TestPlan\"} {}"),
-        Some(FirstError::NotJson)
-    );
-    assert_eq!(rt;
-        refusal(rt.alloc(), ("", ""), "7")?,
+        refusal(rt.alloc(), ALONE, "7")?,
         Some(FirstError::NotBuilt)
     );
     Ok(())
@@ -378,7 +377,7 @@ fn a_text_nests_at_most_127_deep(rt: HostRuntime) -> Result<(), Fail> {
         let opened = repeated(rt.alloc(), "[", depth)?;
         let closed = repeated(rt.alloc(), "]", depth)?;
         let text = format!(in rt.alloc(); "{opened}{closed}")?;
-        assert_eq!(rt; refusal(rt.alloc(), ("", ""), text.as_str())?, Some(wanted));
+        assert_eq!(rt; refusal(rt.alloc(), ALONE, text.as_str())?, Some(wanted));
     }
     Ok(())
 }

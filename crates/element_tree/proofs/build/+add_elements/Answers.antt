@@ -1,12 +1,11 @@
-use Rattle.std.proofs.Common.{◌≡◌, ℕ, ◌+◌, ◌-◌, ◌<◌, ◌≤◌, List, [], ◌∷◌, ◌++◌, length, Some, sym, ap, ap₂, ◌∙◌, refl, arith, append_assoc, length-append}
+use Rattle.std.proofs.Common.{◌≡◌, ℕ, ◌+◌, ◌-◌, List, [], ◌∷◌, ◌++◌, length, sym, ap, ap₂, ◌∙◌, refl, arith, append_assoc, length-append}
 use Rattle.std.proofs.lemmas.List.{append-nil}
 use Rattle.serde_json.specs.View.{view}
 use Rattle.element_tree.specs.declared.form.Place.{Place}
 use Rattle.element_tree.specs.declared.kinds.Element.{Element}
-use Rattle.element_tree.specs.Form.{place_below}
 use Rattle.element_tree.specs.Reading.{elements_of}
 use Rattle.element_tree.specs.Steps.{with_children}
-use Rattle.element_tree.proofs.WalkLaws.{too_deep, too_far, is_below, is_past, not_zero, walk_refuses, walk_init, walk_end, child_added, child_fails, with_middle, len_with}
+use Rattle.element_tree.proofs.WalkLaws.{too_deep, too_far, is_below, is_past, not_zero, walk_refuses, walk_init, walk_end, child_added, with_middle, len_with}
 use Rattle.element_tree.proofs.build.+add_elements.Goals as goal
 
 pub returns-then-depth-eq0-clause-adds : goal.returns-then-depth-eq0-clause-adds
@@ -29,7 +28,7 @@ below-init t c =
     record {
       own = c.in-Some.element;
       added = [];
-      list = c.in_ok-push.ensures.items ∙ sym (append-nil _);
+      list = c.in_ok-push.ensures.items ∙ sym (append-nil (c.args.elements.now.items ++ c.in-Some.element ∷ []));
       kept = walk_init _ _ _ _ _ _ (not_zero _ c.if-depth-eq0.false) (is_below _ 4096 (omega arith)) c.in-Some.element c.new-numbers.result.items c.children_of-child-items.result.now _ (sym c.in-Some.is ∙ c.in_ok-element.ensures) c.new-numbers.ensures.items c.children_of-child-items.ensures m;
       few = omega arith;
     }

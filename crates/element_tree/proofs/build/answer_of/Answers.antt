@@ -1,4 +1,3 @@
-use Rattle.std.proofs.Common.{◌≡◌, ap, sym, ◌∙◌}
 use Rattle.element_tree.proofs.AnswerLaws.{no_text, unread, given}
 use Rattle.std.proofs.lemmas.Result.{err_from_is_err_and}
 use Rattle.element_tree.proofs.build.answer_of.Goals as goal

@@ -1,6 +1,5 @@
-use Rattle.std.proofs.Common.{◌≡◌, ◌<◌, length, List, ap, sym, ◌∙◌}
+use Rattle.std.proofs.Common.{ap, ◌∙◌}
 use Rattle.serde_json.specs.View.{view}
-use Rattle.element_tree.specs.declared.kinds.Element.{Element}
 use Rattle.element_tree.specs.Tree.{labels_of}
 use Rattle.element_tree.proofs.PlanLaws.{read_all, refused, plan_labels, plan_is, well_kept}
 use Rattle.std.proofs.lemmas.Result.{err_from_is_err_and}

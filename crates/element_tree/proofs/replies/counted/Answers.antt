@@ -1,4 +1,4 @@
-use Rattle.std.proofs.Common.{◌≡◌, ◌≤◌, length, arith}
+use Rattle.std.proofs.Common.{◌≤◌, length, arith}
 use Rattle.element_tree.proofs.ItemLaws.{replies_fit}
 use Rattle.element_tree.proofs.replies.counted.Goals as goal
 
