@@ -25,10 +25,12 @@ pub below-init : goal.below-init
 below-init t c =
     let n : c.len-number.result ≡ length c.args.elements.now.items = let k = c.args.elements.now.ok in c.len-number.ensures ∙ k.0 in
     let m : length c.push.new.self.items ≡ length c.args.elements.now.items + 1 = rw (c.in_ok-push.ensures.items, length-append) refl in
+    let pushed : c.push.new.self.items ≡ c.args.elements.now.items ++ c.in-Some.element ∷ [] = c.in_ok-push.ensures.items in
+    let padded : (c.args.elements.now.items ++ c.in-Some.element ∷ []) ++ [] ≡ c.args.elements.now.items ++ c.in-Some.element ∷ [] = append-nil _ in
     record {
       own = c.in-Some.element;
       added = [];
-      list = c.in_ok-push.ensures.items ∙ sym (append-nil (c.args.elements.now.items ++ c.in-Some.element ∷ []));
+      list = pushed ∙ sym padded;
       kept = walk_init _ _ _ _ _ _ (not_zero _ c.if-depth-eq0.false) (is_below _ 4096 (omega arith)) c.in-Some.element c.new-numbers.result.items c.children_of-child-items.result.now _ (sym c.in-Some.is ∙ c.in_ok-element.ensures) c.new-numbers.ensures.items c.children_of-child-items.ensures m;
       few = omega arith;
     }
