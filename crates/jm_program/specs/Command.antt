@@ -1,5 +1,5 @@
 -- What the program's statuses say.
-use Rattle.std.specs.Prelude.{◌≡◌, ◌⊎◌, ℕ, ◌+◌, ◌≤◌, List, [], ◌∷◌, length, Option, codes, nat_eq, Bool, true, false}
+use Rattle.std.specs.Prelude.{◌≡◌, ◌⊎◌, ℕ, ◌+◌, ◌≤◌, List, [], ◌∷◌, length, Option, codes, nat_eq, nat_le, Bool, true, false, if◌then◌else◌}
 use Rattle.std.specs.Io.KnownBytes.{Appends, Keeps}
 use lib.Pointwise.{pointwise}
 use Rattle.jm_base.specs.Counts.{Rose}
@@ -160,3 +160,26 @@ number_of Refused = 3
 number_of ReadFault = 4
 number_of WriteFault = 5
 number_of Memory = 7
+
+-- ---- the answer itself
+
+-- the statuses
+abbrev pub IsStatus : ℕ → Type 0
+IsStatus n = (n ≡ 0) ⊎ ((n ≡ 2) ⊎ ((n ≡ 3) ⊎ ((n ≡ 4) ⊎ ((n ≡ 5) ⊎ (n ≡ 7)))))
+
+-- no count of faults has risen
+pub record NoRise (old new : Edges) : Type 0 where
+  pub source : Rose old.read_faults new.read_faults → ⊥
+  pub results : Rose old.result_faults new.result_faults → ⊥
+  pub reports : Rose old.report_faults new.report_faults → ⊥
+
+-- the status of a reading: 0 for a plan, 3 for a refusal
+abbrev pub status_of_reading : Reading → ℕ
+status_of_reading (the_plan plan) = 0
+status_of_reading outside_utf8 = 3
+status_of_reading outside_json = 3
+status_of_reading outside_form = 3
+
+-- the status that the words and the bytes of the plan call for, where every call of the source and the sinks succeeds
+abbrev pub status_for : Bool → List ℕ → ℕ
+status_for solo bytes = if solo then (if nat_le (length bytes) plan_limit then status_of_reading (reading_of bytes) else 3) else 2

@@ -35,3 +35,6 @@ fn main(rt: HostRuntime) -> ExitCode {
     let mut reports = IntoWrite::new(rt.stderr());
     ExitCode::from(plain_command(alloc, &words, &mut plan, &mut results, &mut reports))
 }
+
+#[cfg(test)]
+mod tests;

@@ -1,7 +1,7 @@
 // The program as a function of its words, its source and its sinks.
 
-ghost use Rattle.std.specs.Prelude.{◌≡◌, ◌⊎◌, map, string_bytes};
-ghost use Rattle.jm_program.specs.Command.{Says, edges, is_solo, number_of};
+ghost use Rattle.std.specs.Prelude.{◌≡◌, ◌⊎◌, map, string_bytes, true, false, List, ℕ, Some};
+ghost use Rattle.jm_program.specs.Command.{Says, IsStatus, IsDone, IsUsage, IsRefused, IsUnread, IsUnwritten, NoRise, status_for, edges, is_solo};
 ghost use Rattle.jm_program.specs.Parts.{LineSays, RefusalSays, TextsSay, PlanSays, BytesSay, EndSays, sinks};
 
 use crate::solo::{SoloTexts, solo_texts};
@@ -24,10 +24,28 @@ pub fn plain_command<S: Source, O: Sink, E: Sink>(
     results: &mut O,
     reports: &mut E,
 ) -> u8
-    ensures says { (status : Status) × (result ≡ number_of status) × Says (is_solo (map string_bytes words.now.items))
+    ensures status { IsStatus result }
+    ensures done { result ≡ 0 → (is_solo (map string_bytes words.now.items) ≡ true) × IsDone
+        (edges (S.left plan.old) (S.faults plan.old) (O.written results.old) (O.faults results.old) (E.written reports.old) (E.faults reports.old))
+        (edges (S.left plan.new) (S.faults plan.new) (O.written results.new) (O.faults results.new) (E.written reports.new) (E.faults reports.new)) }
+    ensures usage { result ≡ 2 → (is_solo (map string_bytes words.now.items) ≡ false) × IsUsage
+        (edges (S.left plan.old) (S.faults plan.old) (O.written results.old) (O.faults results.old) (E.written reports.old) (E.faults reports.old))
+        (edges (S.left plan.new) (S.faults plan.new) (O.written results.new) (O.faults results.new) (E.written reports.new) (E.faults reports.new)) }
+    ensures refused { result ≡ 3 → (is_solo (map string_bytes words.now.items) ≡ true) × IsRefused
+        (edges (S.left plan.old) (S.faults plan.old) (O.written results.old) (O.faults results.old) (E.written reports.old) (E.faults reports.old))
+        (edges (S.left plan.new) (S.faults plan.new) (O.written results.new) (O.faults results.new) (E.written reports.new) (E.faults reports.new)) }
+    ensures unread { result ≡ 4 → (is_solo (map string_bytes words.now.items) ≡ true) × IsUnread
+        (edges (S.left plan.old) (S.faults plan.old) (O.written results.old) (O.faults results.old) (E.written reports.old) (E.faults reports.old))
+        (edges (S.left plan.new) (S.faults plan.new) (O.written results.new) (O.faults results.new) (E.written reports.new) (E.faults reports.new)) }
+    ensures unwritten { result ≡ 5 → IsUnwritten (is_solo (map string_bytes words.now.items))
+        (edges (S.left plan.old) (S.faults plan.old) (O.written results.old) (O.faults results.old) (E.written reports.old) (E.faults reports.old))
+        (edges (S.left plan.new) (S.faults plan.new) (O.written results.new) (O.faults results.new) (E.written reports.new) (E.faults reports.new)) }
+
+    // With no fault the words and the bytes alone decide, unless memory was wanting.
+    ensures exact { (bytes : List ℕ) → S.left plan.old ≡ Some bytes → NoRise
         (edges (S.left plan.old) (S.faults plan.old) (O.written results.old) (O.faults results.old) (E.written reports.old) (E.faults reports.old))
         (edges (S.left plan.new) (S.faults plan.new) (O.written results.new) (O.faults results.new) (E.written reports.new) (E.faults reports.new))
-        status }
+        → (result ≡ status_for (is_solo (map string_bytes words.now.items)) bytes) ⊎ (result ≡ 7) }
 {
     let solo = is_solo(words);
     command(alloc, solo, plan, results, reports).number()

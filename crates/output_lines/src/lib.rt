@@ -5,3 +5,6 @@ pub mod lines;
 pub mod rows;
 
 pub use lines::{end_line, header_line, result_line};
+
+#[cfg(test)]
+mod tests;

@@ -1,0 +1,59 @@
+#!/bin/sh
+# Prints how fast `solo` runs: samples a second from the start of the process to its exit, the peak of its memory,
+# and how long a loop without end over an empty controller takes to meet its limit of rounds.
+# Usage: bench/solo.sh    (it needs python3, for the clock and the memory of a child process)
+cd "$(dirname "$0")/.." || exit 1
+./jm solo </dev/null >/dev/null 2>&1
+python3 - <<'PY'
+import json, os, subprocess, tempfile, time
+
+PROGRAM = ["crates/jm_program/out/jm_program", "solo"]
+
+def script(name, replies):
+    return {"type": "Script", "name": name, "props": {"replies": replies}}
+
+def plan(children):
+    group = {"type": "ThreadGroup", "name": "TG", "children": children}
+    return json.dumps({"type": "TestPlan", "children": [group]}).encode()
+
+def source(text):
+    file = tempfile.TemporaryFile()
+    file.write(text)
+    file.seek(0)
+    return file
+
+def seconds(text):
+    best = None
+    for _ in range(5):
+        with source(text) as plan_file, open("/dev/null", "wb") as sink:
+            start = time.perf_counter()
+            child = subprocess.Popen(PROGRAM, stdin=plan_file, stdout=sink, stderr=subprocess.PIPE)
+            report = child.stderr.read().decode().strip()
+            child.wait()
+            took = time.perf_counter() - start
+        best = took if best is None else min(best, took)
+    return best, report
+
+# The results are written once all of them are there, so the peak is reached when the first bytes come.
+def peak_and_lines(text):
+    with source(text) as plan_file:
+        child = subprocess.Popen(PROGRAM, stdin=plan_file, stdout=subprocess.PIPE, stderr=subprocess.DEVNULL)
+        first = child.stdout.read(1)
+        with open(f"/proc/{child.pid}/status") as status:
+            peak = next((int(line.split()[1]) for line in status if line.startswith("VmHWM")), 0)
+        lines = (first + child.stdout.read()).count(b"\n") - 1
+        child.wait()
+    return peak, lines
+
+def sampled(name, text):
+    took, report = seconds(text)
+    peak, lines = peak_and_lines(text)
+    print(f"{name}: {lines} samples in {took * 1000:.1f} ms, {lines / took:,.0f} a second, "
+          f"{peak} KiB at the peak, {peak * 1024 / lines:.0f} bytes a sample; {report}")
+
+sampled("4,093 samplers of one reply", plan([script("S", [{}]) for _ in range(4093)]))
+loop = {"type": "Loop", "props": {"loops": 65536}, "children": [script("S", [{"ms": 1}])]}
+sampled("a loop of 65,536 samples", plan([loop]))
+took, report = seconds(plan([{"type": "Loop", "props": {"loops": -1}, "children": [{"type": "Simple"}]}]))
+print(f"a loop without end over an empty Simple: {took:.2f} s; {report}")
+PY
