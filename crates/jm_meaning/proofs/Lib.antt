@@ -1,2 +1,3 @@
 pub mod SamplingLaws
 pub mod PlainLaws
+mod WorkedPlans
