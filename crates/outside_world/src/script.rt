@@ -135,7 +135,7 @@ fn note_asked(
             request: copy_request(alloc, request)?,
             outcome: copy_outcome(alloc, outcome)?,
         };
-        heard.push(item)?;
+        note(heard, keep, item)?;
     }
     Ok(())
 }
@@ -241,4 +241,54 @@ fn outcome_of_reply(alloc: Global, request: &Request, reply: &ScriptReply) -> M<
         headers: reply.headers.copy(alloc)?,
         body: body.copy(alloc)?,
     }))
+}
+
+#[cfg(test)]
+mod tests {
+    use super::*;
+    use std::test::Fail;
+
+    fn reply(alloc: Global, null: bool, fault: bool, echo: bool) -> M<ScriptReply> {
+        Ok(ScriptReply {
+            code: 200,
+            message: Text::new(alloc, b"OK")?,
+            headers: Text::new(alloc, b"")?,
+            body: Text::new(alloc, b"own")?,
+            ms: 3,
+            null,
+            fault,
+            echo,
+        })
+    }
+
+    // What a sampler with this one reply is answered for the text `ping` after a pause of 1 ms, and the clock and the faults then.
+    fn answer(alloc: Global, reply: ScriptReply, clock: u64) -> M<(Outcome, u64, u64)> {
+        let mut outside = ScriptOutside {
+            alloc,
+            replies: Items::of(vec![in alloc; Items::of(vec![in alloc; reply]?)]?),
+            clock,
+            places: zeros(alloc, 1)?,
+            keep: true,
+            heard: Vec::new(alloc),
+            faults: 0,
+        };
+        outside.pause(1)?;
+        let outcome = outside.ask(0, &Request::Script(Text::new(alloc, b"ping")?))?;
+        let clock = outside.now()?;
+        Ok((outcome, clock, outside.faults))
+    }
+
+    #[test]
+    fn null_comes_before_fault_and_each_lets_its_time_pass(rt: HostRuntime) -> Result<(), Fail> {
+        let alloc = rt.alloc();
+        let null = answer(alloc, reply(alloc, true, true, false)?, 0)?;
+        assert!(rt; matches!(null, (Outcome::Null, 4, 0)));
+        let fault = answer(alloc, reply(alloc, false, true, true)?, 0)?;
+        assert!(rt; matches!(fault, (Outcome::Fault, 4, 1)));
+        let echo = answer(alloc, reply(alloc, false, false, true)?, u64::MAX - 2)?;
+        assert!(rt;
+            matches!(&echo, (Outcome::Reply(reply), u64::MAX, 0) if reply.body.bytes() == b"ping".as_slice())
+        );
+        Ok(())
+    }
 }
