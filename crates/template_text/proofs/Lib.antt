@@ -1,0 +1,9 @@
+pub mod Before
+pub mod Tokens
+pub mod Standing
+pub mod Inside
+pub mod Names
+pub mod Readings
+pub mod Table
+pub mod Extents
+pub mod Firsts
