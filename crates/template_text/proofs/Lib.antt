@@ -7,3 +7,5 @@ pub mod Readings
 pub mod Table
 pub mod Extents
 pub mod Firsts
+pub mod Joining
+pub mod Written

@@ -4,3 +4,4 @@ pub mod Scan
 pub mod Code
 pub mod View
 pub mod Falls
+pub mod Builders

@@ -1,5 +1,5 @@
 -- What contracts see of a template: its pieces.
-use Rattle.std.specs.Prelude.{ℕ, ◌+◌, List, [], ◌∷◌, length}
+use Rattle.std.specs.Prelude.{ℕ, ◌+◌, List, [], ◌∷◌, length, Option, Some, None}
 use Rattle.template_text.specs.declared.template.Piece.{Piece}
 use Rattle.template_text.specs.declared.template.Piece.TheVariants.{Text, Var, Call}
 use Rattle.template_text.specs.Pieces.{Reference, variable, call, Pieces, no_more, text, reference, Arguments, no_arguments, argument}
@@ -30,3 +30,9 @@ abbrev mutual
   pub arguments_weight : Arguments → ℕ
   arguments_weight no_arguments = 0
   arguments_weight (argument ps more) = weight ps + arguments_weight more
+
+-- the reference that a piece is
+abbrev pub reference_of : Piece → Option Reference
+reference_of (Text t) = None
+reference_of (Var n) = Some (variable n)
+reference_of (Call n args) = Some (call n (arguments_of args.items))

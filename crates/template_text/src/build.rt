@@ -2,7 +2,7 @@
 
 ghost use Rattle.std.specs.Prelude.{◌≡◌, ◌≤◌, length, IfOk};
 
-use crate::pieces::{Arguments, Pieces};
+use crate::builders::{ArgumentsBuilder, TemplateBuilder};
 use crate::scan::{Found, Step, Token, first_token, next_step, references};
 use crate::template::{Piece, Template};
 use jm_base::{M, Text};
@@ -13,7 +13,7 @@ pub fn parse_template(alloc: Global, text: &[u8]) -> M<Template>
     requires { length text.now ≤ 65536 }
 {
     let found = references(alloc, text)?;
-    let mut pieces = Pieces::new(alloc);
+    let mut pieces = TemplateBuilder::new(alloc);
     let mut at = 0;
     while at < text.len() {
         match found[at] {
@@ -58,7 +58,7 @@ fn call_arguments(alloc: Global, text: &[u8], found: &[Option<Found>]) -> M<Vec<
 /// One or more arguments.
 #[cycle(build)]
 fn arguments(alloc: Global, text: &[u8], found: &[Option<Found>]) -> M<Vec<Template>> {
-    let mut arguments = Arguments::new(alloc);
+    let mut arguments = ArgumentsBuilder::new(alloc);
     let mut at = 0;
     let mut unclosed = 0;
     while let Step::Goes { by, unclosed: then } = next_step(&text[at..], &found[at..], unclosed) {

@@ -3,8 +3,8 @@
 #![tactic(auto)]
 
 mod build;
+mod builders;
 mod law;
-mod pieces;
 mod scan;
 mod write;
 mod template;

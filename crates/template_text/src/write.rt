@@ -1,13 +1,18 @@
 // The text of a template.
 
 ghost use Rattle.std.specs.Prelude.{◌≡◌, ◌++◌, IfOk, OnOk};
+ghost use Rattle.template_text.specs.Pieces.{variable, call, escaped, spelling, reference_spelling, argument_spelling, arguments_spelling, further_spelling};
+ghost use Rattle.template_text.specs.View.{arguments_of};
 
 use crate::template::{Piece, Template};
 use jm_base::{M, Text};
 use std::alloc::Global;
 
-/// The text of a template.
-pub fn spell(alloc: Global, template: &Template) -> M<Text> {
+/// The text of a template. It is the inverse of `parse_template`: a template that was read from a text is spelled as
+/// that text.
+pub fn spell(alloc: Global, template: &Template) -> M<Text>
+    ensures { IfOk result (λ text. text ≡ spelling template.now) }
+{
     let mut out = Vec::new(alloc);
     for piece in &template.pieces {
         match piece {
@@ -20,7 +25,9 @@ pub fn spell(alloc: Global, template: &Template) -> M<Text> {
 }
 
 /// Writes `${name}` at the end.
-fn write_variable(name: &Text, out: &mut Vec<u8>) -> M<()> {
+fn write_variable(name: &Text, out: &mut Vec<u8>) -> M<()>
+    ensures { OnOk result (out.new.items ≡ out.old.items ++ reference_spelling (variable name.now)) }
+{
     out.extend_from_slice(b"${")?;
     out.extend_from_slice(name.bytes())?;
     out.push(b'}')?;
@@ -29,23 +36,38 @@ fn write_variable(name: &Text, out: &mut Vec<u8>) -> M<()> {
 
 /// Writes `${__name(arguments)}` at the end.
 #[cycle(write)]
-fn write_call(name: &Text, args: &[Template], out: &mut Vec<u8>) -> M<()> {
+fn write_call(name: &Text, args: &[Template], out: &mut Vec<u8>) -> M<()>
+    ensures { OnOk result (out.new.items ≡ out.old.items ++ reference_spelling (call name.now (arguments_of args.now))) }
+{
     out.extend_from_slice(b"${__")?;
     out.extend_from_slice(name.bytes())?;
     out.push(b'(')?;
-    for (i, argument) in args.iter().enumerate() {
-        if i > 0 {
+    write_arguments(args, out)?;
+    out.extend_from_slice(b")}")?;
+    Ok(())
+}
+
+/// Writes arguments at the end, with a comma between two.
+#[cycle(write)]
+fn write_arguments(args: &[Template], out: &mut Vec<u8>) -> M<()>
+    ensures { OnOk result (out.new.items ≡ out.old.items ++ arguments_spelling (arguments_of args.now)) }
+{
+    let mut is_first = true;
+    for argument in args {
+        if !is_first {
             out.push(b',')?;
         }
         write_argument(argument, out)?;
+        is_first = false;
     }
-    out.extend_from_slice(b")}")?;
     Ok(())
 }
 
 /// Writes an argument at the end.
 #[cycle(write)]
-fn write_argument(template: &Template, out: &mut Vec<u8>) -> M<()> {
+fn write_argument(template: &Template, out: &mut Vec<u8>) -> M<()>
+    ensures { OnOk result (out.new.items ≡ out.old.items ++ argument_spelling template.now) }
+{
     for piece in &template.pieces {
         match piece {
             Piece::Text(text) => write_escaped(text.bytes(), out)?,
@@ -57,7 +79,9 @@ fn write_argument(template: &Template, out: &mut Vec<u8>) -> M<()> {
 }
 
 /// Writes plain text of an argument at the end, with a backslash before each comma.
-fn write_escaped(text: &[u8], out: &mut Vec<u8>) -> M<()> {
+fn write_escaped(text: &[u8], out: &mut Vec<u8>) -> M<()>
+    ensures { OnOk result (out.new.items ≡ out.old.items ++ escaped text.now) }
+{
     for byte in text {
         if *byte == b',' {
             out.push(b'\\')?;
