@@ -9,3 +9,4 @@ pub mod Extents
 pub mod Firsts
 pub mod Joining
 pub mod Written
+pub mod Building

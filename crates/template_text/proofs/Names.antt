@@ -85,7 +85,7 @@ normal_plain (argument no_more (argument ps more)) = refl
 normal_plain (argument (text t ps) more) = refl
 normal_plain (argument (reference r ps) more) = refl
 
-normal_same : (a : Arguments) → a ≢ argument no_more no_arguments → normal a ≡ a
+pub normal_same : (a : Arguments) → a ≢ argument no_more no_arguments → normal a ≡ a
 normal_same no_arguments h = refl
 normal_same (argument no_more no_arguments) h = absurd (h refl)
 normal_same (argument no_more (argument ps more)) h = refl
