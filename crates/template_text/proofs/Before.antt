@@ -1,6 +1,6 @@
 -- Spellings with a text behind them, which compute byte by byte.
 use Rattle.std.proofs.Common.{◌≡◌, ℕ, List, [], ◌∷◌, ◌++◌, ◌==◌, if◌then◌else◌, refl, sym, ◌∙◌, ap, append_assoc, Bool, true, false}
-use Rattle.template_text.specs.Pieces.{Reference, variable, call, Pieces, no_more, text, reference, Arguments, no_arguments, argument, escaped, reference_spelling, arguments_spelling, argument_spelling, further_spelling, spelling}
+use Rattle.template_text.specs.Pieces.{Reference, variable, call, Pieces, no_more, text, reference, Arguments, no_arguments, argument, escaped, reference_spelling, arguments_spelling, argument_spelling, further_spelling}
 
 abbrev pub escaped_before : List ℕ → List ℕ → List ℕ
 escaped_before [] k = k
@@ -35,7 +35,7 @@ escaped-before (c ∷ t) k = escaped_step (c == 44) c t k (escaped_before t k) (
 call_before : (n a k u v : List ℕ) → a ++ 41 ∷ 125 ∷ k ≡ u → v ≡ n ++ 40 ∷ u → (((n ++ 40 ∷ []) ++ a) ++ 41 ∷ 125 ∷ []) ++ k ≡ v
 call_before n a k u v e f =
     append_assoc ((n ++ 40 ∷ []) ++ a) (41 ∷ 125 ∷ []) k ∙ (append_assoc (n ++ 40 ∷ []) a (41 ∷ 125 ∷ k)
-      ∙ (append_assoc n (40 ∷ []) (a ++ 41 ∷ 125 ∷ k) ∙ (ap (λ w. n ++ 40 ∷ w) e ∙ sym f)))
+    ∙ (append_assoc n (40 ∷ []) (a ++ 41 ∷ 125 ∷ k) ∙ (ap (λ w. n ++ 40 ∷ w) e ∙ sym f)))
 
 mutual
   pub reference-before : (r : Reference) (k : List ℕ) → reference_spelling r ++ k ≡ reference_before r k
@@ -47,19 +47,19 @@ mutual
   arguments-before no_arguments k = refl
   arguments-before (argument ps more) k =
       append_assoc (argument_spelling ps) (further_spelling more) k
-        ∙ (ap (λ w. argument_spelling ps ++ w) (further-before more k) ∙ argument-before ps (further_before more k))
+      ∙ (ap (λ w. argument_spelling ps ++ w) (further-before more k) ∙ argument-before ps (further_before more k))
 
   pub further-before : (args : Arguments) (k : List ℕ) → further_spelling args ++ k ≡ further_before args k
   further-before no_arguments k = refl
   further-before (argument ps more) k =
       ap (λ w. 44 ∷ w) (append_assoc (argument_spelling ps) (further_spelling more) k
-        ∙ (ap (λ w. argument_spelling ps ++ w) (further-before more k) ∙ argument-before ps (further_before more k)))
+      ∙ (ap (λ w. argument_spelling ps ++ w) (further-before more k) ∙ argument-before ps (further_before more k)))
 
   pub argument-before : (ps : Pieces) (k : List ℕ) → argument_spelling ps ++ k ≡ argument_before ps k
   argument-before no_more k = refl
   argument-before (text t more) k =
       append_assoc (escaped t) (argument_spelling more) k
-        ∙ (ap (λ w. escaped t ++ w) (argument-before more k) ∙ escaped-before t (argument_before more k))
+      ∙ (ap (λ w. escaped t ++ w) (argument-before more k) ∙ escaped-before t (argument_before more k))
   argument-before (reference r more) k =
       append_assoc (reference_spelling r) (argument_spelling more) k
-        ∙ (ap (λ w. reference_spelling r ++ w) (argument-before more k) ∙ reference-before r (argument_before more k))
+      ∙ (ap (λ w. reference_spelling r ++ w) (argument-before more k) ∙ reference-before r (argument_before more k))

@@ -1,5 +1,5 @@
 -- What the builders are given is what stands in the text.
-use Rattle.std.proofs.Common.{◌≡◌, ◌≢◌, ℕ, zero, suc, ◌+◌, ◌-◌, ◌*◌, ◌<◌, ◌≤◌, List, [], ◌∷◌, ◌++◌, ◌==◌, refl, sym, ◌∙◌, ap, subst, Bool, true, false, Option, Some, None, option_map, IsSome, is_some, Result, Ok, Err, IfOk, length, take, drop, get_or, arith, length-append, length-drop, append_assoc}
+use Rattle.std.proofs.Common.{◌≡◌, ℕ, zero, suc, ◌+◌, ◌-◌, ◌<◌, ◌≤◌, List, [], ◌∷◌, ◌++◌, refl, sym, ◌∙◌, ap, Bool, true, false, Option, Some, None, option_map, IsSome, is_some, Result, Ok, Err, IfOk, length, take, drop, get_or, arith, length-append, length-drop, append_assoc}
 use Rattle.std.proofs.lemmas.List.{drop-drop}
 use Rattle.std.proofs.lemmas.Bool.{true≢false}
 use Rattle.std.proofs.Math.Seq.{take-append_seam, drop-append_seam}
@@ -11,18 +11,18 @@ use Rattle.template_text.specs.declared.scan.Found.{Found}
 use Rattle.template_text.specs.declared.scan.Found.TheVariants.{Variable, Call}
 use Rattle.template_text.specs.declared.builders.ArgumentsBuilder.{ArgumentsBuilder}
 use Rattle.template_text.specs.declared.builders.TemplateBuilder.{TemplateBuilder}
-use Rattle.template_text.specs.Pieces.{Reference, variable, call, Pieces, no_more, text, reference, Arguments, no_arguments, argument, reference_spelling, nesting, nesting_of_arguments}
+use Rattle.template_text.specs.Pieces.{Reference, variable, call, Pieces, no_more, reference, Arguments, no_arguments, argument, reference_spelling, nesting, nesting_of_arguments}
 use Rattle.template_text.specs.Grammar.{begins_with, opens, IsReference}
-use Rattle.template_text.specs.Scan.{token_of, step_of, follow, put, join, with_byte, inside, table, first_of, first_at, arguments_at, normal, shape, pieces_from, reading, found_length, AreFound}
+use Rattle.template_text.specs.Scan.{token_of, step_of, follow, put, join, with_byte, inside, table, first_at, arguments_at, normal, shape, pieces_from, reading, found_length, AreFound}
 use Rattle.template_text.specs.Builders.{joined, joined_arguments}
-use Rattle.template_text.proofs.Before.{reference_before, arguments_before}
+use Rattle.template_text.proofs.Before.{arguments_before}
 use Rattle.template_text.proofs.Tokens.{TokenIs, token_is, inside_step, inside_ends}
 use Rattle.template_text.proofs.Standing.{Stands}
-use Rattle.template_text.proofs.Inside.{StartsWith, Reads, none_some, some_same, map_some, reference_some, drop_less, inside_sound, inside_complete}
+use Rattle.template_text.proofs.Inside.{StartsWith, none_some, map_some, reference_some, drop_less, inside_sound, inside_complete}
 use Rattle.template_text.proofs.Names.{all_sound, all_complete, normal_same}
 use Rattle.template_text.proofs.Readings.{pieces_byte, pieces_reference}
 use Rattle.template_text.proofs.Table.{found_here, found_drop, found_length-same, shape_length, reference_within}
-use Rattle.template_text.proofs.Extents.{first_none, arguments_move, arguments_end, arguments_fail, arguments_nowhere}
+use Rattle.template_text.proofs.Extents.{first_none, arguments_move, arguments_end, arguments_fail}
 
 map_both : {A B C : Type 0} (f : B → C) (g : A → B) (h : A → C) (x : Option A) → ((a : A) → f (g a) ≡ h a) → option_map f (option_map g x) ≡ option_map h x
 map_both f g h None e = refl
@@ -42,9 +42,9 @@ pub build_token : (s rest : List ℕ) (old new : ArgumentsBuilder) (at u n m : �
     → x ≡ option_map (joined_arguments new) (arguments_at (drop (at + n) s) m)
 build_token s rest old new at u n m x e f h g l p =
     f ∙ (ap (λ w. option_map (joined_arguments old) (arguments_at w u)) (sym e)
-      ∙ (ap (option_map (joined_arguments old)) (arguments_move rest u n m h g l)
-        ∙ (map_both (joined_arguments old) (put (token_of rest) (first_at rest)) (joined_arguments new) (arguments_at (drop n rest) m) (λ a. sym (p a))
-          ∙ ap (λ w. option_map (joined_arguments new) (arguments_at w m)) (ap (drop n) e ∙ drop-drop n at s))))
+    ∙ (ap (option_map (joined_arguments old)) (arguments_move rest u n m h g l)
+    ∙ (map_both (joined_arguments old) (put (token_of rest) (first_at rest)) (joined_arguments new) (arguments_at (drop n rest) m) (λ a. sym (p a))
+    ∙ ap (λ w. option_map (joined_arguments new) (arguments_at w m)) (ap (drop n) e ∙ drop-drop n at s))))
 
 start_is : (t : Token) (c : ℕ) (s : List ℕ) → TokenIs t c s → opens (c ∷ s) ≡ true → t ≡ Start
 start_is Open c s is o = absurd (true≢false (sym o ∙ ap (λ w. opens (w ∷ s)) is))
@@ -109,9 +109,13 @@ variable_go s l (variable n) e f =
     let h : StartsWith s (variable n) = starts s (variable n) e in
     let long : l ≡ length n + 3 = variable_long n l f in
     let k : l - 3 ≡ length n = omega arith in
-    record { name = n; first = e; long = long;
+    record {
+      name = n;
+      first = e;
+      long = long;
       within = omega (arith, ap length h.spelled, length-append n (125 ∷ h.rest));
-      there = ap (λ m. take m (drop 2 s)) k ∙ (ap (λ w. take (length n) (drop 2 w)) h.spelled ∙ take-append_seam n (125 ∷ h.rest)) }
+      there = ap (λ m. take m (drop 2 s)) k ∙ (ap (λ w. take (length n) (drop 2 w)) h.spelled ∙ take-append_seam n (125 ∷ h.rest));
+    }
 
 pub variable_there : (s : List ℕ) (l : ℕ) → option_map shape (first_at s) ≡ Some (Variable l) → VariableThere s l
 variable_there s l e =
@@ -127,7 +131,7 @@ arguments_there v rest m no_arguments right low e =
 arguments_there v rest m (argument ps more) right low e =
     let shallow : nesting_of_arguments (argument ps more) ≤ 16 = omega (arith, low) in
     let h : arguments_at v 0 ≡ Some (argument ps more) =
-      inside_complete v (all_complete v) 0 0 ps more (record { right = right.2; closed = right.3; rest = rest; spelled = e }) shallow in
+    inside_complete v (all_complete v) 0 0 ps more (record { right = right.2; closed = right.3; rest = rest; spelled = e }) shallow in
     (ap is_some h, ap (option_map normal) h ∙ ap Some (normal_same (argument ps more) right.1))
 
 call_go : (s : List ℕ) (k l d : ℕ) (r : Reference) → first_at s ≡ Some r → shape r ≡ Call k l d → CallThere s k
@@ -138,14 +142,20 @@ call_go s k l d (call m args) e f =
     let long : k ≡ length m = call_long m args k l d f in
     let count : k + 5 ≡ 4 + length (m ++ 40 ∷ []) = omega (arith, long, length-append m (40 ∷ [])) in
     let behind : drop (k + 5) s ≡ v =
-      ap (λ n. drop n s) count ∙ (ap (drop (4 + length (m ++ 40 ∷ []))) h.spelled ∙ (sym (drop-drop (length (m ++ 40 ∷ [])) 4 (36 ∷ 123 ∷ 95 ∷ 95 ∷ (m ++ 40 ∷ v)))
-        ∙ (ap (drop (length (m ++ 40 ∷ []))) (sym (append_assoc m (40 ∷ []) v)) ∙ drop-append_seam (m ++ 40 ∷ []) v))) in
+    ap (λ n. drop n s) count ∙ (ap (drop (4 + length (m ++ 40 ∷ []))) h.spelled ∙ (sym (drop-drop (length (m ++ 40 ∷ [])) 4 (36 ∷ 123 ∷ 95 ∷ 95 ∷ (m ++ 40 ∷ v)))
+    ∙ (ap (drop (length (m ++ 40 ∷ []))) (sym (append_assoc m (40 ∷ []) v)) ∙ drop-append_seam (m ++ 40 ∷ []) v))) in
     let there : IsSome (arguments_at (drop (k + 5) s) 0) × (option_map normal (arguments_at (drop (k + 5) s) 0) ≡ Some args) =
-      arguments_there (drop (k + 5) s) h.rest m args h.right h.shallow behind in
-    record { name = m; args = args; first = e; long = long;
+    arguments_there (drop (k + 5) s) h.rest m args h.right h.shallow behind in
+    record {
+      name = m;
+      args = args;
+      first = e;
+      long = long;
       within = omega (arith, ap length h.spelled, length-append m (40 ∷ v));
       there = ap (λ n. take n (drop 4 s)) long ∙ (ap (λ w. take (length m) (drop 4 w)) h.spelled ∙ take-append_seam m (40 ∷ v));
-      some = there.0; same = there.1 }
+      some = there.0;
+      same = there.1;
+    }
 
 pub call_there : (s : List ℕ) (k l d : ℕ) → option_map shape (first_at s) ≡ Some (Call k l d) → CallThere s k
 call_there s k l d e =
@@ -170,7 +180,7 @@ pub reading_byte : (s : List ℕ) (at : ℕ) (old new : TemplateBuilder) (x : Pi
 reading_byte s at old new x h none e p =
     let here : drop at s ≡ get_or s at 0 ∷ drop (at + 1) s = get_first at s h in
     e ∙ (ap (λ w. joined old (reading w)) here
-      ∙ (ap (joined old) (pieces_byte (get_or s at 0) (drop (at + 1) s) (ap first_at (sym here) ∙ none)) ∙ sym (p (reading (drop (at + 1) s)))))
+    ∙ (ap (joined old) (pieces_byte (get_or s at 0) (drop (at + 1) s) (ap first_at (sym here) ∙ none)) ∙ sym (p (reading (drop (at + 1) s)))))
 
 reading_more : (u : List ℕ) (r : Reference) → first_at u ≡ Some r → reading u ≡ reference r (reading (drop (length (reference_spelling r)) u))
 reading_more [] r e = absurd (none_some r e)
@@ -181,7 +191,7 @@ pub reading_reference : (s : List ℕ) (at n : ℕ) (old new : TemplateBuilder) 
     → ((more : Pieces) → joined new more ≡ joined old (reference r more)) → x ≡ joined new (reading (drop (at + n) s))
 reading_reference s at n old new r x some long e p =
     e ∙ (ap (joined old) (reading_more (drop at s) r some)
-      ∙ (ap (λ w. joined old (reference r (reading w))) (ap (λ k. drop k (drop at s)) (sym long) ∙ drop-drop n at s) ∙ sym (p (reading (drop (at + n) s)))))
+    ∙ (ap (λ w. joined old (reference r (reading w))) (ap (λ k. drop k (drop at s)) (sym long) ∙ drop-drop n at s) ∙ sym (p (reading (drop (at + n) s)))))
 
 pub some_inside : (s : List ℕ) (o : ℕ) → IsSome (arguments_at s o) → 0 < length s
 unfolding inside
@@ -229,7 +239,7 @@ close_normal (c ∷ s) e h =
     let b : Bool = begins_with 125 s in
     let q : Option Reference = first_at (c ∷ s) in
     let same : arguments_at (c ∷ s) 0 ≡ follow Close q (step_of Close q b 0) (λ k m. inside s (table s) k m) =
-      inside_step c s 0 ∙ ap (λ t. follow t q (step_of t q b 0) (λ k m. inside s (table s) k m)) (sym e) in
+    inside_step c s 0 ∙ ap (λ t. follow t q (step_of t q b 0) (λ k m. inside s (table s) k m)) (sym e) in
     ap (option_map normal) same ∙ close_go s q b (sym (ap is_some same) ∙ h)
 
 ends_close : (s : List ℕ) (a : Arguments) → arguments_at s 0 ≡ Some a → a ≡ argument no_more no_arguments → Close ≡ token_of s
@@ -256,8 +266,12 @@ pub place_there : (s rest : List ℕ) (found places : List (Option Found)) (at :
 place_there s rest found places at e h r p =
     let all : AreFound rest places = rw (r, p) (found_drop at s found e) in
     let some : 0 < length rest = omega (arith, ap length r, length-drop at s) in
-    record { found = all; some = some; first = omega (arith, found_length-same rest places all);
-      here = λ x g. found_here rest places x all some (sym g) }
+    record {
+      found = all;
+      some = some;
+      first = omega (arith, found_length-same rest places all);
+      here = λ x g. found_here rest places x all some (sym g);
+    }
 
 -- a reference at a place of the text
 pub record ReferenceThere (s : List ℕ) (at : ℕ) (first : Found) : Type 0 where
@@ -272,9 +286,13 @@ reference_there s rest at first h r e =
     let p : (f : Reference) × ((first_at rest ≡ Some f) × (shape f ≡ first)) = map_some shape (first_at rest) first e in
     let there : first_at (drop at s) ≡ Some p.0 = ap first_at (sym r) ∙ p.1.0 in
     let long : found_length first ≡ length (reference_spelling p.0) = ap found_length (sym p.1.1) ∙ shape_length p.0 in
-    record { r = p.0; there = there; long = long;
+    record {
+      r = p.0;
+      there = there;
+      long = long;
       within = omega (arith, long, reference_within (drop at s) p.0 there, length-drop at s);
-      some = omega (arith, long, reference_some p.0) }
+      some = omega (arith, long, reference_some p.0);
+    }
 
 pub reading_end : (s : List ℕ) (at : ℕ) → length s ≤ at → reading (drop at s) ≡ no_more
 reading_end s at h = reading_nothing (drop at s) (omega (arith, length-drop at s))

@@ -4,16 +4,14 @@ use Rattle.std.proofs.lemmas.Bool.{ne_eqb}
 use Rattle.std.proofs.lemmas.List.{drop-drop}
 use Rattle.template_text.specs.declared.scan.Token.{Token}
 use Rattle.template_text.specs.declared.scan.Token.TheVariants.{Open, Close, Separator, Comma, Start, Byte}
-use Rattle.template_text.specs.declared.scan.Step.{Step}
 use Rattle.template_text.specs.declared.scan.Step.TheVariants.{Ends, Fails, Goes}
-use Rattle.template_text.specs.declared.scan.Found.{Found}
 use Rattle.template_text.specs.declared.scan.Extent.{Extent}
-use Rattle.template_text.specs.Pieces.{Reference, variable, call, Pieces, no_more, text, reference, Arguments, no_arguments, argument, escaped, reference_spelling, arguments_spelling, argument_spelling, further_spelling, nesting, nesting_of_arguments, nesting_of_pieces}
+use Rattle.template_text.specs.Pieces.{Reference, variable, call, Pieces, no_more, text, reference, Arguments, no_arguments, argument, escaped, reference_spelling, arguments_spelling, argument_spelling, further_spelling, nesting, nesting_of_arguments}
 use Rattle.template_text.specs.Grammar.{opens, begins_with}
-use Rattle.template_text.specs.Scan.{token_of, step_of, follow, put, add, join, with_byte, inside, table, first_at, arguments_at, shape, extent_of, extent_behind, first_of, found_depth, found_nesting, AreFound}
-use Rattle.template_text.proofs.Tokens.{IsByte, TokenIs, token_is, inside_step}
+use Rattle.template_text.specs.Scan.{token_of, step_of, follow, put, add, with_byte, inside, table, first_at, arguments_at, shape, extent_of, extent_behind, first_of, found_depth, found_nesting}
+use Rattle.template_text.proofs.Tokens.{TokenIs, token_is, inside_step}
 use Rattle.template_text.proofs.Standing.{nesting-with_byte}
-use Rattle.template_text.proofs.Inside.{none_some, some_same, map_some, reference_some, AllSound, Reads, inside_sound, drop_less}
+use Rattle.template_text.proofs.Inside.{none_some, Reads, inside_sound, drop_less}
 use Rattle.template_text.proofs.Names.{all_sound}
 
 -- behind k bytes of the text the arguments are those at the place k bytes on
@@ -29,7 +27,7 @@ pub arguments_move : (s : List ℕ) (o n m : ℕ) → 0 < length s → Goes n m 
 arguments_move [] o n m h e l = absurd (omega arith)
 arguments_move (c ∷ s) o n m h e l =
     inside_step c s o ∙ (ap (λ w. follow (token_of (c ∷ s)) (first_at (c ∷ s)) w (λ k p. inside s (table s) k p)) (sym e)
-      ∙ ap (option_map (put (token_of (c ∷ s)) (first_at (c ∷ s)))) (inside_drop (n - 1) s m ∙ ap (λ w. arguments_at w m) (drop_less n c s l)))
+    ∙ ap (option_map (put (token_of (c ∷ s)) (first_at (c ∷ s)))) (inside_drop (n - 1) s m ∙ ap (λ w. arguments_at w m) (drop_less n c s l)))
 
 pub arguments_end : (s : List ℕ) (o : ℕ) → 0 < length s → Ends ≡ step_of (token_of s) (first_at s) (begins_with 125 (drop 1 s)) o
     → arguments_at s o ≡ Some (argument no_more no_arguments)
@@ -71,8 +69,13 @@ spelled-with_byte c (reference r m) = refl
 
 length-add : (c : ℕ) (ps : Pieces) (more : Arguments) → length (arguments_spelling (add c (argument ps more))) ≡ length (escaped (c ∷ [])) + length (arguments_spelling (argument ps more))
 length-add c ps more =
-    omega (arith, length-append (argument_spelling (with_byte c ps)) (further_spelling more), ap length (spelled-with_byte c ps),
-      length-append (escaped (c ∷ [])) (argument_spelling ps), length-append (argument_spelling ps) (further_spelling more))
+    omega (
+      arith,
+      length-append (argument_spelling (with_byte c ps)) (further_spelling more),
+      ap length (spelled-with_byte c ps),
+      length-append (escaped (c ∷ [])) (argument_spelling ps),
+      length-append (argument_spelling ps) (further_spelling more),
+    )
 
 nesting-add : (c : ℕ) (ps : Pieces) (more : Arguments) → nesting_of_arguments (add c (argument ps more)) ≡ nesting_of_arguments (argument ps more)
 nesting-add c ps more = ap (λ n. max n (nesting_of_arguments more)) (nesting-with_byte c ps)
@@ -87,11 +90,11 @@ goes_length n m k o e = cc
 abbrev Moves : Token → Option Reference → ℕ → Pieces → Arguments → Type 0
 Moves t q n ps more =
     (length (arguments_spelling (put t q (argument ps more))) ≡ n + length (arguments_spelling (argument ps more)))
-      × (nesting_of_arguments (put t q (argument ps more)) ≡ max (found_nesting (option_map shape q)) (nesting_of_arguments (argument ps more)))
+    × (nesting_of_arguments (put t q (argument ps more)) ≡ max (found_nesting (option_map shape q)) (nesting_of_arguments (argument ps more)))
 
 moves_byte : (c n k : ℕ) (ps : Pieces) (more : Arguments) → n ≡ length (escaped (c ∷ [])) →
     (length (arguments_spelling (add c (argument ps more))) ≡ n + length (arguments_spelling (argument ps more)))
-      × (nesting_of_arguments (add c (argument ps more)) ≡ max 0 (nesting_of_arguments (argument ps more)))
+    × (nesting_of_arguments (add c (argument ps more)) ≡ max 0 (nesting_of_arguments (argument ps more)))
 moves_byte c n k ps more e = (omega (arith, length-add c ps more), omega (arith, nesting-add c ps more))
 
 plain_length : (c : ℕ) → c ≢ 44 → length (escaped (c ∷ [])) ≡ 1
@@ -109,16 +112,22 @@ moves Open c s q b o n m ps more is none e = subst (λ w. Moves Open w n ps more
 moves Close c s q b o n m ps more is none e = moves_close q b o n m ps more (none (ap (λ w. opens (w ∷ s)) is)) e
 moves Separator c s q b o n m ps more is none e =
     subst (λ w. Moves Separator w n ps more) (sym (none (ap (λ w. opens (w ∷ s)) is)))
-      (omega (arith, goes_length n m 1 o e), omega arith)
+    (omega (arith, goes_length n m 1 o e), omega arith)
 moves Comma c s q b o n m ps more is none e = subst (λ w. Moves Comma w n ps more) (sym (none (ap (λ w. opens (w ∷ s)) is.0))) (moves_byte 44 n 0 ps more (goes_length n m 2 o e))
 moves Start c s None b o n m ps more is none e = absurd (not_goes_fails n m e)
-moves Start c s (Some r) b o n m ps more is none e =
-    (omega (arith, goes_length n m (length (reference_spelling r)) o e, length-append (reference_spelling r ++ argument_spelling ps) (further_spelling more),
-        length-append (reference_spelling r) (argument_spelling ps), length-append (argument_spelling ps) (further_spelling more)),
-      omega (arith, shape_depth r))
+moves Start c s (Some r) b o n m ps more is none e = (
+  omega (
+    arith,
+    goes_length n m (length (reference_spelling r)) o e,
+    length-append (reference_spelling r ++ argument_spelling ps) (further_spelling more),
+    length-append (reference_spelling r) (argument_spelling ps),
+    length-append (argument_spelling ps) (further_spelling more),
+  ),
+  omega (arith, shape_depth r),
+)
 moves (Byte d) c s q b o n m ps more is none e =
     subst (λ w. Moves (Byte d) w n ps more) (sym (none is.1.not_start))
-      (moves_byte d n 0 ps more (goes_length n m 1 o e ∙ sym (plain_length d (λ f. is.1.not_comma (sym is.0 ∙ f)))))
+    (moves_byte d n 0 ps more (goes_length n m 1 o e ∙ sym (plain_length d (λ f. is.1.not_comma (sym is.0 ∙ f)))))
 
 -- arguments are there where some are read: at least one, which may be empty
 not_none : (s : List ℕ) (o : ℕ) → arguments_at s o ≡ Some no_arguments → ⊥
@@ -140,8 +149,8 @@ pub extent_move : (s : List ℕ) (o n m at depth k : ℕ) → 0 < length s → G
 extent_move [] o n m at depth k h e l f = absurd (omega arith)
 extent_move (c ∷ s) o n m at depth k h e l f =
     ap (option_map (extent_behind at depth)) (arguments_move (c ∷ s) o n m h e l)
-      ∙ extents at depth n k (token_of (c ∷ s)) (first_at (c ∷ s)) (arguments_at (drop n (c ∷ s)) m) (not_none (drop n (c ∷ s)) m)
-          (λ ps more. moves (token_of (c ∷ s)) c s (first_at (c ∷ s)) (begins_with 125 s) o n m ps more (token_is c s) (first_none c s) e) f
+    ∙ extents at depth n k (token_of (c ∷ s)) (first_at (c ∷ s)) (arguments_at (drop n (c ∷ s)) m) (not_none (drop n (c ∷ s)) m)
+    (λ ps more. moves (token_of (c ∷ s)) c s (first_at (c ∷ s)) (begins_with 125 s) o n m ps more (token_is c s) (first_none c s) e) f
 
 same_some : (x : Option Arguments) → option_map (extent_behind 0 0) x ≡ option_map extent_of x
 same_some None = refl
@@ -172,8 +181,8 @@ pub loop_extent : (s rest : List ℕ) (at o n m depth k : ℕ) (x : Option Exten
     → x ≡ option_map (extent_behind (at + n) (max depth k)) (arguments_at (drop (at + n) s) m)
 loop_extent s rest at o n m depth k x e f h g l d =
     f ∙ (ap (λ w. option_map (extent_behind at depth) (arguments_at w o)) (sym e)
-      ∙ (extent_move rest o n m at depth k h g l d
-        ∙ ap (λ w. option_map (extent_behind (at + n) (max depth k)) (arguments_at w m)) (ap (drop n) e ∙ drop-drop n at s)))
+    ∙ (extent_move rest o n m at depth k h g l d
+    ∙ ap (λ w. option_map (extent_behind (at + n) (max depth k)) (arguments_at w m)) (ap (drop n) e ∙ drop-drop n at s)))
 
 pub loop_end : (s rest : List ℕ) (at o depth : ℕ) (x : Option Extent) → rest ≡ drop at s → x ≡ option_map (extent_behind at depth) (arguments_at (drop at s) o) → 0 < length rest
     → Ends ≡ step_of (token_of rest) (first_at rest) (begins_with 125 (drop 1 rest)) o → Some (record { length = at; depth = depth }) ≡ x

@@ -1,9 +1,8 @@
 -- The reference that begins a text, by its name and what follows the name.
-use Rattle.std.proofs.Common.{◌≡◌, ℕ, zero, suc, ◌+◌, ◌-◌, ◌<◌, ◌≤◌, List, [], ◌∷◌, ◌++◌, ◌==◌, if◌then◌else◌, refl, sym, ◌∙◌, ap, subst, Bool, true, false, Option, Some, None, length, take, drop, get_or, set, map, option_map, arith}
+use Rattle.std.proofs.Common.{◌≡◌, ℕ, zero, suc, ◌<◌, ◌≤◌, List, [], ◌∷◌, ◌==◌, if◌then◌else◌, refl, sym, ◌∙◌, ap, true, false, Option, None, length, take, drop, get_or, set, map, option_map, arith}
 use Rattle.std.proofs.lemmas.Bool.{true≢false}
 use Rattle.std.proofs.Math.Seq.{drop-length}
 use Rattle.template_text.specs.declared.scan.Found.{Found}
-use Rattle.template_text.specs.Pieces.{Reference}
 use Rattle.template_text.specs.Grammar.{begins_with, opens}
 use Rattle.template_text.specs.Scan.{table, first_of, first_at, arguments_at, name_length, named, call_of, shape, AreFound}
 use Rattle.template_text.proofs.Tokens.{and_first}
@@ -37,7 +36,7 @@ first_opened [] e = absurd (true≢false (sym e))
 first_opened (c ∷ s) e =
     let n : ℕ = name_length (drop 1 s) in
     ap (λ b. if b then named (take n (drop 1 s)) (drop n (drop 1 s)) (drop n (drop 1 (table s))) else None) e
-      ∙ ap (named (take n (drop 1 s)) (drop n (drop 1 s))) (opened s n)
+    ∙ ap (named (take n (drop 1 s)) (drop n (drop 1 s))) (opened s n)
 
 -- a place more, on the left
 pub place_more : (s : List ℕ) (f : List (Option Found)) (a : ℕ) (x : Option Found) → a < length s → length f ≡ length s → AreFound (drop (suc a) s) (drop (suc a) f)

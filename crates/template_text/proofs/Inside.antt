@@ -1,15 +1,14 @@
 -- What the scanner takes for the arguments at a place stands there, and it takes what stands there.
-use Rattle.std.proofs.Common.{◌≡◌, ◌≢◌, ℕ, zero, suc, ◌+◌, ◌-◌, ◌<◌, ◌≤◌, List, [], ◌∷◌, ◌++◌, ◌==◌, ◌&&◌, if◌then◌else◌, refl, sym, ◌∙◌, ap, subst, Bool, true, false, Option, Some, None, option_map, length, drop, max, arith}
-use Rattle.std.proofs.lemmas.Bool.{eqb-true, eqb-false, eq-eqb, ne_eqb, true≢false}
-use Rattle.std.proofs.Math.Bool.{and-false}
+use Rattle.std.proofs.Common.{◌≡◌, ◌≢◌, ℕ, zero, suc, ◌-◌, ◌<◌, ◌≤◌, List, [], ◌∷◌, ◌++◌, ◌==◌, if◌then◌else◌, refl, sym, ◌∙◌, ap, subst, Bool, true, false, Option, Some, None, option_map, length, drop, max, arith}
+use Rattle.std.proofs.lemmas.Bool.{eqb-true, eqb-false, ne_eqb, true≢false}
 use Rattle.std.proofs.Math.Seq.{drop-append_seam}
 use Rattle.template_text.specs.declared.scan.Token.{Token}
 use Rattle.template_text.specs.declared.scan.Token.TheVariants.{Open, Close, Separator, Comma, Start, Byte}
 use Rattle.template_text.specs.Pieces.{Reference, variable, call, Pieces, no_more, text, reference, Arguments, no_arguments, argument, reference_spelling, nesting, nesting_of_pieces, nesting_of_arguments}
-use Rattle.template_text.specs.Grammar.{begins_with, opens, open_after, plain_text_of_arguments, IsReference, AreArguments}
-use Rattle.template_text.specs.Scan.{token_of, step_of, follow, put, add, join, with_byte, inside, table, first_at}
+use Rattle.template_text.specs.Grammar.{begins_with, open_after, plain_text_of_arguments, IsReference, AreArguments}
+use Rattle.template_text.specs.Scan.{token_of, step_of, follow, add, join, inside, table, first_at}
 use Rattle.template_text.proofs.Before.{escaped_before, reference_before, arguments_before, further_before, argument_before, reference-before}
-use Rattle.template_text.proofs.Tokens.{IsByte, TokenIs, token_is, inside_step, inside_ends, inside_open, inside_close, inside_separator, inside_comma, inside_byte, inside_reference}
+use Rattle.template_text.proofs.Tokens.{TokenIs, token_is, inside_step, inside_ends, inside_open, inside_close, inside_separator, inside_comma, inside_byte, inside_reference}
 use Rattle.template_text.proofs.Standing.{Stands, MayPrecede, Peeled, peel, not_empty, stands-with_byte, nesting-with_byte}
 
 -- the reference begins the text
@@ -73,8 +72,11 @@ sound_separator o u (argument qs more) s = record { right = (tt, (λ e. cc), s.r
 sound_join : (o : ℕ) (s : List ℕ) (r : Reference) (z : Arguments) → StartsWith s r → Reads (drop (length (reference_spelling r)) s) o z → Reads s o (join (Some r) z)
 sound_join o s r no_arguments h t = t
 sound_join o s r (argument ps more) h t = record {
-    right = ((h.right, t.right.0), t.right.1, t.right.2); closed = t.closed; rest = t.rest;
-    spelled = h.spelled ∙ ap (reference_before r) (sym (starts_drop s r h) ∙ t.spelled) }
+  right = ((h.right, t.right.0), t.right.1, t.right.2);
+  closed = t.closed;
+  rest = t.rest;
+  spelled = h.spelled ∙ ap (reference_before r) (sym (starts_drop s r h) ∙ t.spelled);
+}
 
 closes_here : (s : List ℕ) → begins_with 125 s ≡ true → Reads (41 ∷ s) 0 (argument no_more no_arguments)
 closes_here [] e = true_false (sym e)
@@ -121,7 +123,7 @@ sound_token Start c s o (Some r) is begun next args e =
 sound_token (Byte d) c s o q is begun next args e =
     let m : (z : Arguments) × ((inside s (table s) 0 o ≡ Some z) × (add d z ≡ args)) = map_some (add d) (inside s (table s) 0 o) args e in
     let there : Reads (c ∷ s) o (add c m.0) = sound_add c o o s (c ∷ s) m.0 (escaped_byte c s is.1.not_comma)
-        (record { not_start = is.1.not_start; not_escape = is.1.not_escape }) (λ t. balance_byte c o t is.1.not_open is.1.not_close) (next 0 o m.0 m.1.0) in
+    (record { not_start = is.1.not_start; not_escape = is.1.not_escape }) (λ t. balance_byte c o t is.1.not_open is.1.not_close) (next 0 o m.0 m.1.0) in
     subst (Reads (c ∷ s) o) (ap (λ w. add w m.0) (sym is.0) ∙ m.1.1) there
 
 pub inside_sound : (s : List ℕ) → AllSound s → (k o : ℕ) (args : Arguments) → inside s (table s) k o ≡ Some args → Reads (drop k s) o args
@@ -157,13 +159,13 @@ take_byte : (d o : ℕ) (u : List ℕ) (args : Arguments) (a b : Bool) → (d ==
     → ((m : ℕ) → open_after m (plain_text_of_arguments args) ≡ Some 0 → Taken u m args) → Taken (d ∷ u) o (add d args)
 take_byte d o u args true b i j n h e go =
     subst (λ w. Taken (w ∷ u) o (add w args)) (sym (eqb-true d 40 i))
-      (inside_open u args o (go (suc o) (subst (λ w. open_after o (w ∷ plain_text_of_arguments args) ≡ Some 0) (eqb-true d 40 i) e)))
+    (inside_open u args o (go (suc o) (subst (λ w. open_after o (w ∷ plain_text_of_arguments args) ≡ Some 0) (eqb-true d 40 i) e)))
 take_byte d o u args false true i j n h e go =
     subst (λ w. Taken (w ∷ u) o (add w args)) (sym (eqb-true d 41 j))
-      (take_close o u args (subst (λ w. open_after o (w ∷ plain_text_of_arguments args) ≡ Some 0) (eqb-true d 41 j) e) go)
+    (take_close o u args (subst (λ w. open_after o (w ∷ plain_text_of_arguments args) ≡ Some 0) (eqb-true d 41 j) e) go)
 take_byte d o u args false false i j n h e go =
     inside_byte u args d o (record { not_open = eqb-false d 40 i; not_close = eqb-false d 41 j; not_comma = n; not_escape = h.not_escape; not_start = h.not_start })
-      (go o (sym (balance_byte d o (plain_text_of_arguments args) (eqb-false d 40 i) (eqb-false d 41 j)) ∙ e))
+    (go o (sym (balance_byte d o (plain_text_of_arguments args) (eqb-false d 40 i) (eqb-false d 41 j)) ∙ e))
 
 take_peeled : (c d o : ℕ) (s u : List ℕ) (ps : Pieces) (more : Arguments) (a : Bool) → (d == 44) ≡ a → c ∷ s ≡ (if a then 92 ∷ 44 ∷ u else d ∷ u) → MayPrecede d u
     → AreArguments (argument ps more) → open_after o (d ∷ plain_text_of_arguments (argument ps more)) ≡ Some 0 → (rest : List ℕ) → u ≡ arguments_before (argument ps more) (41 ∷ 125 ∷ rest)
@@ -172,11 +174,11 @@ take_peeled c d o s u ps more true i e h right closed rest there shallow takes =
     let is : d ≡ 44 = eqb-true d 44 i in
     let balance : open_after o (plain_text_of_arguments (argument ps more)) ≡ Some 0 = subst (λ w. open_after o (w ∷ plain_text_of_arguments (argument ps more)) ≡ Some 0) is closed in
     subst (λ w. Taken w o (add d (argument ps more))) (sym e) (subst (λ w. Taken (92 ∷ 44 ∷ u) o (add w (argument ps more))) (sym is)
-      (inside_comma u (argument ps more) o (takes_tail c 92 s (44 ∷ u) e takes 1 o ps more (record { right = right; closed = balance; rest = rest; spelled = there }) shallow)))
+    (inside_comma u (argument ps more) o (takes_tail c 92 s (44 ∷ u) e takes 1 o ps more (record { right = right; closed = balance; rest = rest; spelled = there }) shallow)))
 take_peeled c d o s u ps more false i e h right closed rest there shallow takes =
     subst (λ w. Taken w o (add d (argument ps more))) (sym e)
-      (take_byte d o u (argument ps more) (d == 40) (d == 41) refl refl (eqb-false d 44 i) h closed
-        (λ m f. takes_tail c d s u e takes 0 m ps more (record { right = right; closed = f; rest = rest; spelled = there }) shallow))
+    (take_byte d o u (argument ps more) (d == 40) (d == 41) refl refl (eqb-false d 44 i) h closed
+    (λ m f. takes_tail c d s u e takes 0 m ps more (record { right = right; closed = f; rest = rest; spelled = there }) shallow))
 
 before_reference : (r : Reference) (u : List ℕ) → (v : List ℕ) × (reference_before r u ≡ 36 ∷ 123 ∷ v)
 before_reference (variable n) u = (n ++ 125 ∷ u, refl)
@@ -190,31 +192,31 @@ take_reference c o s u v r ps more e f first stands shallow takes =
     let behind : drop (n - 1) s ≡ u = drop_less n c s (reference_some r) ∙ (ap (drop n) (e ∙ sym (reference-before r u)) ∙ drop-append_seam (reference_spelling r) u) in
     let here : drop (n - 1) (123 ∷ v) ≡ u = subst (λ w. drop (n - 1) w ≡ u) (tail_same c 36 s (123 ∷ v) all) behind in
     subst (λ w. Taken w o (join (Some r) (argument ps more))) (sym all)
-      (inside_reference v (argument ps more) r o (subst (λ w. first_at w ≡ Some r) all first)
-        (takes_tail c 36 s (123 ∷ v) all takes (n - 1) o ps more (subst (λ w. Stands w o ps more) (sym here) stands) shallow))
+    (inside_reference v (argument ps more) r o (subst (λ w. first_at w ≡ Some r) all first)
+    (takes_tail c 36 s (123 ∷ v) all takes (n - 1) o ps more (subst (λ w. Stands w o ps more) (sym here) stands) shallow))
 
 take_here : (c o : ℕ) (s : List ℕ) (ps : Pieces) (more : Arguments) → Complete (c ∷ s) → Takes s → Stands (c ∷ s) o ps more → nesting_of_arguments (argument ps more) ≤ 16
     → Taken (c ∷ s) o (argument ps more)
 take_here c o s no_more no_arguments complete takes h shallow =
     subst (λ w. Taken w o (argument no_more no_arguments)) (sym h.spelled)
-      (subst (λ m. Taken (41 ∷ 125 ∷ h.rest) m (argument no_more no_arguments)) (sym (some_same h.closed)) (inside_ends h.rest))
+    (subst (λ m. Taken (41 ∷ 125 ∷ h.rest) m (argument no_more no_arguments)) (sym (some_same h.closed)) (inside_ends h.rest))
 take_here c o s no_more (argument qs more) complete takes h shallow =
     let u : List ℕ = arguments_before (argument qs more) (41 ∷ 125 ∷ h.rest) in
     subst (λ w. Taken w o (argument no_more (argument qs more))) (sym h.spelled)
-      (inside_separator u (argument qs more) o (takes_tail c 44 s u h.spelled takes 0 o qs more (record { right = h.right.2; closed = h.closed; rest = h.rest; spelled = refl }) (omega arith)))
+    (inside_separator u (argument qs more) o (takes_tail c 44 s u h.spelled takes 0 o qs more (record { right = h.right.2; closed = h.closed; rest = h.rest; spelled = refl }) (omega arith)))
 take_here c o s (text [] m) more complete takes h shallow = absurd (h.right.0.0.some refl)
 take_here c o s (text (d ∷ t) m) more complete takes h shallow =
     let p : Peeled d o (c ∷ s) (text (d ∷ t) m) more = peel d o t (c ∷ s) m more h in
     let same : nesting_of_pieces p.pieces ≡ nesting_of_pieces (text (d ∷ t) m) = sym (nesting-with_byte d p.pieces) ∙ ap nesting_of_pieces p.back in
     take_peeled c d o s p.after p.pieces more (d == 44) refl p.spelled p.precedes p.right p.closed p.rest p.there
-      (subst (λ n. max n (nesting_of_arguments more) ≤ 16) (sym same) shallow) takes
-      ∙ ap (λ w. Some (argument w more)) p.back
+    (subst (λ n. max n (nesting_of_arguments more) ≤ 16) (sym same) shallow) takes
+    ∙ ap (λ w. Some (argument w more)) p.back
 take_here c o s (reference r m) more complete takes h shallow =
     let u : List ℕ = argument_before m (further_before more (41 ∷ 125 ∷ h.rest)) in
     let b : (v : List ℕ) × (reference_before r u ≡ 36 ∷ 123 ∷ v) = before_reference r u in
     take_reference c o s u b.0 r m more h.spelled b.1
-      (complete r (record { right = h.right.0.0; shallow = omega arith; rest = u; spelled = h.spelled }))
-      (record { right = (h.right.0.1, h.right.1, h.right.2); closed = h.closed; rest = h.rest; spelled = refl }) (omega arith) takes
+    (complete r (record { right = h.right.0.0; shallow = omega arith; rest = u; spelled = h.spelled }))
+    (record { right = (h.right.0.1, h.right.1, h.right.2); closed = h.closed; rest = h.rest; spelled = refl }) (omega arith) takes
 
 pub drop_nothing : (k : ℕ) → drop {A = ℕ} k [] ≡ []
 drop_nothing zero = refl

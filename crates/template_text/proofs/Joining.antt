@@ -1,5 +1,5 @@
 -- What a builder holds when something was pushed.
-use Rattle.std.proofs.Common.{◌≡◌, ◌≢◌, ℕ, List, [], ◌∷◌, ◌++◌, refl, sym, ◌∙◌, ap, Bool, true, false, Option, Some, None}
+use Rattle.std.proofs.Common.{◌≡◌, ◌≢◌, ℕ, List, [], ◌∷◌, ◌++◌, refl, sym, ◌∙◌, ap, false, Some}
 use Rattle.std.proofs.lemmas.Bool.{true≢false}
 use Rattle.template_text.specs.declared.template.Piece.{Piece}
 use Rattle.template_text.specs.declared.template.Piece.TheVariants.{Text, Var, Call}

@@ -1,16 +1,16 @@
 -- The reference that the scanner finds at a place begins there, and it finds the one that begins there.
-use Rattle.std.proofs.Common.{◌≡◌, ◌≢◌, ℕ, zero, suc, ◌+◌, ◌-◌, ◌<◌, ◌≤◌, List, [], ◌∷◌, ◌++◌, ◌==◌, ◌&&◌, not, if◌then◌else◌, refl, sym, ◌∙◌, ap, subst, Bool, true, false, Option, Some, None, option_and_then, length, take, drop, max, arith, IsTrue, append_assoc}
+use Rattle.std.proofs.Common.{◌≡◌, ◌≢◌, ℕ, zero, suc, ◌≤◌, List, [], ◌∷◌, ◌++◌, ◌==◌, ◌&&◌, not, if◌then◌else◌, refl, sym, ◌∙◌, ap, subst, Bool, true, false, Option, Some, None, option_and_then, length, take, drop, arith, append_assoc}
 use Rattle.std.specs.List.{list_all}
 use Rattle.std.specs.Prelude.{nat_le}
-use Rattle.std.proofs.lemmas.Bool.{eqb-true, eqb-false, eq-eqb, ne_eqb, true≢false, leb-true, le-leb}
+use Rattle.std.proofs.lemmas.Bool.{eqb-true, ne_eqb, true≢false, leb-true, le-leb}
 use Rattle.std.proofs.lemmas.List.{take-append-drop}
 use Rattle.std.proofs.Math.Seq.{drop-append_seam, take-append_seam}
-use Rattle.template_text.specs.Pieces.{Reference, variable, call, Pieces, no_more, text, reference, Arguments, no_arguments, argument, reference_spelling, nesting, nesting_of_arguments}
+use Rattle.template_text.specs.Pieces.{Reference, variable, call, no_more, text, reference, Arguments, no_arguments, argument, nesting, nesting_of_arguments}
 use Rattle.template_text.specs.Grammar.{is_name_byte, is_letter_or_digit, IsName, begins_with, opens, open_after, plain_text_of_arguments, IsReference, AreArguments}
 use Rattle.template_text.specs.Scan.{inside, table, first_at, first_of, name_length, is_empty, call_name, normal, shallow, call_of, named}
 use Rattle.template_text.proofs.Before.{reference_before, arguments_before}
 use Rattle.template_text.proofs.Tokens.{and_first, inside_ends}
-use Rattle.template_text.proofs.Standing.{Stands, not_empty}
+use Rattle.template_text.proofs.Standing.{not_empty}
 use Rattle.template_text.proofs.Inside.{StartsWith, Sound, AllSound, Complete, AllComplete, Reads, none_some, some_same, inside_sound, inside_complete, tail_same}
 
 pub table_drop : (k : ℕ) (s : List ℕ) → drop k (table s) ≡ table (drop k s)
@@ -113,7 +113,8 @@ call_name_go a b n m true e f =
     let same : n ≡ m = some_same f in
     subst (λ w. CallName (a ∷ b ∷ n) w) same (record {
       is = ap (λ w. w ∷ b ∷ n) (eqb-true a 95 p.0) ∙ ap (λ w. 95 ∷ w ∷ n) (eqb-true b 95 q.0);
-      right = record { some = empty_none n r.0; bytes = r.1 } })
+      right = record { some = empty_none n r.0; bytes = r.1 };
+    })
 
 call_name_is : (n m : List ℕ) → call_name n ≡ Some m → CallName n m
 call_name_is [] m e = absurd (none_some m e)
@@ -145,16 +146,18 @@ call_right m s (argument ps more) n h =
 
 call_spelled : (n m s : List ℕ) (a : Arguments) → CallName n m → Reads s 0 a → (rest : List ℕ) × (36 ∷ 123 ∷ (n ++ 40 ∷ s) ≡ reference_before (call m (normal a)) rest)
 call_spelled n m s no_arguments c h = absurd h
-call_spelled n m s (argument ps more) c h =
-    (h.rest, ap (λ w. 36 ∷ 123 ∷ (w ++ 40 ∷ s)) c.is
-      ∙ ap (λ w. 36 ∷ 123 ∷ 95 ∷ 95 ∷ (m ++ 40 ∷ w)) (h.spelled ∙ sym (normal_before (argument ps more) (41 ∷ 125 ∷ h.rest))))
+call_spelled n m s (argument ps more) c h = (
+  h.rest,
+  ap (λ w. 36 ∷ 123 ∷ (w ++ 40 ∷ s)) c.is
+      ∙ ap (λ w. 36 ∷ 123 ∷ 95 ∷ 95 ∷ (m ++ 40 ∷ w)) (h.spelled ∙ sym (normal_before (argument ps more) (41 ∷ 125 ∷ h.rest))),
+)
 
 named_call : (n s : List ℕ) (r : Reference) → AllSound s → call_of n (inside s (table s) 0 0) ≡ Some r → Named n (40 ∷ s) r
 named_call n s r sound e =
     let p : (m : List ℕ) × ((call_name n ≡ Some m) × (option_and_then (λ a. shallow (call m (normal a))) (inside s (table s) 0 0) ≡ Some r)) =
-      then_some (λ m. option_and_then (λ a. shallow (call m (normal a))) (inside s (table s) 0 0)) (call_name n) r e in
+    then_some (λ m. option_and_then (λ a. shallow (call m (normal a))) (inside s (table s) 0 0)) (call_name n) r e in
     let q : (a : Arguments) × ((inside s (table s) 0 0 ≡ Some a) × (shallow (call p.0 (normal a)) ≡ Some r)) =
-      then_some (λ a. shallow (call p.0 (normal a))) (inside s (table s) 0 0) r p.1.1 in
+    then_some (λ a. shallow (call p.0 (normal a))) (inside s (table s) 0 0) r p.1.1 in
     let name : CallName n p.0 = call_name_is n p.0 p.1.0 in
     let reads : Reads s 0 q.0 = inside_sound s sound 0 0 q.0 q.1.0 in
     let is : (call p.0 (normal q.0) ≡ r) × (nesting (call p.0 (normal q.0)) ≤ 16) = shallow_is (call p.0 (normal q.0)) r q.1.1 in
@@ -192,8 +195,12 @@ first_go c s r true o sound e =
     let places : drop n (drop 1 (table s)) ≡ table (drop n inner) = ap (drop n) (table_drop 1 s) ∙ table_drop n inner in
     let f : named (take n inner) (drop n inner) (table (drop n inner)) ≡ Some r = ap (named (take n inner) (drop n inner)) (sym places) ∙ e in
     let h : Named (take n inner) (drop n inner) r = named_sound (take n inner) (drop n inner) r (name_bytes inner) (sound_drop n inner (sound_drop 1 s sound)) f in
-    record { right = h.right; shallow = h.shallow; rest = h.rest;
-      spelled = ap (λ w. w ∷ s) (eqb-true c 36 p.0) ∙ (ap (λ w. 36 ∷ w) (brace_follows s p.1) ∙ (ap (λ w. 36 ∷ 123 ∷ w) (sym (take-append-drop n inner)) ∙ h.spelled)) }
+    record {
+      right = h.right;
+      shallow = h.shallow;
+      rest = h.rest;
+      spelled = ap (λ w. w ∷ s) (eqb-true c 36 p.0) ∙ (ap (λ w. 36 ∷ w) (brace_follows s p.1) ∙ (ap (λ w. 36 ∷ 123 ∷ w) (sym (take-append-drop n inner)) ∙ h.spelled));
+    }
 
 pub first_sound : (c : ℕ) (s : List ℕ) → AllSound s → Sound (c ∷ s)
 unfolding first_of
@@ -213,9 +220,9 @@ first_named n u x h e =
     let front : take (name_length inner) inner ≡ n = ap (λ k. take k inner) long ∙ take-append_seam n (x ∷ u) in
     let back : drop (name_length inner) inner ≡ x ∷ u = ap (λ k. drop k inner) long ∙ drop-append_seam n (x ∷ u) in
     let places : drop (name_length inner) (drop 1 (table (123 ∷ inner))) ≡ table (x ∷ u) =
-      ap (drop (name_length inner)) (table_drop 1 (123 ∷ inner)) ∙ (table_drop (name_length inner) inner ∙ ap table back) in
+    ap (drop (name_length inner)) (table_drop 1 (123 ∷ inner)) ∙ (table_drop (name_length inner) inner ∙ ap table back) in
     ap (λ w. named w (drop (name_length inner) inner) (drop (name_length inner) (drop 1 (table (123 ∷ inner))))) front
-      ∙ (ap (λ w. named n w (drop (name_length inner) (drop 1 (table (123 ∷ inner))))) back ∙ ap (named n (x ∷ u)) places)
+    ∙ (ap (λ w. named n w (drop (name_length inner) (drop 1 (table (123 ∷ inner))))) back ∙ ap (named n (x ∷ u)) places)
 
 complete_variable : (n u : List ℕ) → IsName is_name_byte n → first_at (36 ∷ 123 ∷ (n ++ 125 ∷ u)) ≡ Some (variable n)
 unfolding is_name_byte
@@ -229,8 +236,8 @@ call_taken : (m v : List ℕ) (a args : Arguments) → IsName is_letter_or_digit
     → call_of (95 ∷ 95 ∷ m) (inside v (table v) 0 0) ≡ Some (call m args)
 call_taken m v a args h e f low =
     ap (λ o. option_and_then (λ n. option_and_then (λ b. shallow (call n (normal b))) (inside v (table v) 0 0)) o) (call_name_of m h)
-      ∙ (ap (λ o. option_and_then (λ b. shallow (call m (normal b))) o) e
-        ∙ (ap (λ w. shallow (call m w)) f ∙ ap (λ b. if b then Some (call m args) else None) (le-leb (nesting (call m args)) 16 low)))
+    ∙ (ap (λ o. option_and_then (λ b. shallow (call m (normal b))) o) e
+    ∙ (ap (λ w. shallow (call m w)) f ∙ ap (λ b. if b then Some (call m args) else None) (le-leb (nesting (call m args)) 16 low)))
 
 complete_call : (m v : List ℕ) (a args : Arguments) → IsName is_letter_or_digit m → inside v (table v) 0 0 ≡ Some a → normal a ≡ args → nesting (call m args) ≤ 16
     → first_at (36 ∷ 123 ∷ 95 ∷ 95 ∷ (m ++ 40 ∷ v)) ≡ Some (call m args)
@@ -247,12 +254,12 @@ complete_reference c s all (call m (argument ps more)) rest e right low =
     let k : ℕ = length (m ++ 40 ∷ []) in
     let tail : s ≡ 123 ∷ 95 ∷ 95 ∷ (m ++ 40 ∷ v) = tail_same c 36 s (123 ∷ 95 ∷ 95 ∷ (m ++ 40 ∷ v)) e in
     let behind : drop (suc (suc (suc k))) s ≡ v =
-      ap (drop (suc (suc (suc k)))) tail ∙ (ap (drop k) (sym (append_assoc m (40 ∷ []) v)) ∙ drop-append_seam (m ++ 40 ∷ []) v) in
+    ap (drop (suc (suc (suc k)))) tail ∙ (ap (drop k) (sym (append_assoc m (40 ∷ []) v)) ∙ drop-append_seam (m ++ 40 ∷ []) v) in
     let low_inside : nesting_of_arguments (argument ps more) ≤ 16 = omega (arith, low) in
     ap first_at e ∙ complete_call m v (argument ps more) (argument ps more) right.0
-      (inside_complete v (subst AllComplete behind (complete_drop (suc (suc (suc k))) s all)) 0 0 ps more
-        (record { right = right.2; closed = right.3; rest = rest; spelled = refl }) low_inside)
-      (normal_same (argument ps more) right.1) low
+    (inside_complete v (subst AllComplete behind (complete_drop (suc (suc (suc k))) s all)) 0 0 ps more
+    (record { right = right.2; closed = right.3; rest = rest; spelled = refl }) low_inside)
+    (normal_same (argument ps more) right.1) low
 
 pub first_complete : (c : ℕ) (s : List ℕ) → AllComplete s → Complete (c ∷ s)
 first_complete c s all r h = complete_reference c s all r h.rest h.spelled h.right h.shallow

@@ -1,11 +1,11 @@
 -- The pieces that the scanner reads are the reading of the text, and its only one.
-use Rattle.std.proofs.Common.{◌≡◌, ◌≢◌, ℕ, zero, suc, ◌+◌, ◌-◌, ◌<◌, ◌≤◌, List, [], ◌∷◌, ◌++◌, refl, sym, ◌∙◌, ap, subst, Bool, true, false, Option, Some, None, length, drop, arith}
+use Rattle.std.proofs.Common.{◌≡◌, ℕ, zero, suc, ◌-◌, List, [], ◌∷◌, ◌++◌, refl, sym, ◌∙◌, ap, subst, Option, Some, None, length, drop}
 use Rattle.std.proofs.lemmas.Bool.{true≢false}
 use Rattle.std.proofs.Math.Seq.{drop-append_seam}
-use Rattle.template_text.specs.Pieces.{Reference, variable, call, Pieces, no_more, text, reference, reference_spelling, spelling, nesting}
-use Rattle.template_text.specs.Grammar.{begins_with_text, IsPlain, IsReference, Begins, BeginsNowhere, ArePieces, IsReadingOf}
+use Rattle.template_text.specs.Pieces.{Reference, variable, call, Pieces, no_more, text, reference, reference_spelling, spelling}
+use Rattle.template_text.specs.Grammar.{Begins, ArePieces, IsReadingOf}
 use Rattle.template_text.specs.Scan.{with_byte, table, first_at, pieces_from, reading}
-use Rattle.template_text.proofs.Before.{reference_before, reference-before}
+use Rattle.template_text.proofs.Before.{reference-before}
 use Rattle.template_text.proofs.Standing.{not_empty}
 use Rattle.template_text.proofs.Inside.{StartsWith, none_some, drop_less, drop_nothing, reference_some, starts_drop}
 use Rattle.template_text.proofs.Names.{all_sound, all_complete}
@@ -41,15 +41,17 @@ read_go : (c : ℕ) (s : List ℕ) (q : Option Reference) → first_at (c ∷ s)
 read_go c s None e more =
     let ps : Pieces = pieces_from s (table s) 0 in
     let nowhere : (r : Reference) → Begins (c ∷ spelling ps) r → ⊥ =
-      λ (r : Reference) (b : Begins (c ∷ spelling ps) r). none_some r (sym e ∙ (all_complete (c ∷ s)).0 r (begins_starts (c ∷ s) r (subst (λ w. Begins (c ∷ w) r) (more 0).1 b))) in
-    (subst ArePieces (sym (pieces_byte c s e)) (pieces-with_byte c ps nowhere (more 0).0),
-      ap spelling (pieces_byte c s e) ∙ (spelling-with_byte c ps ∙ ap (λ w. c ∷ w) (more 0).1))
+    λ (r : Reference) (b : Begins (c ∷ spelling ps) r). none_some r (sym e ∙ (all_complete (c ∷ s)).0 r (begins_starts (c ∷ s) r (subst (λ w. Begins (c ∷ w) r) (more 0).1 b))) in (
+      subst ArePieces (sym (pieces_byte c s e)) (pieces-with_byte c ps nowhere (more 0).0),
+      ap spelling (pieces_byte c s e) ∙ (spelling-with_byte c ps ∙ ap (λ w. c ∷ w) (more 0).1),
+    )
 read_go c s (Some r) e more =
     let n : ℕ = length (reference_spelling r) in
     let h : StartsWith (c ∷ s) r = (all_sound (c ∷ s)).0 r e in
-    let rest : spelling (pieces_from s (table s) (n - 1)) ≡ h.rest = (more (n - 1)).1 ∙ (drop_less n c s (reference_some r) ∙ starts_drop (c ∷ s) r h) in
-    (subst ArePieces (sym (pieces_reference c s r e)) (h.right, h.shallow, (more (n - 1)).0),
-      ap spelling (pieces_reference c s r e) ∙ (ap (λ w. reference_spelling r ++ w) rest ∙ (reference-before r h.rest ∙ sym h.spelled)))
+    let rest : spelling (pieces_from s (table s) (n - 1)) ≡ h.rest = (more (n - 1)).1 ∙ (drop_less n c s (reference_some r) ∙ starts_drop (c ∷ s) r h) in (
+      subst ArePieces (sym (pieces_reference c s r e)) (h.right, h.shallow, (more (n - 1)).0),
+      ap spelling (pieces_reference c s r e) ∙ (ap (λ w. reference_spelling r ++ w) rest ∙ (reference-before r h.rest ∙ sym h.spelled)),
+    )
 
 read_from : (s : List ℕ) (k : ℕ) → ArePieces (pieces_from s (table s) k) × (spelling (pieces_from s (table s) k) ≡ drop k s)
 unfolding pieces_from table

@@ -1,9 +1,9 @@
 -- What it is to read arguments at a place, and one byte of plain text more or less.
-use Rattle.std.proofs.Common.{◌≡◌, ◌≢◌, ℕ, zero, suc, ◌+◌, ◌-◌, ◌≤◌, List, [], ◌∷◌, ◌++◌, ◌==◌, ◌&&◌, if◌then◌else◌, refl, sym, ◌∙◌, ap, subst, Bool, true, false, Option, Some, None, option_map, length, drop, max, arith}
-use Rattle.std.proofs.lemmas.Bool.{eqb-true, eqb-false, eq-eqb, ne_eqb}
+use Rattle.std.proofs.Common.{◌≡◌, ◌≢◌, ℕ, List, [], ◌∷◌, ◌==◌, if◌then◌else◌, refl, sym, ◌∙◌, ap, subst, Bool, true, false, Some}
+use Rattle.std.proofs.lemmas.Bool.{eqb-true, eq-eqb}
 use Rattle.std.proofs.Math.Bool.{and-false}
-use Rattle.template_text.specs.Pieces.{Reference, variable, call, Pieces, no_more, text, reference, Arguments, no_arguments, argument, reference_spelling, nesting_of_pieces, nesting_of_arguments}
-use Rattle.template_text.specs.Grammar.{begins_with, opens, OpensNowhere, open_after, plain_text, plain_text_of_arguments, begins_with_text, ends_in_backslash, ends_with_backslash, IsPlain, IsReference, AreArguments, IsArgument}
+use Rattle.template_text.specs.Pieces.{Reference, variable, call, Pieces, no_more, text, reference, Arguments, no_arguments, argument, nesting_of_pieces}
+use Rattle.template_text.specs.Grammar.{begins_with, opens, open_after, plain_text_of_arguments, ends_with_backslash, AreArguments, IsArgument}
 use Rattle.template_text.specs.Scan.{with_byte}
 use Rattle.template_text.proofs.Before.{escaped_before, reference_before, arguments_before, further_before, argument_before}
 
@@ -73,12 +73,15 @@ last-with_byte c (reference r m) more k n h f e = f e
 pub stands-with_byte : (c o p : ℕ) (u v : List ℕ) (ps : Pieces) (more : Arguments) → v ≡ escaped_before (c ∷ []) u → MayPrecede c u
     → ((t : List ℕ) → open_after o (c ∷ t) ≡ open_after p t) → Stands u p ps more → Stands v o (with_byte c ps) more
 stands-with_byte c o p u v ps more e h balance s = record {
-    right = (is_argument-with_byte c ps (further_before more (41 ∷ 125 ∷ s.rest)) (subst (λ (w : List ℕ). opens (c ∷ w) ≡ false) s.spelled h.not_start) s.right.0,
-      last-with_byte c ps more (41 ∷ 125 ∷ s.rest) (subst (λ (w : List ℕ). c ≡ 92 → begins_with 44 w ≡ false) s.spelled h.not_escape) s.right.0 s.right.1, s.right.2);
-    closed = ap (open_after o) (plain_text-with_byte c ps more) ∙ (balance (plain_text_of_arguments (argument ps more)) ∙ s.closed);
-    rest = s.rest;
-    spelled = e ∙ (ap (escaped_before (c ∷ [])) s.spelled ∙ sym (before-with_byte c ps (further_before more (41 ∷ 125 ∷ s.rest))));
-  }
+  right = (
+    is_argument-with_byte c ps (further_before more (41 ∷ 125 ∷ s.rest)) (subst (λ (w : List ℕ). opens (c ∷ w) ≡ false) s.spelled h.not_start) s.right.0,
+    last-with_byte c ps more (41 ∷ 125 ∷ s.rest) (subst (λ (w : List ℕ). c ≡ 92 → begins_with 44 w ≡ false) s.spelled h.not_escape) s.right.0 s.right.1,
+    s.right.2,
+  );
+  closed = ap (open_after o) (plain_text-with_byte c ps more) ∙ (balance (plain_text_of_arguments (argument ps more)) ∙ s.closed);
+  rest = s.rest;
+  spelled = e ∙ (ap (escaped_before (c ∷ [])) s.spelled ∙ sym (before-with_byte c ps (further_before more (41 ∷ 125 ∷ s.rest))));
+}
 
 -- one byte of plain text less
 pub record Peeled (d o : ℕ) (v : List ℕ) (ps : Pieces) (more : Arguments) : Type 0 where
@@ -107,22 +110,50 @@ ends_alike d e t (reference r m) = refl
 
 pub peel : (d o : ℕ) (t v : List ℕ) (m : Pieces) (more : Arguments) → Stands v o (text (d ∷ t) m) more → Peeled d o v (text (d ∷ t) m) more
 peel d o [] v no_more no_arguments s = record {
-    pieces = no_more; back = refl; after = 41 ∷ 125 ∷ s.rest; spelled = s.spelled;
-    precedes = record { not_start = and-false (d == 36); not_escape = λ e. refl };
-    right = (tt, (λ e. refl), tt); closed = s.closed; rest = s.rest; there = refl }
+  pieces = no_more;
+  back = refl;
+  after = 41 ∷ 125 ∷ s.rest;
+  spelled = s.spelled;
+  precedes = record { not_start = and-false (d == 36); not_escape = λ e. refl };
+  right = (tt, (λ e. refl), tt);
+  closed = s.closed;
+  rest = s.rest;
+  there = refl;
+}
 peel d o [] v no_more (argument qs more) s = record {
-    pieces = no_more; back = refl; after = 44 ∷ argument_before qs (further_before more (41 ∷ 125 ∷ s.rest)); spelled = s.spelled;
-    precedes = record { not_start = and-false (d == 36); not_escape = λ e. let g : argument qs more ≡ no_arguments = s.right.1 (eq-eqb d 92 e) in cc };
-    right = (tt, (λ e. cc), s.right.2); closed = s.closed; rest = s.rest; there = refl }
+  pieces = no_more;
+  back = refl;
+  after = 44 ∷ argument_before qs (further_before more (41 ∷ 125 ∷ s.rest));
+  spelled = s.spelled;
+  precedes = record { not_start = and-false (d == 36); not_escape = λ e. let g : argument qs more ≡ no_arguments = s.right.1 (eq-eqb d 92 e) in cc };
+  right = (tt, (λ e. cc), s.right.2);
+  closed = s.closed;
+  rest = s.rest;
+  there = refl;
+}
 peel d o [] v (text u m) more s = let g : true ≡ false = s.right.0.0.alone in cc
 peel d o [] v (reference r m) more s = record {
-    pieces = reference r m; back = refl; after = reference_before r (argument_before m (further_before more (41 ∷ 125 ∷ s.rest))); spelled = s.spelled;
-    precedes = record { not_start = begins_reference r _ d; not_escape = λ e. begins_no_comma r _ };
-    right = (s.right.0.2, s.right.1, s.right.2); closed = s.closed; rest = s.rest; there = refl }
+  pieces = reference r m;
+  back = refl;
+  after = reference_before r (argument_before m (further_before more (41 ∷ 125 ∷ s.rest)));
+  spelled = s.spelled;
+  precedes = record { not_start = begins_reference r _ d; not_escape = λ e. begins_no_comma r _ };
+  right = (s.right.0.2, s.right.1, s.right.2);
+  closed = s.closed;
+  rest = s.rest;
+  there = refl;
+}
 peel d o (e ∷ t) v m more s = record {
-    pieces = text (e ∷ t) m; back = refl; after = escaped_before (e ∷ t) (argument_before m (further_before more (41 ∷ 125 ∷ s.rest))); spelled = s.spelled;
-    precedes = record {
-      not_start = opens_outside d e (e == 44) t (escaped_before t (argument_before m (further_before more (41 ∷ 125 ∷ s.rest)))) refl s.right.0.1.0;
-      not_escape = λ _. escape_outside e (e == 44) (escaped_before t (argument_before m (further_before more (41 ∷ 125 ∷ s.rest)))) refl };
-    right = ((record { some = not_empty e t; alone = s.right.0.0.alone }, s.right.0.1.1, s.right.0.2), (λ h. s.right.1 (ends_alike d e t m ∙ h)), s.right.2);
-    closed = s.closed; rest = s.rest; there = refl }
+  pieces = text (e ∷ t) m;
+  back = refl;
+  after = escaped_before (e ∷ t) (argument_before m (further_before more (41 ∷ 125 ∷ s.rest)));
+  spelled = s.spelled;
+  precedes = record {
+    not_start = opens_outside d e (e == 44) t (escaped_before t (argument_before m (further_before more (41 ∷ 125 ∷ s.rest)))) refl s.right.0.1.0;
+    not_escape = λ _. escape_outside e (e == 44) (escaped_before t (argument_before m (further_before more (41 ∷ 125 ∷ s.rest)))) refl;
+  };
+  right = ((record { some = not_empty e t; alone = s.right.0.0.alone }, s.right.0.1.1, s.right.0.2), (λ h. s.right.1 (ends_alike d e t m ∙ h)), s.right.2);
+  closed = s.closed;
+  rest = s.rest;
+  there = refl;
+}

@@ -1,15 +1,14 @@
 -- What the scanner keeps of each place says what begins there.
-use Rattle.std.proofs.Common.{◌≡◌, ℕ, zero, suc, ◌+◌, ◌-◌, ◌<◌, ◌≤◌, List, [], ◌∷◌, ◌++◌, refl, sym, ◌∙◌, ap, subst, Bool, true, false, Option, Some, None, option_map, length, drop, map, get_or, arith, length-append}
+use Rattle.std.proofs.Common.{◌≡◌, ℕ, suc, ◌<◌, ◌≤◌, List, [], ◌∷◌, refl, sym, ◌∙◌, ap, Bool, Option, Some, None, option_map, length, drop, map, get_or, arith, length-append}
 use Rattle.std.proofs.lemmas.List.{length-map, drop-map}
 use Rattle.template_text.specs.declared.scan.Token.{Token}
 use Rattle.template_text.specs.declared.scan.Token.TheVariants.{Start}
-use Rattle.template_text.specs.declared.scan.Step.{Step}
 use Rattle.template_text.specs.declared.scan.Step.TheVariants.{Fails, Goes}
 use Rattle.template_text.specs.declared.scan.Found.{Found}
-use Rattle.template_text.specs.Pieces.{Reference, variable, call, arguments_spelling, reference_spelling}
+use Rattle.template_text.specs.Pieces.{Reference, variable, call, reference_spelling}
 use Rattle.template_text.specs.Scan.{step_of, table, first_at, shape, AreFound, found_length}
 use Rattle.template_text.proofs.Before.{reference-before}
-use Rattle.template_text.proofs.Inside.{StartsWith, none_some, some_same, map_some, reference_some}
+use Rattle.template_text.proofs.Inside.{StartsWith, none_some, map_some}
 use Rattle.template_text.proofs.Names.{all_sound, table_drop}
 
 pub found_here : (s : List ℕ) (f : List (Option Found)) (x : Option Found) → AreFound s f → 0 < length s → get_or f 0 None ≡ x → option_map shape (first_at s) ≡ x

@@ -1,12 +1,11 @@
 -- What the token at a place says of the bytes there, and what arguments read there.
-use Rattle.std.proofs.Common.{◌≡◌, ◌≢◌, ℕ, zero, suc, ◌+◌, ◌-◌, List, [], ◌∷◌, ◌++◌, ◌==◌, ◌&&◌, if◌then◌else◌, refl, sym, ◌∙◌, ap, subst, Bool, true, false, Option, Some, None, option_map, length, drop, arith}
+use Rattle.std.proofs.Common.{◌≡◌, ◌≢◌, ℕ, suc, ◌-◌, List, ◌∷◌, ◌==◌, ◌&&◌, if◌then◌else◌, refl, ◌∙◌, ap, Bool, true, false, Some, option_map, length}
 use Rattle.std.proofs.lemmas.Bool.{eqb-true, eqb-false, eq-eqb, ne_eqb}
 use Rattle.template_text.specs.declared.scan.Token.{Token}
 use Rattle.template_text.specs.declared.scan.Token.TheVariants.{Open, Close, Separator, Comma, Start, Byte}
-use Rattle.template_text.specs.Pieces.{Reference, variable, call, Pieces, no_more, text, reference, Arguments, no_arguments, argument, reference_spelling}
+use Rattle.template_text.specs.Pieces.{Reference, no_more, Arguments, no_arguments, argument, reference_spelling}
 use Rattle.template_text.specs.Grammar.{begins_with, opens}
-use Rattle.template_text.specs.Scan.{token_of, step_of, follow, put, add, join, inside, table, first_at, first_of}
-use Rattle.std.proofs.lemmas.Bool.Decides.{nat_tests}
+use Rattle.template_text.specs.Scan.{token_of, step_of, follow, add, join, inside, table, first_at}
 
 -- a byte of plain text, which s follows
 pub record IsByte (c : ℕ) (s : List ℕ) : Type 0 where
@@ -39,9 +38,16 @@ token_go c s false true d e f i j k l m = eqb-true c 41 j
 token_go c s false false true e f i j k l m = eqb-true c 44 k
 token_go c s false false false true f i j k l m = (eqb-true c 92 (and_first (c == 92) (begins_with 44 s) l).0, (and_first (c == 92) (begins_with 44 s) l).1)
 token_go c s false false false false true i j k l m = m
-token_go c s false false false false false i j k l m = (refl, record {
-    not_open = eqb-false c 40 i; not_close = eqb-false c 41 j; not_comma = eqb-false c 44 k;
-    not_escape = λ e. and_second (c == 92) (begins_with 44 s) l (eq-eqb c 92 e); not_start = m })
+token_go c s false false false false false i j k l m = (
+  refl,
+  record {
+    not_open = eqb-false c 40 i;
+    not_close = eqb-false c 41 j;
+    not_comma = eqb-false c 44 k;
+    not_escape = λ e. and_second (c == 92) (begins_with 44 s) l (eq-eqb c 92 e);
+    not_start = m;
+  },
+)
 
 pub token_is : (c : ℕ) (s : List ℕ) → TokenIs (token_of (c ∷ s)) c s
 token_is c s = token_go c s (c == 40) (c == 41) (c == 44) (c == 92 && begins_with 44 s) (opens (c ∷ s)) refl refl refl refl refl
@@ -62,7 +68,7 @@ token_of-byte c s h = byte_go c (c == 40) (c == 41) (c == 44) (c == 92 && begins
 -- one step of the arguments at a place
 pub inside_step : (c : ℕ) (s : List ℕ) (o : ℕ)
     → inside (c ∷ s) (table (c ∷ s)) 0 o
-        ≡ follow (token_of (c ∷ s)) (first_at (c ∷ s)) (step_of (token_of (c ∷ s)) (first_at (c ∷ s)) (begins_with 125 s) o) (λ k m. inside s (table s) k m)
+    ≡ follow (token_of (c ∷ s)) (first_at (c ∷ s)) (step_of (token_of (c ∷ s)) (first_at (c ∷ s)) (begins_with 125 s) o) (λ k m. inside s (table s) k m)
 unfolding inside table
 inside_step c s o = refl
 
@@ -85,10 +91,10 @@ module _ (s : List ℕ) (args : Arguments) where
   pub inside_byte : (c o : ℕ) → IsByte c s → inside s (table s) 0 o ≡ Some args → inside (c ∷ s) (table (c ∷ s)) 0 o ≡ Some (add c args)
   inside_byte c o h e =
       inside_step c s o ∙ (ap (λ t. follow t (first_at (c ∷ s)) (step_of t (first_at (c ∷ s)) (begins_with 125 s) o) (λ k m. inside s (table s) k m)) (token_of-byte c s h)
-        ∙ ap (option_map (add c)) e)
+      ∙ ap (option_map (add c)) e)
 
   pub inside_reference : (r : Reference) (o : ℕ) → first_at (36 ∷ 123 ∷ s) ≡ Some r → inside (123 ∷ s) (table (123 ∷ s)) (length (reference_spelling r) - 1) o ≡ Some args
       → inside (36 ∷ 123 ∷ s) (table (36 ∷ 123 ∷ s)) 0 o ≡ Some (join (Some r) args)
   inside_reference r o f e =
       inside_step 36 (123 ∷ s) o ∙ (ap (λ q. follow Start q (step_of Start q false o) (λ k m. inside (123 ∷ s) (table (123 ∷ s)) k m)) f
-        ∙ ap (option_map (join (Some r))) e)
+      ∙ ap (option_map (join (Some r))) e)

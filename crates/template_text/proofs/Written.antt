@@ -1,5 +1,5 @@
 -- What is written and what is left.
-use Rattle.std.proofs.Common.{◌≡◌, ℕ, zero, suc, ◌+◌, ◌*◌, ◌<◌, ◌≤◌, Vec, Global, List, [], ◌∷◌, ◌++◌, refl, sym, ◌∙◌, ap, Bool, true, false, length, drop, get_or, append_assoc, arith}
+use Rattle.std.proofs.Common.{◌≡◌, ℕ, zero, suc, ◌+◌, ◌<◌, ◌≤◌, Vec, Global, List, [], ◌∷◌, Bool, true, false, length, get_or, arith}
 use Rattle.template_text.specs.declared.template.Piece.{Piece}
 use Rattle.template_text.specs.declared.template.Piece.TheVariants.{Text, Var, Call}
 use Rattle.template_text.specs.View.{pieces_of, arguments_of, weight, arguments_weight}

@@ -4,7 +4,7 @@ use Rattle.template_text.specs.declared.template.Piece.{Piece}
 use Rattle.template_text.specs.declared.template.Piece.TheVariants.{Text, Var, Call}
 use Rattle.template_text.specs.declared.builders.TemplateBuilder.{TemplateBuilder}
 use Rattle.template_text.specs.declared.builders.ArgumentsBuilder.{ArgumentsBuilder}
-use Rattle.template_text.specs.Pieces.{Reference, variable, call, Pieces, no_more, text, reference, Arguments, no_arguments, argument}
+use Rattle.template_text.specs.Pieces.{variable, call, Pieces, text, reference, Arguments, no_arguments, argument}
 use Rattle.template_text.specs.Scan.{with_byte}
 use Rattle.template_text.specs.View.{arguments_of}
 

@@ -1,5 +1,5 @@
 -- The grammar of templates: what a name, an argument and a reference may be, and which pieces are the reading of a text.
-use Rattle.std.specs.Prelude.{◌≡◌, ◌≢◌, ℕ, zero, suc, ◌≤◌, Bool, true, false, not, ◌==◌, ◌&&◌, ◌||◌, nat_le, IsTrue, List, [], ◌∷◌, ◌++◌, length, if◌then◌else◌, Option, Some, None}
+use Rattle.std.specs.Prelude.{◌≡◌, ◌≢◌, ℕ, zero, suc, ◌≤◌, Bool, true, false, not, ◌==◌, ◌&&◌, ◌||◌, nat_le, IsTrue, List, [], ◌∷◌, ◌++◌, if◌then◌else◌, Option, Some, None}
 use Rattle.std.specs.List.{list_all}
 use Rattle.template_text.specs.Pieces.{Reference, variable, call, Pieces, no_more, text, reference, Arguments, no_arguments, argument, reference_spelling, spelling, nesting}
 
@@ -79,7 +79,7 @@ abbrev mutual
   IsReference (variable n) = IsName is_name_byte n
   -- `()` has no arguments; the parentheses in the plain text of all arguments together are balanced
   IsReference (call n args) =
-    IsName is_letter_or_digit n × (args ≢ argument no_more no_arguments) × AreArguments args
+      IsName is_letter_or_digit n × (args ≢ argument no_more no_arguments) × AreArguments args
       × (open_after 0 (plain_text_of_arguments args) ≡ Some 0)
 
   -- a comma parts arguments where no backslash stands before it

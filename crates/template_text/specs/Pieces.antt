@@ -1,5 +1,5 @@
 -- The pieces of a template, and how they are spelled.
-use Rattle.std.specs.Prelude.{ℕ, Bool, List, [], ◌∷◌, ◌++◌, ◌==◌, codes, if◌then◌else◌, max, suc}
+use Rattle.std.specs.Prelude.{ℕ, List, [], ◌∷◌, ◌++◌, ◌==◌, codes, if◌then◌else◌, max, suc}
 
 mutual
   -- a reference is to a variable, or is a call of a function with arguments

@@ -17,7 +17,7 @@ abbrev pub token_of : List ℕ → Token
 token_of [] = Byte 0
 token_of (c ∷ s) =
     if c == 40 then Open else if c == 41 then Close else if c == 44 then Separator
-      else if c == 92 && begins_with 44 s then Comma else if opens (c ∷ s) then Start else Byte c
+    else if c == 92 && begins_with 44 s then Comma else if opens (c ∷ s) then Start else Byte c
 
 -- the move from a token: r begins there, b says whether `}` comes after it, o parentheses are open
 abbrev pub step_of : Token → Option Reference → Bool → ℕ → Step
@@ -106,7 +106,7 @@ abbrev pub named : List ℕ → List ℕ → List (Option Reference) → Option 
 named n [] rs = None
 named n (c ∷ s) rs =
     if c == 125 then variable_named n
-      else if c == 40 then call_of n (inside s (drop 1 rs) 0 0) else None
+    else if c == 40 then call_of n (inside s (drop 1 rs) 0 0) else None
 
 -- the reference that begins a text, where rs is what begins at each further place
 unfoldable pub first_of : List ℕ → List (Option Reference) → Option Reference

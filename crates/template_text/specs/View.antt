@@ -1,5 +1,5 @@
 -- What contracts see of a template: its pieces.
-use Rattle.std.specs.Prelude.{ℕ, ◌+◌, List, [], ◌∷◌, length, Option, Some, None}
+use Rattle.std.specs.Prelude.{ℕ, ◌+◌, List, [], ◌∷◌, Option, Some, None}
 use Rattle.template_text.specs.declared.template.Piece.{Piece}
 use Rattle.template_text.specs.declared.template.Piece.TheVariants.{Text, Var, Call}
 use Rattle.template_text.specs.Pieces.{Reference, variable, call, Pieces, no_more, text, reference, Arguments, no_arguments, argument}

@@ -93,9 +93,11 @@ fn arguments(alloc: Global, text: &[u8], found: &[Option<Found>]) -> M<Vec<Templ
     let mut arguments = ArgumentsBuilder::new(alloc);
     let mut at = 0;
     let mut unclosed = 0;
-    while let Step::Goes { by, unclosed: then } =
-        next_step(behind(text, at), behind(found, at), unclosed)
-    {
+    while let Step::Goes { by, unclosed: then } = next_step(
+        behind(text, at),
+        behind(found, at),
+        unclosed,
+    ) {
         let rest = behind(text, at);
         let places = behind(found, at);
         match first_found(places) {

@@ -9,5 +9,4 @@ pub fn one_reading()
     ensures exists { (s : List ℕ) → (ps : Pieces) × IsReadingOf s ps }
     ensures only { (s : List ℕ) (ps qs : Pieces) → IsReadingOf s ps → IsReadingOf s qs → ps ≡ qs }
     ensures spelled { (s : List ℕ) (ps : Pieces) → IsReadingOf s ps → spelling ps ≡ s }
-{
-}
+{}

@@ -6,13 +6,13 @@ mod build;
 mod builders;
 mod law;
 mod scan;
-mod write;
 mod template;
+mod write;
 
 pub use build::parse_template;
 pub use law::one_reading;
-pub use write::spell;
 pub use template::{Piece, Template};
+pub use write::spell;
 
 #[cfg(test)]
 mod tests;

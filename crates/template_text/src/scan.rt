@@ -33,7 +33,9 @@ pub enum Token {
 #[derive(Clone, Copy)]
 pub enum Found {
     /// A variable, in so many bytes.
-    Variable { length: usize },
+    Variable {
+        length: usize,
+    },
     /// A call of a function with a name of so many bytes, and how deep calls nest in it.
     Call {
         name: usize,

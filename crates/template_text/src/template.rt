@@ -40,4 +40,3 @@ impl Model for Template {
 
     ghost size_decreases = { λ t h. falls t.pieces.items };
 }
-

@@ -1,11 +1,11 @@
 -- The builders are given what stands in the text.
-use Rattle.std.proofs.Common.{◌≡◌, ◌<◌, ◌≤◌, ◌+◌, ◌-◌, ℕ, List, [], length, take, drop, option_map, Option, Some, None, IsSome, sym, ◌∙◌, ap, subst, refl, arith, length-drop}
-use Rattle.template_text.specs.Pieces.{Reference, variable, call, no_more, Arguments, no_arguments, argument, reference_spelling}
-use Rattle.template_text.specs.Scan.{AreFound, shape, normal, first_at, arguments_at, token_of, put, join}
-use Rattle.template_text.specs.View.{reference_of, arguments_of}
+use Rattle.std.proofs.Common.{◌≡◌, ◌<◌, ◌+◌, ◌-◌, ℕ, List, length, take, drop, option_map, Some, IsSome, sym, ◌∙◌, ap, subst, arith, length-drop}
+use Rattle.template_text.specs.Pieces.{Reference, variable, call, no_more, Arguments, no_arguments, argument}
+use Rattle.template_text.specs.Scan.{AreFound, shape, normal, first_at, arguments_at, token_of, put}
+use Rattle.template_text.specs.View.{arguments_of}
 use Rattle.template_text.specs.Builders.{joined_arguments}
 use Rattle.template_text.proofs.Table.{found_here, found_drop, found_length-same, nothing_here, something_here}
-use Rattle.template_text.proofs.Building.{build_start, build_token, build_end, build_fail, put_reference, put_token, some_inside, some_left, if_ok, build_finished, close_normal, other_normal, VariableThere, variable_there, CallThere, call_there}
+use Rattle.template_text.proofs.Building.{build_start, build_token, put_reference, put_token, some_inside, some_left, if_ok, build_finished, close_normal, other_normal, VariableThere, variable_there, CallThere, call_there}
 use Rattle.template_text.proofs.build.+build.Goals as goal
 use Rattle.template_text.proofs.build.+build.Goals.{arguments-in-None+in_ok-token-in-None, arguments-in-Some+in_ok-reference-in-Some+in_ok-reference-in-Some-2}
 
@@ -35,40 +35,44 @@ pub arguments-piece-requires : goal.arguments-piece-requires
 arguments-piece-requires t c =
     let rest : c.behind-rest.result.now ≡ c.behind.result.now = c.behind-rest.ensures ∙ sym c.behind.ensures in
     let some : 0 < length c.behind-rest.result.now = subst (λ w. 0 < length w) (sym rest)
-      (some_inside c.behind.result.now c.loop-by.unclosed (some_left c.args.text.now c.behind.result.now c.loop-by.at c.loop-by.unclosed c.loop-by.arguments c.behind.ensures c.requires.some c.loop-by.invariant.2)) in
-    let places : AreFound c.behind-rest.result.now c.behind-places.result.now = rw (c.behind-rest.ensures, c.behind-places.ensures) (found_drop c.loop-by.at c.args.text.now c.args.found.now c.requires.places) in
-    (omega (arith, ap length c.behind-rest.ensures, length-drop c.loop-by.at c.args.text.now, c.decreases),
-      (places, found_here c.behind-rest.result.now c.behind-places.result.now _ places some (sym c.first_found.ensures ∙ c.in-Some.is)))
+    (some_inside c.behind.result.now c.loop-by.unclosed (some_left c.args.text.now c.behind.result.now c.loop-by.at c.loop-by.unclosed c.loop-by.arguments c.behind.ensures c.requires.some c.loop-by.invariant.2)) in
+    let places : AreFound c.behind-rest.result.now c.behind-places.result.now = rw (c.behind-rest.ensures, c.behind-places.ensures) (found_drop c.loop-by.at c.args.text.now c.args.found.now c.requires.places) in (
+      omega (arith, ap length c.behind-rest.ensures, length-drop c.loop-by.at c.args.text.now, c.decreases),
+      (places, found_here c.behind-rest.result.now c.behind-places.result.now _ places some (sym c.first_found.ensures ∙ c.in-Some.is)),
+    )
 
 pub arguments-loop-by-preserved : goal.arguments-loop-by-preserved
 arguments-loop-by-preserved t c =
     let text : List ℕ = c.args.text.now in
     let rest : c.behind-rest.result.now ≡ c.behind.result.now = c.behind-rest.ensures ∙ sym c.behind.ensures in
     let some : 0 < length c.behind.result.now =
-      some_inside c.behind.result.now c.loop-by.unclosed (some_left text c.behind.result.now c.loop-by.at c.loop-by.unclosed c.loop-by.arguments c.behind.ensures c.requires.some c.loop-by.invariant.2) in
+    some_inside c.behind.result.now c.loop-by.unclosed (some_left text c.behind.result.now c.loop-by.at c.loop-by.unclosed c.loop-by.arguments c.behind.ensures c.requires.some c.loop-by.invariant.2) in
     let places : AreFound c.behind.result.now c.behind-places.result.now = rw (c.behind.ensures, c.behind-places.ensures) (found_drop c.loop-by.at text c.args.found.now c.requires.places) in
     let here : option_map shape (first_at c.behind.result.now) ≡ c.first_found.result = found_here c.behind.result.now c.behind-places.result.now _ places some (sym c.first_found.ensures) in
     let long : length c.behind.result.now ≡ length text - c.loop-by.at = ap length c.behind.ensures ∙ length-drop c.loop-by.at text in
     let same : (args : Arguments) → joined_arguments c.match-first_found.arguments args ≡ joined_arguments c.loop-by.arguments (put (token_of c.behind.result.now) (first_at c.behind.result.now) args) =
-      elim c.match-first_found.branch [
-        arguments-in-None+in_ok-token-in-None w ↦ λ args.
+    elim c.match-first_found.branch [
+      | arguments-in-None+in_ok-token-in-None w ↦ λ args.
           ap (λ b. joined_arguments b args) w.arguments-is
-            ∙ (w.in_ok-token-in-None.ensures args
-              ∙ ap (joined_arguments c.loop-by.arguments)
-                  (put_token c.behind.result.now w.first_token.result args (w.first_token.ensures ∙ ap token_of rest) (nothing_here _ (here ∙ w.in-None.is))))
+          ∙ (w.in_ok-token-in-None.ensures args
+          ∙ ap (joined_arguments c.loop-by.arguments)
+          (put_token c.behind.result.now w.first_token.result args (w.first_token.ensures ∙ ap token_of rest) (nothing_here _ (here ∙ w.in-None.is))))
       | arguments-in-Some+in_ok-reference-in-Some+in_ok-reference-in-Some-2 w ↦ λ args.
           let p : (r : Reference) × ((first_at c.behind.result.now ≡ Some r) × (shape r ≡ w.in-Some.first)) = something_here _ _ (here ∙ w.in-Some.is) in
           ap (λ b. joined_arguments b args) w.arguments-is
-            ∙ (w.in_ok-reference-in-Some-2.ensures p.0 args (w.in_ok-reference-in-Some.ensures ∙ (ap first_at rest ∙ p.1.0))
-              ∙ ap (joined_arguments c.loop-by.arguments) (put_reference c.behind.result.now p.0 args p.1.0)) ] in
-    (omega (arith, long, c.in-Goes.ensures.on.1), omega (arith, c.in-Goes.ensures.on.2),
+          ∙ (w.in_ok-reference-in-Some-2.ensures p.0 args (w.in_ok-reference-in-Some.ensures ∙ (ap first_at rest ∙ p.1.0))
+          ∙ ap (joined_arguments c.loop-by.arguments) (put_reference c.behind.result.now p.0 args p.1.0))
+    ] in (
+      omega (arith, long, c.in-Goes.ensures.on.1),
+      omega (arith, c.in-Goes.ensures.on.2),
       build_token text c.behind.result.now c.loop-by.arguments c.match-first_found.arguments c.loop-by.at c.loop-by.unclosed c.in-Goes.by c.in-Goes.then _
-        c.behind.ensures c.loop-by.invariant.2 some c.in-Goes.ensures.step c.in-Goes.ensures.on.0 same)
+          c.behind.ensures c.loop-by.invariant.2 some c.in-Goes.ensures.step c.in-Goes.ensures.on.0 same,
+    )
 
 pub arguments-returns : goal.arguments-returns
 arguments-returns t c =
     let all : arguments_at c.args.text.now 0 ≡ Some (joined_arguments c.loop-by.arguments (argument no_more no_arguments)) =
-      build_finished c.args.text.now c.behind.result.now c.loop-by.at c.loop-by.unclosed c.loop-by.arguments c.next_step.result c.behind.ensures c.requires.some c.loop-by.invariant.2 c.next_step.ensures.step c.in_default.not-Goes in
+    build_finished c.args.text.now c.behind.result.now c.loop-by.at c.loop-by.unclosed c.loop-by.arguments c.next_step.result c.behind.ensures c.requires.some c.loop-by.invariant.2 c.next_step.ensures.step c.in_default.not-Goes in
     if_ok _ _ c.finish.result (λ v h. all ∙ ap Some (sym h)) c.finish.ensures
 
 pub piece-behind-requires : goal.piece-behind-requires
@@ -106,10 +110,13 @@ pub piece-call_arguments-requires : goal.piece-call_arguments-requires
 piece-call_arguments-requires t c =
     let v : CallThere c.args.text.now c.in-Call.length = call_there c.args.text.now c.in-Call.length c.in-Call.length' c.in-Call.depth (c.requires.here ∙ ap Some c.in-Call.is) in
     let behind : drop (c.in-Call.length + 5) c.args.text.now ≡ c.behind-in-Call-2.result.now = sym c.behind-in-Call-2.ensures in
-    let places : drop (c.in-Call.length + 5) c.args.found.now ≡ c.behind-in-Call-3.result.now = sym c.behind-in-Call-3.ensures in
-    (omega (arith, v.within, ap length behind, length-drop (c.in-Call.length + 5) c.args.text.now, c.decreases),
-      (subst (λ w. AreFound w c.behind-in-Call-3.result.now) behind (subst (λ w. AreFound (drop (c.in-Call.length + 5) c.args.text.now) w) places (found_drop (c.in-Call.length + 5) c.args.text.now c.args.found.now c.requires.places)),
-        subst (λ w. IsSome (arguments_at w 0)) behind v.some))
+    let places : drop (c.in-Call.length + 5) c.args.found.now ≡ c.behind-in-Call-3.result.now = sym c.behind-in-Call-3.ensures in (
+      omega (arith, v.within, ap length behind, length-drop (c.in-Call.length + 5) c.args.text.now, c.decreases),
+      (
+        subst (λ w. AreFound w c.behind-in-Call-3.result.now) behind (subst (λ w. AreFound (drop (c.in-Call.length + 5) c.args.text.now) w) places (found_drop (c.in-Call.length + 5) c.args.text.now c.args.found.now c.requires.places)),
+        subst (λ w. IsSome (arguments_at w 0)) behind v.some,
+      ),
+    )
 
 pub piece-returns-in_ok-args-in-Call : goal.piece-returns-in_ok-args-in-Call
 piece-returns-in_ok-args-in-Call t c =

@@ -1,7 +1,6 @@
 -- Each move keeps the extent of all arguments.
-use Rattle.std.proofs.Common.{◌≡◌, ◌+◌, ◌<◌, ◌≤◌, ℕ, List, length, drop, option_map, Some, None, get_or, sym, ◌∙◌, ap, subst, arith, max, ◌-◌, length-drop}
-use Rattle.template_text.specs.Pieces.{Reference}
-use Rattle.template_text.specs.Scan.{arguments_at, extent_of, extent_behind, first_at, shape, found_nesting, AreFound}
+use Rattle.std.proofs.Common.{◌≡◌, ◌+◌, ◌<◌, ℕ, List, length, drop, option_map, sym, ◌∙◌, ap, arith, ◌-◌, length-drop}
+use Rattle.template_text.specs.Scan.{arguments_at, extent_behind, first_at, shape, found_nesting, AreFound}
 use Rattle.template_text.proofs.Table.{found_here, found_drop, found_length-same}
 use Rattle.template_text.proofs.Extents.{arguments_nowhere, left_some, loop_extent, loop_end, loop_fail}
 use Rattle.template_text.proofs.scan.arguments_extent.Goals as goal
@@ -35,11 +34,13 @@ loop-at-preserved c =
     let some : 0 < length rest = rw c.behind.ensures (left_some c.loop-at.at text c.loop-at-test.true) in
     let long : length rest ≡ length text - c.loop-at.at = ap length c.behind.ensures ∙ length-drop c.loop-at.at text in
     let places : AreFound rest c.behind-places.result.now = rw (c.behind.ensures, c.behind-places.ensures) (found_drop c.loop-at.at text c.args.found.now c.requires) in
-    let here : option_map shape (first_at rest) ≡ c.first_found.result = found_here rest c.behind-places.result.now c.first_found.result places some (sym c.first_found.ensures) in
-    (omega (arith, c.in-Goes.ensures.on.1), omega (arith, c.in-Goes.ensures.on.2),
+    let here : option_map shape (first_at rest) ≡ c.first_found.result = found_here rest c.behind-places.result.now c.first_found.result places some (sym c.first_found.ensures) in (
+      omega (arith, c.in-Goes.ensures.on.1),
+      omega (arith, c.in-Goes.ensures.on.2),
       loop_extent text rest c.loop-at.at c.loop-at.unclosed c.in-Goes.by c.in-Goes.then c.loop-at.depth (found_nesting c.first_found.result) _
-        c.behind.ensures c.loop-at.invariant.2 some c.in-Goes.ensures.step c.in-Goes.ensures.on.0 (ap found_nesting (sym here))
-        ∙ ap (λ d. option_map (extent_behind (c.loop-at.at + c.in-Goes.by) d) (arguments_at (drop (c.loop-at.at + c.in-Goes.by) text) c.in-Goes.then)) (sym c.deeper-depth.ensures))
+          c.behind.ensures c.loop-at.invariant.2 some c.in-Goes.ensures.step c.in-Goes.ensures.on.0 (ap found_nesting (sym here))
+          ∙ ap (λ d. option_map (extent_behind (c.loop-at.at + c.in-Goes.by) d) (arguments_at (drop (c.loop-at.at + c.in-Goes.by) text) c.in-Goes.then)) (sym c.deeper-depth.ensures),
+    )
 
 pub returns-clause-extent : goal.returns-clause-extent
 returns-clause-extent c = sym (c.loop-at.invariant.2 ∙ ap (option_map (extent_behind c.loop-at.at c.loop-at.depth)) (arguments_nowhere (drop c.loop-at.at c.args.text.now) c.loop-at.unclosed (omega (arith, length-drop c.loop-at.at c.args.text.now))))

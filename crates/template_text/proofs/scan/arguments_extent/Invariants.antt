@@ -1,4 +1,4 @@
-use Rattle.std.proofs.Common.{◌≡◌, ◌+◌, ◌-◌, ◌≤◌, length, drop, option_map, ℕ}
+use Rattle.std.proofs.Common.{◌≡◌, ◌-◌, ◌≤◌, length, drop, option_map}
 use Rattle.template_text.specs.Scan.{arguments_at, extent_of, extent_behind}
 use Rattle.template_text.proofs.scan.arguments_extent.Given as goal
 

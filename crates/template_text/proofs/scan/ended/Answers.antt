@@ -1,5 +1,5 @@
 -- Behind the `(` of a call stand its arguments.
-use Rattle.std.proofs.Common.{◌≡◌, ◌≢◌, ◌<◌, ◌≤◌, ℕ, List, length, drop, option_map, sym, ◌∙◌, ap, arith}
+use Rattle.std.proofs.Common.{◌≡◌, ◌≢◌, ◌<◌, length, option_map, sym, ◌∙◌, ap, arith}
 use Rattle.std.proofs.lemmas.Bool.{eqb-false}
 use Rattle.template_text.specs.Scan.{shape, call_of, arguments_at}
 use Rattle.template_text.proofs.Table.{found_drop, found_length-same}
@@ -20,4 +20,4 @@ returns-in-40 c =
     let some : length c.args.text.now ≢ 0 = eqb-false (length c.args.text.now) 0 (sym c.if-is_empty.ensures) in
     let here : 0 < length c.args.text.now = omega arith in
     c.call.ensures ∙ (ap (λ w. option_map shape (call_of c.args.name.now (arguments_at w 0))) c.behind.ensures
-      ∙ ap (option_map shape) (sym (named_at_call c.args.name.now c.args.text.now here c.in-40.is)))
+    ∙ ap (option_map shape) (sym (named_at_call c.args.name.now c.args.text.now here c.in-40.is)))

@@ -1,8 +1,7 @@
 -- What follows `${` is a name and what ends it.
-use Rattle.std.proofs.Common.{◌≡◌, ◌<◌, ◌≤◌, ◌+◌, ◌-◌, ℕ, List, length, take, drop, option_map, sym, ◌∙◌, ap, arith, subst, length-drop}
+use Rattle.std.proofs.Common.{◌≡◌, ◌+◌, ◌-◌, ℕ, List, length, take, drop, option_map, sym, ◌∙◌, ap, arith, subst, length-drop}
 use Rattle.std.proofs.lemmas.List.{drop-drop}
-use Rattle.template_text.specs.Grammar.{opens}
-use Rattle.template_text.specs.Scan.{shape, first_at, AreFound, named, table, name_length}
+use Rattle.template_text.specs.Scan.{shape, AreFound, named, table, name_length}
 use Rattle.template_text.proofs.Table.{found_drop, found_length-same}
 use Rattle.template_text.proofs.Firsts.{first_not_opens, first_opened, opens_length}
 use Rattle.template_text.proofs.scan.first.Goals as goal
@@ -22,8 +21,8 @@ ended-requires-clause-places c =
     let n : ℕ = c.name_length.result in
     let k : length c.split_at.result.0.now + 1 ≡ n + 1 = omega (arith, c.split_at.ensures.front_len) in
     let text : drop (n + 1) (drop 1 c.args.text.now) ≡ c.split_at.result.1.now =
-      drop-drop (n + 1) 1 c.args.text.now ∙ (ap (λ m. drop m c.args.text.now) (omega arith)
-        ∙ (sym (drop-drop n 2 c.args.text.now) ∙ (ap (drop n) (sym c.behind-inside.ensures) ∙ sym c.split_at.ensures.back))) in
+    drop-drop (n + 1) 1 c.args.text.now ∙ (ap (λ m. drop m c.args.text.now) (omega arith)
+    ∙ (sym (drop-drop n 2 c.args.text.now) ∙ (ap (drop n) (sym c.behind-inside.ensures) ∙ sym c.split_at.ensures.back))) in
     let found : drop (n + 1) c.args.found.now ≡ c.behind.result.now = ap (λ m. drop m c.args.found.now) (sym k) ∙ sym c.behind.ensures in
     subst (λ w. AreFound w c.behind.result.now) text (subst (λ w. AreFound (drop (n + 1) (drop 1 c.args.text.now)) w) found (found_drop (n + 1) (drop 1 c.args.text.now) c.args.found.now c.requires))
 
@@ -34,6 +33,6 @@ returns c =
     let name : c.split_at.result.0.now ≡ take (name_length inside) inside = c.split_at.ensures.front ∙ ap (λ m. take m inside) c.name_length.ensures.length in
     let rest : c.split_at.result.1.now ≡ drop (name_length inside) inside = c.split_at.ensures.back ∙ ap (λ m. drop m inside) c.name_length.ensures.length in
     c.ended.ensures ∙ ap (option_map shape) (ap (λ w. named w c.split_at.result.1.now (table c.split_at.result.1.now)) name
-      ∙ (ap (λ w. named (take (name_length inside) inside) w (table w)) rest
-        ∙ (ap (λ w. named (take (name_length w) w) (drop (name_length w) w) (table (drop (name_length w) w))) c.behind-inside.ensures
-          ∙ sym (first_opened c.args.text.now (sym c.if-not-opens.ensures)))))
+    ∙ (ap (λ w. named (take (name_length inside) inside) w (table w)) rest
+    ∙ (ap (λ w. named (take (name_length w) w) (drop (name_length w) w) (table (drop (name_length w) w))) c.behind-inside.ensures
+    ∙ sym (first_opened c.args.text.now (sym c.if-not-opens.ensures)))))

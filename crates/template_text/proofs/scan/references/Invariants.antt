@@ -1,4 +1,4 @@
-use Rattle.std.proofs.Common.{◌≡◌, ◌≤◌, length, drop, map, option_map}
+use Rattle.std.proofs.Common.{◌≡◌, ◌≤◌, length, drop}
 use Rattle.template_text.specs.Scan.{AreFound}
 use Rattle.template_text.proofs.scan.references.Given as goal
 

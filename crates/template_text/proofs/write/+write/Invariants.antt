@@ -8,7 +8,7 @@ use Rattle.template_text.proofs.write.+write.Given as goal
 abbrev pub invariant-write_argument-loop-piece : goal.invariant-write_argument-loop-piece
 invariant-write_argument-loop-piece l =
     (pieces_of l.piece-items ≡ l.template)
-      × (l.out.items ++ argument_spelling (pieces_of (drop l.piece-index l.piece-items)) ≡ l.fn.out.items ++ argument_spelling l.template)
+    × (l.out.items ++ argument_spelling (pieces_of (drop l.piece-index l.piece-items)) ≡ l.fn.out.items ++ argument_spelling l.template)
 
 abbrev pub invariant-write_arguments-loop-argument : goal.invariant-write_arguments-loop-argument
 invariant-write_arguments-loop-argument l =
