@@ -1,0 +1,9 @@
+pub mod Tokens
+pub mod Reading
+pub mod Grammar
+pub mod Meaning
+pub mod Machine
+pub mod Steps
+pub mod Gives
+pub mod Holding
+pub mod Piles
