@@ -46,34 +46,38 @@ between at s levels op ts us l r is free left right = λ fs d loose.
     let (gs, u, ran, closes) = left fs d loose in
     let fs' : List Frame = left_side at op l ∷ fs in
     let taken : next at (Operate op) (complete gs u) ≡ Some (awaiting fs') =
-        ap (λ b. if b then None else operate at op (settled (strength op) gs u)) (free gs) ∙ ap (λ n. operate at op (settled n gs u)) is ∙ ap (operate at op) closes in
-    let (hs, v, ran', closes') = right fs' d (omega arith) in
-    (hs, v,
-        run-then ts (placed at (Operate op) ∷ us) (awaiting fs) (complete gs u) ran ∙ run-next (placed at (Operate op)) us (complete gs u) (awaiting fs') taken ∙ ran',
-        closes_on s (suc s) hs fs' v r (omega arith) closes' ∙ settled-closes s (left_side at op l) fs r (omega arith) ∙ settled-loose s fs (operated at op l r) loose)
+    ap (λ b. if b then None else operate at op (settled (strength op) gs u)) (free gs) ∙ ap (λ n. operate at op (settled n gs u)) is ∙ ap (operate at op) closes in
+    let (hs, v, ran', closes') = right fs' d (omega arith) in (
+      hs,
+      v,
+      run-then ts (placed at (Operate op) ∷ us) (awaiting fs) (complete gs u) ran ∙ run-next (placed at (Operate op)) us (complete gs u) (awaiting fs') taken ∙ ran',
+      closes_on s (suc s) hs fs' v r (omega arith) closes' ∙ settled-closes s (left_side at op l) fs r (omega arith) ∙ settled-loose s fs (operated at op l r) loose,
+    )
 
 pub completes : (L : Strength) (levels : ℕ) (ts : List Placed) (r : Reading) → Reads L levels ts r → Completes L levels ts r
 completes _ _ _ _ (value levels at v) = λ fs d.
     run-next (placed at (Value v)) [] (awaiting fs) (settled 4 fs (constant v)) refl ∙ run-none (settled 4 fs (constant v))
 completes _ _ _ _ (negation levels at ts r d) = λ fs e.
     run-next (placed at Not) ts (awaiting fs) (awaiting (machine.negation at ∷ fs)) (opens (machine.negation at) fs levels e)
-        ∙ completes operand levels ts r d (machine.negation at ∷ fs) (omega arith)
+    ∙ completes operand levels ts r d (machine.negation at ∷ fs) (omega arith)
 completes _ _ _ _ (group levels at to ts r d) = λ fs e.
     let (gs, u, ran, closes) = completes disjunction levels ts r d (machine.group ∷ fs) (omega arith) (omega arith) in
     run-next (placed at Open) (ts ++ placed to Close ∷ []) (awaiting fs) (awaiting (machine.group ∷ fs)) (opens machine.group fs levels e)
-        ∙ run-then ts (placed to Close ∷ []) (awaiting (machine.group ∷ fs)) (complete gs u) ran
-        ∙ run-next (placed to Close) [] (complete gs u) (settled 4 fs r) (ap close closes) ∙ run-none (settled 4 fs r)
+    ∙ run-then ts (placed to Close ∷ []) (awaiting (machine.group ∷ fs)) (complete gs u) ran
+    ∙ run-next (placed to Close) [] (complete gs u) (settled 4 fs r) (ap close closes) ∙ run-none (settled 4 fs r)
 completes _ _ _ _ (compare levels at op ts us l r is d e) = λ fs depth loose.
     let fs' : List Frame = left_side at op l ∷ fs in
     let three : strength op ≡ 3 = comparison-strength op is in
     let ran : run ts (awaiting fs) ≡ Ok (complete fs l) = completes operand levels ts l d fs depth ∙ ap (λ s. Ok s) (settled-loose 4 fs l (Loose-weaker 3 4 fs (omega arith) loose)) in
     let taken : next at (Operate op) (complete fs l) ≡ Some (awaiting fs') =
-        ap (λ b. if b then None else operate at op (settled (strength op) fs l)) (chains-loose op fs loose) ∙ ap (λ n. operate at op (settled n fs l)) three
-            ∙ ap (operate at op) (settled-loose 3 fs l loose) in
-    let ran' : run us (awaiting fs') ≡ Ok (complete fs' r) = completes operand levels us r e fs' depth ∙ ap (λ s. Ok s) (settled-loose 4 fs' r (omega arith)) in
-    (fs', r,
-        run-then ts (placed at (Operate op) ∷ us) (awaiting fs) (complete fs l) ran ∙ run-next (placed at (Operate op)) us (complete fs l) (awaiting fs') taken ∙ ran',
-        settled-closes 3 (left_side at op l) fs r (omega arith) ∙ settled-loose 3 fs (operated at op l r) loose)
+    ap (λ b. if b then None else operate at op (settled (strength op) fs l)) (chains-loose op fs loose) ∙ ap (λ n. operate at op (settled n fs l)) three
+    ∙ ap (operate at op) (settled-loose 3 fs l loose) in
+    let ran' : run us (awaiting fs') ≡ Ok (complete fs' r) = completes operand levels us r e fs' depth ∙ ap (λ s. Ok s) (settled-loose 4 fs' r (omega arith)) in (
+      fs',
+      r,
+      run-then ts (placed at (Operate op) ∷ us) (awaiting fs) (complete fs l) ran ∙ run-next (placed at (Operate op)) us (complete fs l) (awaiting fs') taken ∙ ran',
+      settled-closes 3 (left_side at op l) fs r (omega arith) ∙ settled-loose 3 fs (operated at op l r) loose,
+    )
 completes _ _ _ _ (both levels at ts us l r d e) =
     between at 2 levels And ts us l r refl chains-and (completes conjunction levels ts l d) (completes comparison levels us r e)
 completes _ _ _ _ (either levels at ts us l r d e) =

@@ -21,7 +21,7 @@ digit b h = grind (arith, nat_tests)
 past_already : (v b : ℕ) (bs whole : List ℕ) → digits_value_after 10 v (leading_digits (b ∷ bs)) ≡ digits_value 10 whole → is_ascii_digit b ≡ true → 2 ^ 63 < v * 10 + (b - 48) → None ≡ magnitude_of whole
 past_already v b bs whole same is large =
     let here : digits_value_after 10 (v * 10 + digit_value b) (leading_digits bs) ≡ digits_value 10 whole =
-        ap (λ t. digits_value_after 10 v (if t then b ∷ leading_digits bs else [])) (sym is) ∙ same in
+    ap (λ t. digits_value_after 10 v (if t then b ∷ leading_digits bs else [])) (sym is) ∙ same in
     let past : 2 ^ 63 < digits_value 10 whole = omega (arith, digits_value_after-ge (v * 10 + digit_value b) (leading_digits bs), digit b is) in
     past_limit (digits_value 10 whole) past
 

@@ -6,3 +6,4 @@ pub mod Reaching
 pub mod ParserLaws
 pub mod TokenLaws
 pub mod ReadLaws
+pub mod EvaluationLaws

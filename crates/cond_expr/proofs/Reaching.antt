@@ -139,7 +139,7 @@ operator_next at op fs r ps c = go (chains op fs) refl (strength_cases op)
         let high = c.high in
         let loose = loose_from_chains op fs three c.outside e in
         subst (λ s. ReachedIf (operate at op s) (ps ++ placed at (Operate op) ∷ [])) (sym (settled-loose (strength op) fs r (subst (λ n. Loose n fs) (sym three) loose)))
-            (operator_waits at op c.level fs r ps (omega arith) (λ _. high) (subst (λ n. Loose n fs) (sym three) loose) c.has)
+        (operator_waits at op c.level fs r ps (omega arith) (λ _. high) (subst (λ n. Loose n fs) (sym three) loose) c.has)
 
 close_next : (at : ℕ) (s : State) (ps : List Placed) → IsClosed 1 s ps → ReachedIf (close s) (ps ++ placed at Close ∷ [])
 unfolding ReachedIf
@@ -161,7 +161,7 @@ next_reached at Unknown (awaiting fs) ps w = tt
 next_reached at (Value v) (complete fs r) ps c = tt
 next_reached at Not (complete fs r) ps c = tt
 next_reached at Open (complete fs r) ps c = tt
-next_reached at Close (complete fs r) ps c = 
+next_reached at Close (complete fs r) ps c =
     let high = c.high in
     close_next at (settled 1 fs r) ps (settled_reads 1 fs c.level r ps (omega arith) (omega arith) c.has)
 next_reached at (Operate op) (complete fs r) ps c = operator_next at op fs r ps c
@@ -280,6 +280,7 @@ stuck_fault text at h = record {
     stays : (more : List Placed) → or_else_fault (run ((h.front ++ h.token ∷ []) ++ more) (awaiting [])) (finish 0) ≡ Err h.token.at
     stays more = ap (λ o. or_else_fault o (finish 0))
         (ap (λ x. run x (awaiting [])) (append_assoc h.front (h.token ∷ []) more) ∙ run-then h.front (h.token ∷ more) (awaiting []) h.state h.ran ∙ run-stuck h.token more h.state h.stuck)
+
     unread : (r : Reading) → ◌≡◌ {A = Result Reading ℕ} (Err h.token.at) (Ok r) → ⊥
     unread r e = cc
 

@@ -38,7 +38,8 @@ token_turn old new at n t text within not_space some is takes h = go (next at t 
     ahead : run (placed at t ∷ tokens_from (at + n) 0 (drop (at + n) text)) h.0 ≡ run (tokens text) (awaiting [])
     ahead =
         ap (λ u. run (placed at u.0 ∷ tokens_from (at + u.1) 0 (drop (at + u.1) text)) h.0) is
-            ∙ ap (λ ts. run ts h.0) (sym (tokens_from-token at text within (not_equal (get_or text at 0) not_space) (subst (λ u. 0 < u.1) is some))) ∙ h.2
+        ∙ ap (λ ts. run ts h.0) (sym (tokens_from-token at text within (not_equal (get_or text at 0) not_space) (subst (λ u. 0 < u.1) is some))) ∙ h.2
+
     go : (o : Option State) → next at t h.0 ≡ o → Takes true o new → Reads_on new (at + n) text
     go None e taken = absurd taken
     go (Some s) e taken = (s, taken, sym (run-next (placed at t) (tokens_from (at + n) 0 (drop (at + n) text)) h.0 s e) ∙ ahead)
@@ -50,7 +51,8 @@ token_stop old new at n t text within not_space some is takes h = go (next at t 
     ahead : run (placed at t ∷ tokens_from (at + n) 0 (drop (at + n) text)) h.0 ≡ run (tokens text) (awaiting [])
     ahead =
         ap (λ u. run (placed at u.0 ∷ tokens_from (at + u.1) 0 (drop (at + u.1) text)) h.0) is
-            ∙ ap (λ ts. run ts h.0) (sym (tokens_from-token at text within (not_equal (get_or text at 0) not_space) (subst (λ u. 0 < u.1) is some))) ∙ h.2
+        ∙ ap (λ ts. run ts h.0) (sym (tokens_from-token at text within (not_equal (get_or text at 0) not_space) (subst (λ u. 0 < u.1) is some))) ∙ h.2
+
     go : (o : Option State) → next at t h.0 ≡ o → Takes false o new → reading_of text ≡ Err at
     go None e taken = ap (λ o. or_else_fault o (finish (length text))) (sym ahead ∙ run-stuck (placed at t) (tokens_from (at + n) 0 (drop (at + n) text)) h.0 e)
     go (Some s) e taken = absurd taken

@@ -48,11 +48,12 @@ token_first at b rest not_space some = go (token_at (b ∷ rest)) some
   where
     same : (n : ℕ) → 0 < n → suc at + (n - 1) ≡ at + n
     same n h = omega arith
+
     go : (t : Token × ℕ) → 0 < t.1 →
         (if b == 32 then tokens_from (suc at) zero rest else placed at t.0 ∷ tokens_from (suc at) (t.1 - 1) rest) ≡ placed at t.0 ∷ tokens_from (at + t.1) 0 (drop t.1 (b ∷ rest))
     go t h =
         ap (λ c. if c then tokens_from (suc at) zero rest else placed at t.0 ∷ tokens_from (suc at) (t.1 - 1) rest) not_space
-            ∙ ap (λ ts. placed at t.0 ∷ ts) (tokens_from-skip (suc at) (t.1 - 1) rest ∙ ap (λ n. tokens_from n 0 (drop (t.1 - 1) rest)) (same t.1 h) ∙ ap (tokens_from (at + t.1) 0) (drop_behind t.1 b rest h))
+        ∙ ap (λ ts. placed at t.0 ∷ ts) (tokens_from-skip (suc at) (t.1 - 1) rest ∙ ap (λ n. tokens_from n 0 (drop (t.1 - 1) rest)) (same t.1 h) ∙ ap (tokens_from (at + t.1) 0) (drop_behind t.1 b rest h))
 
 -- a token
 pub tokens_from-token : (at : ℕ) (text : List ℕ) → at < length text → get_or text at 0 == 32 ≡ false → 0 < (token_at (drop at text)).1 →
@@ -62,7 +63,7 @@ tokens_from-token at text within not_space some =
     let some' : 0 < (token_at (get_or text at 0 ∷ drop (at + 1) text)).1 = subst (λ x. 0 < (token_at x).1) front some in
     let One : List ℕ → Type 0 = λ x. tokens_from at 0 x ≡ placed at (token_at x).0 ∷ tokens_from (at + (token_at x).1) 0 (drop (token_at x).1 x) in
     subst One (sym front) (token_first at (get_or text at 0) (drop (at + 1) text) not_space some')
-        ∙ ap (λ x. placed at (token_at (drop at text)).0 ∷ tokens_from (at + (token_at (drop at text)).1) 0 x) (drop-drop (token_at (drop at text)).1 at text)
+    ∙ ap (λ x. placed at (token_at (drop at text)).0 ∷ tokens_from (at + (token_at (drop at text)).1) 0 x) (drop-drop (token_at (drop at text)).1 at text)
 
 -- the text's end
 pub tokens_from-end : (at : ℕ) (text : List ℕ) → length text ≤ at → tokens_from at 0 (drop at text) ≡ []
@@ -116,12 +117,12 @@ number_fits negative bs = go (length (leading_digits bs) == 0) refl (leading_dig
   where
     go : (c : Bool) → length (leading_digits bs) == 0 ≡ c → length (leading_digits bs) ≤ length bs →
         Fits (sign_len negative + length bs)
-            (option_map (λ z. (Value (Number z), sign_len negative + length (leading_digits bs))) (if c then None else option_and_then (signed negative) (magnitude_of (leading_digits bs))))
+        (option_map (λ z. (Value (Number z), sign_len negative + length (leading_digits bs))) (if c then None else option_and_then (signed negative) (magnitude_of (leading_digits bs))))
     go true e h = tt
     go false e h =
         let some = not_none (length (leading_digits bs)) e in
         mapped_fits (sign_len negative + length bs) (sign_len negative + length (leading_digits bs)) (λ z. Value (Number z))
-            (option_and_then (signed negative) (magnitude_of (leading_digits bs))) (omega arith) (omega arith)
+        (option_and_then (signed negative) (magnitude_of (leading_digits bs))) (omega arith) (omega arith)
 
 lt_true : (a b : ℕ) → nat_lt a b ≡ true → a < b
 lt_true a b h = grind (arith, nat_tests)
@@ -142,18 +143,20 @@ unfolding Fits AreWords
 known_token_fits [] = tt
 known_token_fits (b ∷ bs) =
     if_fits (suc (length bs)) (b == 34 || b == 39) (text_at b bs)
-        (if b == 45 then number_after true bs else if is_ascii_digit b then number_after false (b ∷ bs) else first_word (operators ++ marks) (b ∷ bs))
-        (text_fits b bs)
-        (if_fits (suc (length bs)) (b == 45) (number_after true bs) (if is_ascii_digit b then number_after false (b ∷ bs) else first_word (operators ++ marks) (b ∷ bs))
-            (subst (λ n. Fits n (number_after true bs)) one (number_fits true bs))
-            (if_fits (suc (length bs)) (is_ascii_digit b) (number_after false (b ∷ bs)) (first_word (operators ++ marks) (b ∷ bs))
-                (subst (λ n. Fits n (number_after false (b ∷ bs))) none (number_fits false (b ∷ bs)))
-                (first_word_fits (operators ++ marks) (b ∷ bs) words)))
+    (if b == 45 then number_after true bs else if is_ascii_digit b then number_after false (b ∷ bs) else first_word (operators ++ marks) (b ∷ bs))
+    (text_fits b bs)
+    (if_fits (suc (length bs)) (b == 45) (number_after true bs) (if is_ascii_digit b then number_after false (b ∷ bs) else first_word (operators ++ marks) (b ∷ bs))
+    (subst (λ n. Fits n (number_after true bs)) one (number_fits true bs))
+    (if_fits (suc (length bs)) (is_ascii_digit b) (number_after false (b ∷ bs)) (first_word (operators ++ marks) (b ∷ bs))
+    (subst (λ n. Fits n (number_after false (b ∷ bs))) none (number_fits false (b ∷ bs)))
+    (first_word_fits (operators ++ marks) (b ∷ bs) words)))
   where
     one : 1 + length bs ≡ suc (length bs)
     one = omega arith
+
     none : 0 + suc (length bs) ≡ suc (length bs)
     none = omega arith
+
     words : AreWords (operators ++ marks)
     words = (lit< tt, (lit< tt, (lit< tt, (lit< tt, (lit< tt, (lit< tt, (lit< tt, (lit< tt, (lit< tt, (lit< tt, (lit< tt, (lit< tt, (lit< tt, tt)))))))))))))
 

@@ -45,7 +45,7 @@ readings_after-steps_of (negated at r) ss rs =
     ap (λ x. readings_after x rs) (append_assoc (steps_of r) (Not at ∷ []) ss) ∙ readings_after-steps_of r (Not at ∷ ss) rs
 readings_after-steps_of (operated at op l r) ss rs =
     ap (λ x. readings_after x rs) (append_assoc (steps_of l) (steps_of r ++ Apply at op ∷ []) ss ∙ ap (λ x. steps_of l ++ x) (append_assoc (steps_of r) (Apply at op ∷ []) ss))
-        ∙ readings_after-steps_of l (steps_of r ++ Apply at op ∷ ss) rs ∙ readings_after-steps_of r (Apply at op ∷ ss) (l ∷ rs)
+    ∙ readings_after-steps_of l (steps_of r ++ Apply at op ∷ ss) rs ∙ readings_after-steps_of r (Apply at op ∷ ss) (l ∷ rs)
 
 append-nil : (ss : List Step) → ss ++ [] ≡ ss
 append-nil [] = refl

@@ -2,11 +2,15 @@
 #![tactic(auto)]
 
 mod cond;
-mod eval;
+mod evaluation;
 mod parse;
 mod token;
 mod value;
 
 pub use cond::Cond;
+pub use evaluation::eval;
 pub use parse::parse_cond;
 pub use value::{CondError, CondValue, Operator};
+
+#[cfg(test)]
+mod tests;

@@ -16,13 +16,13 @@ pub returns-then-not-stands : goal.returns-then-not-stands
 returns-then-not-stands c =
     let Took : Bool → Type 0 = λ b. (s : State) → Holds c.loop-at.parser s → Takes b (next c.loop-at.at c.in_ok-token.token s) c.take.new.self in
     token_stop c.loop-at.parser c.take.new.self c.loop-at.at c.in_ok-token.length c.in_ok-token.token c.args.text.now c.loop-at-test.true c.if-text-at-eq32.false
-        c.in_ok-token.ensures.some (c.in_ok-token.ensures.value ∙ ap token_at (take_rest c.args.text.now c.loop-at.at)) (subst Took c.if-not-stands.true c.in_ok-stands.ensures) c.loop-at.invariant
+    c.in_ok-token.ensures.some (c.in_ok-token.ensures.value ∙ ap token_at (take_rest c.args.text.now c.loop-at.at)) (subst Took c.if-not-stands.true c.in_ok-stands.ensures) c.loop-at.invariant
 
 pub loop-at-preserved : goal.loop-at-preserved
 loop-at-preserved c =
     let Took : Bool → Type 0 = λ b. (s : State) → Holds c.loop-at.parser s → Takes b (next c.loop-at.at c.in_ok-token.token s) c.take.new.self in
     token_turn c.loop-at.parser c.take.new.self c.loop-at.at c.in_ok-token.length c.in_ok-token.token c.args.text.now c.loop-at-test.true c.if-text-at-eq32.false
-        c.in_ok-token.ensures.some (c.in_ok-token.ensures.value ∙ ap token_at (take_rest c.args.text.now c.loop-at.at)) (subst Took c.if-not-stands.false c.in_ok-stands.ensures) c.loop-at.invariant
+    c.in_ok-token.ensures.some (c.in_ok-token.ensures.value ∙ ap token_at (take_rest c.args.text.now c.loop-at.at)) (subst Took c.if-not-stands.false c.in_ok-stands.ensures) c.loop-at.invariant
 
 pub returns : goal.returns
 returns c = end_turn c.loop-at.parser c.loop-at.at c.args.text.now c.finish.result c.loop-at-test.false c.finish.ensures c.loop-at.invariant

@@ -3,7 +3,7 @@
 ghost use Rattle.std.specs.Prelude.{◌≡◌, ◌∷◌, ◌<◌, ℕ, List, vec_len, IfOk, Ok, Err};
 ghost use Rattle.cond_expr.specs.declared.value.CondValue.{CondValue};
 ghost use Rattle.cond_expr.specs.Meaning.{opposite, equality, numbers, truths, applied, same_text, value_of};
-ghost use Rattle.cond_expr.specs.Piles.{pile, Puts};
+ghost use Rattle.cond_expr.specs.Piles.{pile, Puts, IsReady, Advances};
 ghost use Rattle.cond_expr.specs.Gives.{Gives};
 
 use crate::cond::{Cond, Step};
@@ -108,5 +108,40 @@ fn apply(values: &mut Vec<CondValue>, at: u32, operator: Operator) -> Result<(),
     match (values.pop(), values.pop()) {
         (Some(right), Some(left)) => put(values, at, applied(operator, &left, &right)),
         _ => unreachable!(),
+    }
+}
+
+/// Does one step over the values that the steps before it have left.
+fn advance(alloc: Global, values: &mut Vec<CondValue>, step: &Step) -> Result<(), CondError>
+    requires { IsReady step.now (vec_len values.old) }
+    ensures { Advances step.now result values.old.items values.new.items }
+{
+    match step {
+        Step::Value(value) => {
+            let value = value.copy(alloc)?;
+            values.push(value)?;
+            Ok(())
+        }
+        Step::Not(at) => negate(values, *at),
+        Step::Apply(at, operator) => apply(values, *at, *operator),
+    }
+}
+
+/// What a condition is worth. Both sides of an operator are always evaluated, the left before the right, and the first
+/// fault counts.
+pub fn eval(alloc: Global, cond: &Cond) -> Result<CondValue, CondError>
+    ensures value { IfOk result (λ v. value_of cond.now ≡ Ok v) }
+    // An operator at this place, the first in the order of evaluation, has an operand of the wrong kind.
+    ensures fault { (at : ℕ) → result ≡ Err (CondError.BadCond at) → value_of cond.now ≡ Err at }
+{
+    let mut values = Vec::new(alloc);
+    for step in &cond.steps {
+        if let Err(error) = advance(alloc, &mut values, step) {
+            return Err(error);
+        }
+    }
+    match values.pop() {
+        Some(value) => Ok(value),
+        None => unreachable!(),
     }
 }
