@@ -1,16 +1,15 @@
 -- What the grammar reads, the machine reads.
-use Rattle.std.proofs.Common.{◌≡◌, ℕ, suc, ◌+◌, ◌<◌, ◌≤◌, Bool, true, false, nat_lt, List, [], ◌∷◌, ◌++◌, length, Option, None, Some, Result, Ok, Err, if◌then◌else◌, refl, ap, sym, ◌∙◌, subst, arith, append_assoc}
+use Rattle.std.proofs.Common.{◌≡◌, ℕ, suc, ◌+◌, ◌≤◌, true, false, nat_lt, List, [], ◌∷◌, ◌++◌, None, Some, Ok, if◌then◌else◌, refl, ap, sym, ◌∙◌, arith}
 use Rattle.std.proofs.lemmas.Bool.Decides.{nat_tests}
 use Rattle.cond_expr.specs.declared.value.Operator.{Operator}
 use Rattle.cond_expr.specs.declared.value.Operator.TheVariants.{Or, And}
-use Rattle.cond_expr.specs.declared.token.Token.{Token}
 use Rattle.cond_expr.specs.declared.token.Token.TheVariants.{Value, Not, Open, Close, Operate}
-use Rattle.cond_expr.specs.Tokens.{Placed, tokens}
-use Rattle.cond_expr.specs.Reading.{Reading, constant, negated, operated}
-use Rattle.cond_expr.specs.Grammar.{Strength, disjunction, conjunction, comparison, operand, placed, IsComparison, Reads, value, negation, group, compare, both, either, one_operand, one_comparison, one_conjunction, max_depth, IsConditionOf, IsReadingOf}
+use Rattle.cond_expr.specs.Tokens.{Placed}
+use Rattle.cond_expr.specs.Reading.{Reading, constant, operated}
+use Rattle.cond_expr.specs.Grammar.{Strength, disjunction, conjunction, comparison, operand, placed, Reads, value, negation, group, compare, both, either, one_operand, one_comparison, one_conjunction, max_depth, IsConditionOf}
 use Rattle.cond_expr.specs.Machine as machine
 use Rattle.cond_expr.specs.Machine.{Frame, left_side, depth_of, State, awaiting, complete, settled, chains, strength, operate, close, next, run, whole, finish, or_else_fault, reading_of}
-use Rattle.cond_expr.proofs.Settling.{Loose, Loose-weaker, settled-loose, settled-closes, resettled, resettled-settled, chains-loose, chains-or, chains-and, comparison-strength, run-next, run-none, run-then, nat_le-true}
+use Rattle.cond_expr.proofs.Settling.{Loose, Loose-weaker, settled-loose, settled-closes, resettled, resettled-settled, chains-loose, chains-or, chains-and, comparison-strength, run-next, run-none, run-then}
 
 -- From the tokens the machine comes to a state that closes to the reading, in front of what was open before.
 abbrev pub Closes : ℕ → ℕ → List Placed → Reading → Type 0

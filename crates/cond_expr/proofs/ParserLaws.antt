@@ -1,5 +1,5 @@
 -- A parser that closes what is open.
-use Rattle.std.proofs.Common.{◌≡◌, ℕ, zero, suc, ◌+◌, ◌-◌, ◌<◌, ◌≤◌, Bool, true, false, nat_le, Option, Some, None, if◌then◌else◌, List, [], ◌∷◌, ◌++◌, refl, ap, sym, ◌∙◌, subst, arith, append_assoc}
+use Rattle.std.proofs.Common.{◌≡◌, ℕ, suc, ◌-◌, Bool, true, false, nat_le, None, if◌then◌else◌, List, [], ◌∷◌, ◌++◌, refl, ap, sym, ◌∙◌, subst, arith, append_assoc}
 use Rattle.std.proofs.lemmas.List.{same_from_push}
 use Rattle.cond_expr.specs.declared.value.Operator.{Operator}
 use Rattle.cond_expr.specs.declared.cond.Step.{Step}
@@ -12,7 +12,7 @@ use Rattle.cond_expr.specs.declared.token.Token.TheVariants.{Value, Close, Opera
 use Rattle.cond_expr.specs.Reading.{Reading, constant}
 use Rattle.cond_expr.specs.Steps.{steps_of}
 use Rattle.cond_expr.specs.Machine.{Frame, group, negation, left_side, State, awaiting, complete, closed, settled, chains, strength, frame_strength, depth_of, operate, close, next}
-use Rattle.cond_expr.specs.Holding.{IsHeld, IsOperandHeld, Holds, Takes, pending_of, left_steps, shape}
+use Rattle.cond_expr.specs.Holding.{IsOperandHeld, Holds, Takes, pending_of, left_steps, shape}
 
 -- the frame that was taken from what is open, and what is open without it
 taken : (fs : List Frame) (f : Frame) (items rest : List Pending) (p : Pending) → items ≡ pending_of (f ∷ fs) → items ≡ rest ++ p ∷ [] → (rest ≡ pending_of fs) × (p ≡ shape f)

@@ -1,5 +1,5 @@
 -- The states that tokens lead to, and the reading or fault of a text.
-use Rattle.std.proofs.Common.{◌≡◌, ℕ, zero, suc, ◌+◌, ◌-◌, ◌<◌, ◌&&◌, ◌⊎◌, inl, inr, ◌≤◌, Bool, true, false, nat_lt, nat_le, List, [], ◌∷◌, ◌++◌, length, Option, None, Some, Result, Ok, Err, if◌then◌else◌, refl, ap, sym, ◌∙◌, subst, arith, append_assoc, MatchResult}
+use Rattle.std.proofs.Common.{◌≡◌, ℕ, suc, ◌+◌, ◌-◌, ◌<◌, ◌&&◌, ◌⊎◌, inl, inr, ◌≤◌, Bool, true, false, nat_lt, nat_le, List, [], ◌∷◌, ◌++◌, length, Option, None, Some, Result, Ok, Err, if◌then◌else◌, refl, ap, sym, ◌∙◌, subst, arith, append_assoc, MatchResult}
 use Rattle.std.proofs.lemmas.Bool.Decides.{nat_tests}
 use Rattle.cond_expr.specs.declared.value.CondValue.{CondValue}
 use Rattle.cond_expr.specs.declared.value.CondValue.TheVariants.{Truth}
@@ -8,13 +8,12 @@ use Rattle.cond_expr.specs.declared.value.Operator.TheVariants.{Or, And, Equal, 
 use Rattle.cond_expr.specs.declared.token.Token.{Token}
 use Rattle.cond_expr.specs.declared.token.Token.TheVariants.{Value, Not, Open, Close, Operate, Unknown}
 use Rattle.cond_expr.specs.Tokens.{Placed, tokens}
-use Rattle.cond_expr.specs.Reading.{Reading, constant, negated, operated}
-use Rattle.cond_expr.specs.Grammar.{Strength, disjunction, conjunction, comparison, operand, placed, IsComparison, Reads, value, max_depth, IsConditionOf, IsReadingOf, BeginsCondition, StopsAt, IsFaultOf}
-use Rattle.cond_expr.specs.Machine as machine
-use Rattle.cond_expr.specs.Machine.{Frame, group, negation, left_side, depth_of, State, awaiting, complete, closed, frame_strength, settled, chains, strength, operate, close, open_frame, next, run, state_or_fault, or_else_fault, whole, finish, reading_of}
-use Rattle.cond_expr.proofs.Settling.{Loose, Loose-weaker, Loose-any, settled-loose, run-then, run-none, run-next, run-stuck, nat_le-false}
+use Rattle.cond_expr.specs.Reading.{Reading, constant}
+use Rattle.cond_expr.specs.Grammar.{Strength, operand, placed, Reads, value, max_depth, IsConditionOf, IsReadingOf, BeginsCondition, IsFaultOf}
+use Rattle.cond_expr.specs.Machine.{Frame, group, negation, left_side, depth_of, State, awaiting, complete, settled, chains, strength, operate, close, open_frame, next, run, state_or_fault, or_else_fault, whole, finish, reading_of}
+use Rattle.cond_expr.proofs.Settling.{Loose, Loose-any, settled-loose, run-then, run-none, run-next, run-stuck}
 use Rattle.cond_expr.proofs.Completeness.{whole_reading}
-use Rattle.cond_expr.proofs.Soundness.{bound, to_operand, to_comparison, to_conjunction, to_disjunction, LeftSide, Opened, nothing, a_group, a_negation, a_left_side, Has, close_group_of, ends_of, append-nil, completion, Closed, IsClosed, settled_reads}
+use Rattle.cond_expr.proofs.Soundness.{bound, to_operand, to_conjunction, to_disjunction, LeftSide, Opened, nothing, a_group, a_negation, a_left_side, Has, close_group_of, ends_of, append-nil, completion, Closed, IsClosed, settled_reads}
 
 -- the state stands for these tokens
 pub record Waits (fs : List Frame) (ps : List Placed) : Type 0 where

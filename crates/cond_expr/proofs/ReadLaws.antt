@@ -1,19 +1,18 @@
 -- One turn of the reading of a text.
-use Rattle.std.proofs.Common.{◌≡◌, ℕ, ◌+◌, ◌<◌, ◌≤◌, Bool, true, false, ◌==◌, nat_eq, List, [], ◌∷◌, ◌++◌, length, drop, get_or, Option, Some, None, Result, Ok, Err, MatchResult, refl, ap, sym, ◌∙◌, subst, arith, IfOk}
+use Rattle.std.proofs.Common.{◌≡◌, ℕ, ◌+◌, ◌<◌, ◌≤◌, Bool, true, false, ◌==◌, List, [], ◌∷◌, ◌++◌, length, drop, get_or, Option, Some, None, Result, Ok, Err, MatchResult, refl, ap, sym, ◌∙◌, subst, arith, IfOk}
 use Rattle.std.proofs.lemmas.Bool.Decides.{nat_tests}
 use Rattle.cond_expr.specs.declared.token.Token.{Token}
 use Rattle.cond_expr.specs.declared.value.CondError.{CondError}
-use Rattle.cond_expr.specs.declared.value.CondError.TheVariants.{BadCond, NoMemory}
+use Rattle.cond_expr.specs.declared.value.CondError.TheVariants.{BadCond}
 use Rattle.cond_expr.specs.declared.parse.Parser.{Parser}
 use Rattle.cond_expr.specs.declared.parse.Pending.{Pending}
 use Rattle.std.proofs.lemmas.List.{nil_from_length}
-use Rattle.cond_expr.specs.declared.cond.Step.{Step}
-use Rattle.cond_expr.specs.Tokens.{Placed, token_at, tokens_from, tokens}
+use Rattle.cond_expr.specs.Tokens.{token_at, tokens_from, tokens}
 use Rattle.cond_expr.specs.Reading.{Reading}
 use Rattle.cond_expr.specs.Grammar.{placed, IsReadingOf, IsFaultOf}
 use Rattle.cond_expr.specs.Machine as machine
 use Rattle.cond_expr.specs.Machine.{State, awaiting, complete, settled, next, run, finish, whole, or_else_fault, reading_of}
-use Rattle.cond_expr.specs.Steps.{steps_of, reading_of_steps, AreSteps, reading_of_steps-steps_of}
+use Rattle.cond_expr.specs.Steps.{steps_of}
 use Rattle.cond_expr.specs.Gives.{Gives}
 use Rattle.cond_expr.specs.Holding.{Holds, Takes, IsOperandHeld, pending_of, left_steps, shape}
 use Rattle.cond_expr.proofs.Settling.{run-next, run-stuck, run-none}

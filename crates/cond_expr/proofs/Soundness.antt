@@ -1,18 +1,15 @@
 -- What the machine reads is in the grammar, and at each state some condition can still come.
-use Rattle.std.proofs.Common.{◌≡◌, ℕ, zero, suc, ◌+◌, ◌<◌, ◌≤◌, Bool, true, false, nat_lt, nat_le, List, [], ◌∷◌, ◌++◌, length, Option, None, Some, Result, Ok, Err, if◌then◌else◌, refl, ap, sym, ◌∙◌, subst, arith, append_assoc}
+use Rattle.std.proofs.Common.{◌≡◌, ℕ, suc, ◌+◌, ◌<◌, ◌≤◌, Bool, true, false, nat_le, List, [], ◌∷◌, ◌++◌, if◌then◌else◌, refl, ap, sym, ◌∙◌, subst, arith, append_assoc}
 use Rattle.std.proofs.lemmas.Bool.Decides.{nat_tests}
-use Rattle.cond_expr.specs.declared.value.CondValue.{CondValue}
-use Rattle.cond_expr.specs.declared.value.CondValue.TheVariants.{Truth}
 use Rattle.cond_expr.specs.declared.value.Operator.{Operator}
 use Rattle.cond_expr.specs.declared.value.Operator.TheVariants.{Or, And, Equal, NotEqual, Less, LessOrEqual, Greater, GreaterOrEqual}
-use Rattle.cond_expr.specs.declared.token.Token.{Token}
-use Rattle.cond_expr.specs.declared.token.Token.TheVariants.{Value, Not, Open, Close, Operate, Unknown}
-use Rattle.cond_expr.specs.Tokens.{Placed, tokens}
-use Rattle.cond_expr.specs.Reading.{Reading, constant, negated, operated}
-use Rattle.cond_expr.specs.Grammar.{Strength, disjunction, conjunction, comparison, operand, placed, IsComparison, Reads, value, negation, group, compare, both, either, one_operand, one_comparison, one_conjunction, max_depth, IsConditionOf, IsReadingOf, BeginsCondition}
+use Rattle.cond_expr.specs.declared.token.Token.TheVariants.{Not, Open, Close, Operate}
+use Rattle.cond_expr.specs.Tokens.{Placed}
+use Rattle.cond_expr.specs.Reading.{Reading, negated, operated}
+use Rattle.cond_expr.specs.Grammar.{Strength, disjunction, conjunction, comparison, operand, placed, Reads, negation, group, compare, both, either, one_operand, one_comparison, one_conjunction, max_depth, IsConditionOf, BeginsCondition}
 use Rattle.cond_expr.specs.Machine as machine
 use Rattle.cond_expr.specs.Machine.{Frame, left_side, depth_of, State, awaiting, complete, closed, frame_strength, settled, chains, strength, operate, close, next, run}
-use Rattle.cond_expr.proofs.Settling.{Loose, Loose-weaker, Loose-any, settled-loose, settled-closes, nat_le-holds, comparison-strength}
+use Rattle.cond_expr.proofs.Settling.{Loose, Loose-any, nat_le-holds}
 
 -- how strongly the frame around a reading of this strength may bind at most, and 1
 abbrev pub bound : Strength → ℕ

@@ -1,15 +1,15 @@
 -- The tokens of a text, one token on.
-use Rattle.std.proofs.Common.{◌≡◌, ℕ, zero, suc, ◌+◌, ◌-◌, ◌<◌, ◌≤◌, Bool, true, false, ◌==◌, ◌||◌, nat_eq, nat_lt, lit<, List, [], ◌∷◌, ◌++◌, length, take, drop, get_or, Option, Some, None, if◌then◌else◌, refl, ap, sym, ◌∙◌, subst, arith, add-one, cond}
+use Rattle.std.proofs.Common.{◌≡◌, ℕ, zero, suc, ◌+◌, ◌-◌, ◌<◌, ◌≤◌, Bool, true, false, ◌==◌, ◌||◌, nat_eq, nat_lt, lit<, List, [], ◌∷◌, ◌++◌, length, take, drop, get_or, Option, Some, None, if◌then◌else◌, refl, ap, sym, ◌∙◌, subst, arith}
 use Rattle.std.specs.Char.{is_ascii_digit}
-use Rattle.std.specs.List.{starts_with, position, position_or_len}
+use Rattle.std.specs.List.{starts_with, position_or_len}
 use Rattle.std.specs.Option.{option_map, option_and_then, unwrap_or}
 use Rattle.std.proofs.lemmas.List.{drop_more, drop_all, drop-drop, length-take}
-use lib.Pointwise.{pointwise, pointwise_long}
+use lib.Pointwise.{pointwise_long}
 use Rattle.std.proofs.lemmas.Bool.Decides.{nat_tests}
 use Rattle.cond_expr.specs.declared.token.Token.{Token}
 use Rattle.cond_expr.specs.declared.token.Token.TheVariants.{Value, Unknown}
 use Rattle.cond_expr.specs.declared.value.CondValue.TheVariants.{Number, Text}
-use Rattle.cond_expr.specs.Tokens.{leading_digits, magnitude_of, signed, numeral, sign_len, number_after, text_at, operators, marks, first_word, known_token, token_at, Placed, tokens_from}
+use Rattle.cond_expr.specs.Tokens.{leading_digits, magnitude_of, signed, sign_len, number_after, text_at, operators, marks, first_word, known_token, token_at, tokens_from}
 use Rattle.cond_expr.specs.Grammar.{placed}
 
 -- bytes that belong to a token that is counted already are passed over

@@ -1,6 +1,5 @@
 -- How a parser holds a state: the steps of what was read, and what is open with the innermost last.
 use Rattle.std.specs.Prelude.{◌≡◌, ℕ, Bool, true, false, List, [], ◌∷◌, ◌++◌, Option, Some, None}
-use Rattle.cond_expr.specs.declared.value.Operator.{Operator}
 use Rattle.cond_expr.specs.declared.cond.Step.{Step}
 use Rattle.cond_expr.specs.declared.parse.Pending.{Pending}
 use Rattle.cond_expr.specs.declared.parse.Pending.TheVariants.{Group, Not, Operator as Left}

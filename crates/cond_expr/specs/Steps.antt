@@ -1,11 +1,9 @@
 -- A reading as steps in the order of evaluation.
-use Rattle.std.specs.Prelude.{◌≡◌, ℕ, Bool, true, false, List, [], ◌∷◌, ◌++◌, refl}
+use Rattle.std.specs.Prelude.{◌≡◌, false, List, [], ◌∷◌, ◌++◌, refl}
 use Rattle.std.proofs.Common.{ap, sym, ◌∙◌, append_assoc}
 use Rattle.std.specs.Coded.{Coded, code_by, coded_list}
 use Rattle.cond_expr.specs.contracts.cond.Step.{the_row}
-use Rattle.cond_expr.specs.declared.value.CondValue.{CondValue}
 use Rattle.cond_expr.specs.declared.value.CondValue.TheVariants.{Truth}
-use Rattle.cond_expr.specs.declared.value.Operator.{Operator}
 use Rattle.cond_expr.specs.declared.cond.Step.{Step}
 use Rattle.cond_expr.specs.declared.cond.Step.TheVariants.{Value, Not, Apply}
 use Rattle.cond_expr.specs.Reading.{Reading, constant, negated, operated}

@@ -3,9 +3,7 @@ use Rattle.std.specs.Prelude.{ℕ, zero, suc, ◌+◌, ◌-◌, ◌^◌, ℤ, po
 use Rattle.std.specs.List.{starts_with, position}
 use Rattle.std.specs.Char.{is_ascii_digit}
 use Rattle.std.specs.Str.Parse.{digits_value}
-use Rattle.cond_expr.specs.declared.value.CondValue.{CondValue}
 use Rattle.cond_expr.specs.declared.value.CondValue.TheVariants.{Number, Text, Truth}
-use Rattle.cond_expr.specs.declared.value.Operator.{Operator}
 use Rattle.cond_expr.specs.declared.value.Operator.TheVariants.{Or, And, Equal, NotEqual, Less, LessOrEqual, Greater, GreaterOrEqual}
 use Rattle.cond_expr.specs.declared.token.Token.{Token}
 use Rattle.cond_expr.specs.declared.token.Token.TheVariants.{Value, Not, Open, Close, Operate, Unknown}

@@ -1,4 +1,4 @@
-use Rattle.std.proofs.Common.{rules, sym, ap, ◌∙◌, subst}
+use Rattle.std.proofs.Common.{rules}
 use Rattle.cond_expr.proofs.EvaluationLaws.{value_advances, negate_advances, apply_advances}
 use Rattle.cond_expr.proofs.evaluation.advance.Goals as goal
 

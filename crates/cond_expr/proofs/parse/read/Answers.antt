@@ -1,4 +1,4 @@
-use Rattle.std.proofs.Common.{[], ◌∙◌, Bool, true, false, refl, rules, arith, ap, subst}
+use Rattle.std.proofs.Common.{[], ◌∙◌, Bool, refl, ap, subst}
 use Rattle.std.proofs.lemmas.List.{take_rest}
 use Rattle.cond_expr.specs.Tokens.{token_at}
 use Rattle.cond_expr.specs.Machine.{State, awaiting, next}

@@ -1,4 +1,4 @@
-use Rattle.std.proofs.Common.{true, rules, refl}
+use Rattle.std.proofs.Common.{rules, refl}
 use Rattle.cond_expr.specs.declared.parse.Parser.{Parser}
 use Rattle.cond_expr.proofs.ParserLaws.{close_takes}
 use Rattle.cond_expr.proofs.parse.Parser.close.Goals as goal

@@ -1,4 +1,4 @@
-use Rattle.std.proofs.Common.{◌≡◌, [], Ok, ap, sym, ◌∙◌, rules}
+use Rattle.std.proofs.Common.{◌≡◌, [], Ok, ap, sym, ◌∙◌}
 use Rattle.cond_expr.specs.Steps.{reading_of_steps, reading_of_steps-steps_of}
 use Rattle.cond_expr.proofs.ReadLaws.{finished, empty_pending}
 use Rattle.cond_expr.proofs.parse.Parser.finish.Goals as goal
