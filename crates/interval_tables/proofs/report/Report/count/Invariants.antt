@@ -1,0 +1,7 @@
+use Rattle.std.proofs.Common.{◌≡◌, take}
+use Rattle.interval_tables.specs.declared.row.Row.{Row}
+use Rattle.interval_tables.specs.Totals.{total}
+use Rattle.interval_tables.proofs.report.Report.count.Given as goal
+
+abbrev pub invariant-loop-row : goal.invariant-loop-row
+invariant-loop-row l = l.count ≡ total (λ (r : Row). r.count) (take l.row-index l.row-items)

@@ -1,0 +1,8 @@
+//! Rows of counters, and the report of an interval.
+#![tactic(auto)]
+
+pub mod report;
+pub mod row;
+
+pub use report::{Report, Rows};
+pub use row::Row;
