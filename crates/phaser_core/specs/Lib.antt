@@ -1,0 +1,6 @@
+pub mod Cells
+pub mod Views
+pub mod Moves
+pub mod Shares
+pub mod Invariant
+pub mod Step

@@ -1,0 +1,7 @@
+//! The recorder's words and steps as plain data: whatever the order of the atomic steps of its writers and its
+//! reporter, each sample counts whole in exactly one interval, and never in one that is closed already.
+#![tactic(auto)]
+
+pub mod view;
+
+pub use view::{Closing, Event, Joined, Numbers, Reading, Stage, View, Writing};
