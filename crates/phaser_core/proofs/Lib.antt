@@ -1,0 +1,12 @@
+pub mod Lists
+pub mod Totals
+pub mod Folds
+pub mod Halves
+pub mod PhaseSteps
+pub mod Members
+pub mod CellSteps
+pub mod Sounds
+pub mod Sharing
+pub mod Whole
+pub mod Steps
+pub mod Every

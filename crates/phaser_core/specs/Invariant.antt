@@ -1,8 +1,7 @@
 -- What holds between any two steps, in every order of the steps of all actors.
-use Rattle.std.specs.Prelude.{◌≡◌, ℕ, ◌+◌, ◌*◌, ◌%◌, ◌<◌, ◌≤◌, not, Bool, true, false, List, [], ◌∷◌, length, slice_index, slice_index_or, nat_lt}
+use Rattle.std.specs.Prelude.{◌≡◌, ℕ, ◌+◌, ◌%◌, ◌<◌, ◌≤◌, Bool, false, List, [], ◌∷◌, length, slice_index, slice_index_or, nat_lt}
 use mathlib.Core.Option.{some}
 use lib.ListN.{get_elem?}
-use Rattle.jm_base.specs.declared.types.Entry.{Entry}
 use Rattle.interval_tables.specs.Totals.{total, one_if}
 use Rattle.interval_tables.specs.Rows.{sum_of}
 use Rattle.phaser_core.specs.declared.view.Numbers.{Numbers}
@@ -15,7 +14,7 @@ use Rattle.phaser_core.specs.declared.view.Reading.{Reading}
 use Rattle.phaser_core.specs.declared.view.View.{View}
 use Rattle.phaser_core.specs.declared.view.View.TheVariants.{Reporter, Writer, Gone}
 use Rattle.phaser_core.specs.Cells.{end_at, initial, phase, vacant, sums, table_cells, word_count, cell_at, no_report}
-use Rattle.phaser_core.specs.Views.{Pair, IsSized, inside, busy, uses, holders, heads, turned, pending, current, other, active, taken_count, worth}
+use Rattle.phaser_core.specs.Views.{Pair, IsSized, inside, busy, uses, holders, heads, pending, current, other, active, taken_count, worth}
 use Rattle.phaser_core.specs.Shares.{share_of, AllUpTo, Rising, AllInRange}
 use Rattle.phaser_core.specs.Moves.{stepped_words, stepped_views, Move}
 
@@ -64,18 +63,18 @@ InTable cells (Harvest j) = j < cells
 
 -- Each cell of a live interval is its initial value folded with exactly the contributions of that interval.
 -- In Idle the other table is at its initial values. While cells are taken, those taken are at their initial values again, and the reporter holds what they were.
-pub record HoldsCells (words : List ℕ) (views : List View) (r : Reading) : Type 0 where
-  pub live : (i j : ℕ) → LiveFrom r.closing r.interval i → j < table_cells r.labels → (i ≡ r.interval → length r.cells ≤ j) → slice_index words (cell_at r.labels i j) ≡ worth r.labels i j views
-  pub vacant_table : r.closing ≡ Idle → (j : ℕ) → j < table_cells r.labels → slice_index words (cell_at r.labels (r.interval + 1) j) ≡ vacant (j % 6)
+pub record HoldsCells (labels : ℕ) (words : List ℕ) (views : List View) (r : Reading) : Type 0 where
+  pub live : (i j : ℕ) → LiveFrom r.closing r.interval i → j < table_cells labels → (i ≡ r.interval → length r.cells ≤ j) → slice_index words (cell_at labels i j) ≡ worth labels i j views
+  pub vacant_table : r.closing ≡ Idle → (j : ℕ) → j < table_cells labels → slice_index words (cell_at labels (r.interval + 1) j) ≡ vacant (j % 6)
   pub count : length r.cells ≡ taken_count r.closing
-  pub in_table : InTable (table_cells r.labels) r.closing
-  pub emptied : (j : ℕ) → j < length r.cells → slice_index words (cell_at r.labels r.interval j) ≡ vacant (j % 6)
-  pub taken : (j : ℕ) → j < length r.cells → slice_index r.cells j ≡ worth r.labels r.interval j views
+  pub in_table : InTable (table_cells labels) r.closing
+  pub emptied : (j : ℕ) → j < length r.cells → slice_index words (cell_at labels r.interval j) ≡ vacant (j % 6)
+  pub taken : (j : ℕ) → j < length r.cells → slice_index r.cells j ≡ worth labels r.interval j views
 
 -- Report m is that of interval m, and sums exactly the entries with that interval.
-pub record ClosesShares (views : List View) (r : Reading) : Type 0 where
+pub record ClosesShares (labels : ℕ) (views : List View) (r : Reading) : Type 0 where
   pub count : length r.closed ≡ r.interval
-  pub each : (m : ℕ) → m < r.interval → slice_index_or r.closed m no_report ≡ record { interval = m; rows = sum_of r.labels (share_of m views) }
+  pub each : (m : ℕ) → m < r.interval → slice_index_or r.closed m no_report ≡ record { interval = m; rows = sum_of labels (share_of m views) }
 
 -- The intervals of a list never fall and are at most the active one; that of a stage is at least all of its list.
 abbrev pub StageRises : List Pair → Stage → Type 0
@@ -113,12 +112,12 @@ pub record ShowsStop (words : List ℕ) (views : List View) : Type 0 where
 -- each joined writer kept to its budget, its entries' labels are in range, and writer 0 knew how many were made
 abbrev pub AllKept : Numbers → ℕ → List Joined → Type 0
 AllKept n made [] = Unit {0}
-AllKept n made (j ∷ js) = (length j.list ≤ n.budget) × AllInRange n.labels j.list × (0 < j.made → (j.number ≡ 0) × (j.made ≡ made)) × AllKept n made js
+AllKept n made (j ∷ js) = (length j.list ≤ n.budget) × AllInRange n.labels j.list × (0 < j.made → (j.number ≡ 0) × (j.made ≡ made)) × (j.number ≡ 0 → 0 < j.made) × AllKept n made js
 
 -- what one view alone has to meet, of `made` writers: it stands at its port, keeps to the budget and to the labels, and writer 0 knows how many were made
 abbrev pub Fits : Numbers → ℕ → ℕ → View → Type 0
 Fits n made id (Reporter r) = (id ≡ 0) × AllKept n made r.joined × (r.ready ≡ false → made ≡ 0)
-Fits n made id (Writer w) = (id ≡ w.number + 1) × (length w.list + busy w.stage ≤ n.budget) × AllInRange n.labels w.list × (0 < w.made → (w.number ≡ 0) × (w.made ≡ made))
+Fits n made id (Writer w) = (id ≡ w.number + 1) × (length w.list + busy w.stage ≤ n.budget) × AllInRange n.labels w.list × (0 < w.made → (w.number ≡ 0) × (w.made ≡ made)) × (w.number ≡ 0 → 0 < w.made)
 Fits n made id Gone = Unit {0}
 
 -- the numbers of entries are those of 32 bits, and of a stage's entry no more steps are done than it has
@@ -171,9 +170,9 @@ pub record RecorderInvariant (n : Numbers) (words : List ℕ) (views : List View
   -- the interval of a writer that counts
   pub stage_intervals : (id : ℕ) (v : View) → get_elem? views id ≡ some v → ViewCounts reader v
   -- what stands in the cells
-  pub cells : HoldsCells words views reader
+  pub cells : HoldsCells n.labels words views reader
   -- each closed report is the sum of its share
-  pub closed_reports : ClosesShares views reader
+  pub closed_reports : ClosesShares n.labels views reader
   -- the intervals of a writer's list
   pub intervals_rise : (id : ℕ) (v : View) → get_elem? views id ≡ some v → ViewRises reader v
   -- the stop word

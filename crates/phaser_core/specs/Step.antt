@@ -1,9 +1,8 @@
 -- The step of an event on words and views: one step of one actor on one word, where the actor's stage enables it.
-use Rattle.std.specs.Prelude.{◌≡◌, ℕ, ◌+◌, ◌*◌, ◌<◌, ◌==◌, ◌++◌, Bool, true, false, not, List, [], ◌∷◌, length, Option, Some, None, nat_lt, unwrap_or, slice_index, slice_set}
+use Rattle.std.specs.Prelude.{ℕ, ◌+◌, ◌<◌, ◌==◌, ◌++◌, Bool, true, false, not, List, [], ◌∷◌, length, Option, Some, None, nat_lt, unwrap_or, slice_set}
 use mathlib.Core.Option.{some, none}
 use mathlib.Core.Option as maybe
 use lib.ListN.{get_elem?}
-use Rattle.jm_base.specs.declared.types.Entry.{Entry}
 use Rattle.interval_tables.specs.Totals.{one_if}
 use Rattle.phaser_core.specs.declared.view.Numbers.{Numbers}
 use Rattle.phaser_core.specs.declared.view.Stage.{Stage}

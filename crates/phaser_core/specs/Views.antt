@@ -1,5 +1,5 @@
 -- What the views of all actors say: who is inside, what was recorded, and how far the reporter is.
-use Rattle.std.specs.Prelude.{◌≡◌, ℕ, ◌+◌, ◌*◌, ◌%◌, ◌<◌, ◌≤◌, ◌==◌, not, Bool, true, false, List, [], ◌∷◌, ◌++◌, length, zero, suc}
+use Rattle.std.specs.Prelude.{◌≡◌, ℕ, ◌+◌, ◌*◌, ◌%◌, ◌<◌, ◌≤◌, ◌==◌, not, Bool, true, false, List, [], length}
 use Rattle.jm_base.specs.declared.types.Entry.{Entry}
 use Rattle.interval_tables.specs.Totals.{total, one_if}
 use Rattle.phaser_core.specs.declared.view.Numbers.{Numbers}
@@ -12,7 +12,7 @@ use Rattle.phaser_core.specs.declared.view.Closing.TheVariants.{Idle, Swapped, C
 use Rattle.phaser_core.specs.declared.view.Reading.{Reading}
 use Rattle.phaser_core.specs.declared.view.View.{View}
 use Rattle.phaser_core.specs.declared.view.View.TheVariants.{Reporter, Writer, Gone}
-use Rattle.phaser_core.specs.Cells.{is_odd, same, vacant, combine, gather, pick, adds, done, table_cells}
+use Rattle.phaser_core.specs.Cells.{is_odd, same, vacant, combine, gather, pick, adds, done}
 
 -- an entry with its interval
 abbrev pub Pair : Type 0

@@ -21,7 +21,9 @@ pub enum Stage {
     /// Between two entries.
     Out,
     /// It has entered: the parity that the start word showed is its token.
-    In { odd: bool },
+    In {
+        odd: bool,
+    },
     /// It counts an entry in an interval, and so many of the entry's steps are done.
     On {
         odd: bool,

@@ -1,0 +1,119 @@
+-- Each kind of step keeps the recorder invariant, and what a step may know of the state in which it is done.
+use Rattle.std.proofs.Common.{◌≡◌, ◌≢◌, ℕ, ◌<◌, ◌≤◌, Bool, true, false, List, [], ◌∷◌, ◌++◌, length, get_or, set, sym, refl, ap, ◌∙◌, subst}
+use mathlib.Core.Option.{some}
+use lib.ListN.{get_elem?}
+use Rattle.jm_base.specs.declared.types.Entry.{Entry}
+use Rattle.phaser_core.specs.declared.view.Numbers.{Numbers}
+use Rattle.phaser_core.specs.declared.view.Stage.TheVariants.{Out, In, On}
+use Rattle.phaser_core.specs.declared.view.Writing.{Writing}
+use Rattle.phaser_core.specs.declared.view.Closing.TheVariants.{Idle, Swapped, Cleared, Waiting, Harvest}
+use Rattle.phaser_core.specs.declared.view.Reading.{Reading}
+use Rattle.phaser_core.specs.declared.view.View.{View}
+use Rattle.phaser_core.specs.declared.view.View.TheVariants.{Reporter, Writer, Gone}
+use Rattle.phaser_core.specs.Cells.{is_odd, end_at, sums, table_cells}
+use Rattle.phaser_core.specs.Views.{IsSized, writer_zero, first_reading, ready_reading, AllJoined, active}
+use Rattle.phaser_core.specs.Shares.{AllUpTo, SumsOfLists}
+use Rattle.phaser_core.specs.Moves.{entering, loading, adding, leaving, swapping, clearing, flipping, looking, taking, looking_stop, raising_stop, raising_as_reporter, splitting, split_off, joining, first_words}
+use Rattle.phaser_core.specs.Invariant.{RecorderInvariant, Keeps, InTable}
+use Rattle.phaser_core.proofs.Halves.{AllTimely}
+use Rattle.phaser_core.proofs.PhaseSteps.{is_reader, at_front}
+use Rattle.phaser_core.proofs.Members.{all_gone}
+use Rattle.phaser_core.proofs.Sounds.{enter_sound, load_sound, add_sound, exit_sound, swap_sound, clear_sound, flip_sound, look_sound, take_sound, split_first_sound, split_more_sound, join_sound, opens_sound, raise_sound, look_stop_sound, raise_reporter_sound, look_knows, stop_knows}
+use Rattle.phaser_core.proofs.Sharing.{sums_of_lists}
+use Rattle.phaser_core.proofs.Whole.{whole, halves, timely}
+
+-- Steps of a writer
+
+module _ (n : Numbers) (ws : List ℕ) (vs : List View) (k : RecorderInvariant n ws vs) (id : ℕ) (w : Writing) (at : get_elem? vs id ≡ some (Writer w)) where
+  pub enter_keeps : w.stage ≡ Out → length w.list < n.budget → Keeps n ws vs id (entering w)
+  enter_keeps out room = whole n _ _ (enter_sound n ws vs (halves n ws vs k) id w at out room)
+
+  pub load_keeps : (q : Bool) (e : Entry) → w.stage ≡ In q → e.label < n.labels → e.elapsed < 4294967296 → e.bytes < 4294967296 → Keeps n ws vs id (loading w q e)
+  load_keeps q e is label elapsed bytes = whole n _ _ (load_sound n ws vs (halves n ws vs k) id w at q e is label elapsed bytes)
+
+  pub add_keeps : (q : Bool) (m : ℕ) (e : Entry) (d : ℕ) → w.stage ≡ On q m e d → d < sums e → Keeps n ws vs id (adding n.labels w q m e d)
+  add_keeps q m e d is more = whole n _ _ (add_sound n ws vs (halves n ws vs k) id w at q m e d is more)
+
+  pub exit_keeps : (q : Bool) (m : ℕ) (e : Entry) → w.stage ≡ On q m e (sums e) → Keeps n ws vs id (leaving w q m e)
+  exit_keeps q m e is = whole n _ _ (exit_sound n ws vs (halves n ws vs k) id w at q m e is)
+
+  pub look_stop_keeps : Keeps n ws vs id (looking_stop w)
+  look_stop_keeps = whole n _ _ (look_stop_sound n ws vs (halves n ws vs k) id w at)
+
+  pub raise_keeps : Keeps n ws vs id (raising_stop w)
+  raise_keeps = whole n _ _ (raise_sound n ws vs (halves n ws vs k) id w at)
+
+  pub split_keeps : 0 < w.made → w.made < n.writers → RecorderInvariant n ws (set vs id (splitting (Writer w)) ++ split_off (Writer w) ∷ [])
+  split_keeps some_made room = whole n _ _ (split_more_sound n ws vs (halves n ws vs k) id w at some_made room)
+
+  -- the interval that a load finds is at least all of the list
+  pub load_knows : AllUpTo (get_or ws 0 0) w.list
+  load_knows = subst (λ (a : ℕ). AllUpTo a w.list) (sym k.active_word) (k.intervals_rise id (Writer w) at).2
+
+  -- the stop word is 0 or 1, and 1 for a writer that raised it or saw it as 1
+  pub look_stop_knows : (get_or ws 4 0 ≤ 1) × (w.raised ≡ true → get_or ws 4 0 ≡ 1) × (w.saw ≡ true → get_or ws 4 0 ≡ 1)
+  look_stop_knows = stop_knows n ws vs (halves n ws vs k) id w at
+
+-- Steps of the reporter
+
+module _ (n : Numbers) (ws : List ℕ) (vs : List View) (k : RecorderInvariant n ws vs) (id : ℕ) (r : Reading) (at : get_elem? vs id ≡ some (Reporter r)) where
+  pub reporter_port : id ≡ 0
+  reporter_port = at_front n ws vs (halves n ws vs k).phased id r at
+
+  pub reader_is : k.reader ≡ r
+  reader_is = is_reader n ws vs (halves n ws vs k).phased id r at
+
+  pub labels_are : r.labels ≡ n.labels
+  labels_are = subst (λ (q : Reading). q.labels ≡ n.labels) reader_is k.accounts.labels
+
+  pub swap_keeps : r.closing ≡ Idle → r.interval < 16777216 → Keeps n ws vs id (swapping r)
+  swap_keeps idle few = whole n _ _ (swap_sound n ws vs (halves n ws vs k) id r at idle few)
+
+  pub clear_keeps : r.closing ≡ Swapped → Keeps n ws vs id (clearing r)
+  clear_keeps swapped = whole n _ _ (clear_sound n ws vs (halves n ws vs k) id r at swapped)
+
+  pub flip_keeps : r.closing ≡ Cleared → Keeps n ws vs id (flipping r)
+  flip_keeps cleared = whole n _ _ (flip_sound n ws vs (halves n ws vs k) id r at cleared)
+
+  pub look_keeps : (want : ℕ) → r.closing ≡ Waiting want → Keeps n ws vs id (looking r want)
+  look_keeps want waiting = whole n _ _ (look_sound n ws vs (halves n ws vs k) id r at want waiting)
+
+  pub take_keeps : (j : ℕ) → r.closing ≡ Harvest j → Keeps n ws vs id (taking r j)
+  take_keeps j harvest = whole n _ _ (take_sound n ws vs (halves n ws vs k) id r at j harvest)
+
+  pub raise_as_reporter_keeps : Keeps n ws vs id (raising_as_reporter r)
+  raise_as_reporter_keeps = whole n _ _ (raise_reporter_sound n ws vs (halves n ws vs k) id r at)
+
+  -- inside `new` the reporter makes writer 0
+  pub split_first_keeps : r.ready ≡ false → RecorderInvariant n ws (set vs id (splitting (Reporter r)) ++ split_off (Reporter r) ∷ [])
+  split_first_keeps fresh = whole n _ _ (split_first_sound n ws vs (halves n ws vs k) id r at fresh)
+
+  pub join_keeps : (port : ℕ) (w : Writing) → (port ≡ id → ⊥) → get_elem? (set vs id (joining (Reporter r) (Writer w))) port ≡ some (Writer w) → w.stage ≡ Out → RecorderInvariant n ws (set (set vs id (joining (Reporter r) (Writer w))) port Gone)
+  join_keeps port w apart there out = whole n _ _ (join_sound n ws vs (halves n ws vs k) id r port w at apart there out)
+
+  -- while cells are taken, there is one to take
+  pub take_knows : (j : ℕ) → r.closing ≡ Harvest j → j < table_cells n.labels
+  take_knows j harvest = subst (InTable (table_cells n.labels)) (ap (λ (q : Reading). q.closing) reader_is ∙ harvest) k.cells.in_table
+
+  -- the end word that is looked at is at most what is waited for, and is that where every writer is joined
+  pub look_finds : (want : ℕ) → r.closing ≡ Waiting want → (get_or ws (end_at (is_odd r.interval)) 0 ≤ want) × (AllJoined r → get_or ws (end_at (is_odd r.interval)) 0 ≡ want)
+  look_finds want waiting = look_knows n ws vs (halves n ws vs k) id r want at waiting
+
+  -- each closed report is the sum of some list of entries
+  pub reports_sum : SumsOfLists n r
+  reports_sum = subst (SumsOfLists n) reader_is (sums_of_lists n ws vs (halves n ws vs k))
+
+  pub joined_in_time : AllTimely (active r) r.joined
+  joined_in_time = subst (λ (q : Reading). AllTimely (active q) r.joined) reader_is (timely n ws vs k id (Reporter r) at)
+
+  -- where every writer is joined there is no other view
+  pub others_gone : AllJoined r → (port : ℕ) (v : View) → port ≢ 0 → get_elem? vs port ≡ some v → v ≡ Gone
+  others_gone all = all_gone n ws vs (halves n ws vs k).phased id r at all
+
+-- The start
+
+pub opens_keeps : (n : Numbers) → IsSized n → RecorderInvariant n (first_words n.labels) (Reporter (first_reading n.labels) ∷ [])
+opens_keeps n sized = whole n _ _ (opens_sound n sized)
+
+pub ready_keeps : (n : Numbers) → IsSized n → RecorderInvariant n (first_words n.labels) (Reporter (ready_reading n.labels) ∷ writer_zero ∷ [])
+ready_keeps n sized = split_first_keeps n (first_words n.labels) (Reporter (first_reading n.labels) ∷ []) (opens_keeps n sized) 0 (first_reading n.labels) refl refl
