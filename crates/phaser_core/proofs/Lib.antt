@@ -10,3 +10,4 @@ pub mod Sharing
 pub mod Whole
 pub mod Steps
 pub mod Every
+pub mod Ends
