@@ -4,3 +4,4 @@ pub mod Moves
 pub mod Shares
 pub mod Invariant
 pub mod Step
+pub mod Plain

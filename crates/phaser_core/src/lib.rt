@@ -2,6 +2,9 @@
 //! reporter, each sample counts whole in exactly one interval, and never in one that is closed already.
 #![tactic(auto)]
 
+pub mod step;
 pub mod view;
+pub mod writer;
 
 pub use view::{Closing, Event, Joined, Numbers, Reading, Stage, View, Writing};
+pub use writer::WriterState;

@@ -1,0 +1,111 @@
+-- What the core keeps of the views, and its steps on that.
+use Rattle.std.specs.Prelude.{◌≡◌, ℕ, zero, suc, ◌+◌, ◌*◌, ◌%◌, ◌^◌, ◌<◌, ◌≤◌, ◌==◌, ◌&&◌, not, Bool, true, false, if◌then◌else◌, min, max, List, [], ◌∷◌, ◌++◌, length, map, Option, Some, None, nat_lt, nat_le, slice_index, slice_index_or, slice_set}
+use Rattle.jm_base.specs.declared.types.Entry.{Entry}
+use Rattle.interval_tables.specs.declared.report.Report.{Report}
+use Rattle.interval_tables.specs.Totals.{one_if}
+use Rattle.phaser_core.specs.declared.view.Numbers.{Numbers}
+use Rattle.phaser_core.specs.declared.view.Stage.{Stage}
+use Rattle.phaser_core.specs.declared.view.Stage.TheVariants.{Out, In, On}
+use Rattle.phaser_core.specs.declared.view.Event.{Event}
+use Rattle.phaser_core.specs.declared.view.Event.TheVariants as event
+use Rattle.phaser_core.specs.declared.step.Change.{Change}
+use Rattle.phaser_core.specs.declared.step.Change.TheVariants.{Load, Add, Least, Greatest, Swap}
+use Rattle.phaser_core.specs.declared.step.Step.{Step}
+use Rattle.phaser_core.specs.declared.writer.WriterState.{WriterState}
+use Rattle.phaser_core.specs.declared.writer.WriterState.TheVariants.{Live, Gone}
+use Rattle.phaser_core.specs.Cells.{end_at, phase, place, skips, sums, column}
+use Rattle.phaser_core.specs.Views.{busy}
+
+abbrev pub changed : Change → ℕ → ℕ
+changed Load n = n
+changed (Add k) n = (n + k) % 2 ^ 64
+changed (Least k) n = min n k
+changed (Greatest k) n = max n k
+changed (Swap k) n = k
+
+-- what the step on a column's cell does
+abbrev pub cell_change : ℕ → Entry → Change
+cell_change zero e = Add 1
+cell_change (suc zero) e = Add (one_if (not e.ok))
+cell_change (suc (suc zero)) e = Add e.elapsed
+cell_change (suc (suc (suc zero))) e = Add e.bytes
+cell_change (suc (suc (suc (suc zero)))) e = Least e.elapsed
+cell_change (suc (suc (suc (suc (suc c))))) e = Greatest e.elapsed
+
+abbrev pub step_if : Bool → ℕ → Change → Option Step
+step_if true word change = Some (record { word = word; change = change })
+step_if false word change = None
+
+-- a step on a writer's cell
+abbrev pub cell_step : ℕ → ℕ → ℕ → Entry → ℕ → Bool → Option Step
+cell_step labels number m e d enabled = step_if enabled (place labels (m % 2) number e.label (column e d)) (cell_change (column e d) e)
+
+-- the steps that a stage enables
+abbrev pub out_step : ℕ → ℕ → Event → Option Step
+out_step budget entries (event.Enter x) = step_if (nat_lt entries budget) 1 (Add 1)
+out_step budget entries (event.LookStop x) = step_if true 4 Load
+out_step budget entries (event.RaiseStop x) = step_if true 4 (Swap 1)
+out_step budget entries _ = None
+
+abbrev pub in_step : ℕ → Event → Option Step
+in_step labels (event.Load x e) = step_if (nat_lt e.label labels) 0 Load
+in_step labels _ = None
+
+abbrev pub on_step : ℕ → ℕ → Bool → ℕ → Entry → ℕ → Event → Option Step
+on_step labels number p m e d (event.Add x) = cell_step labels number m e d (nat_lt d (3 + one_if (not e.ok)))
+on_step labels number p m e d (event.Lower x) = cell_step labels number m e d (d == 3 + one_if (not e.ok))
+on_step labels number p m e d (event.Raise x) = cell_step labels number m e d (d == 4 + one_if (not e.ok))
+on_step labels number p m e d (event.Exit x) = step_if (d == sums e) (end_at p) (Add 1)
+on_step labels number p m e d _ = None
+
+abbrev pub stage_step : Numbers → ℕ → ℕ → Event → Stage → Option Step
+stage_step n number entries e Out = out_step n.budget entries e
+stage_step n number entries e (In p) = in_step n.labels e
+stage_step n number entries e (On p m x d) = on_step n.labels number p m x d e
+
+abbrev pub writer_step : Numbers → Event → WriterState → Option Step
+writer_step n e (Live number stage entries made) = stage_step n number entries e stage
+writer_step n e Gone = None
+
+-- the stage after a step that found this number
+abbrev pub on_after : Bool → ℕ → Entry → ℕ → Event → Stage
+on_after p m x d (event.Exit w) = Out
+on_after p m x d _ = On p m x (d + 1)
+
+abbrev pub in_after : Bool → ℕ → Event → Stage
+in_after p found (event.Load w e) = On p found e 0
+in_after p found _ = In p
+
+abbrev pub out_after : ℕ → Event → Stage
+out_after found (event.Enter w) = In (phase found)
+out_after found _ = Out
+
+abbrev pub stage_after : Event → ℕ → Stage → Stage
+stage_after e found Out = out_after found e
+stage_after e found (In p) = in_after p found e
+stage_after e found (On p m x d) = on_after p m x d e
+
+-- an exit records an entry
+abbrev pub entries_after : Event → ℕ → ℕ
+entries_after (event.Exit w) entries = entries + 1
+entries_after _ entries = entries
+
+abbrev pub writer_after : Event → ℕ → WriterState → WriterState
+writer_after e found (Live number stage entries made) = Live number (stage_after e found stage) (entries_after e entries) made
+writer_after e found Gone = Gone
+
+-- the numbers of a writer are in their ranges
+abbrev pub FitsStage : ℕ → Stage → Type 0
+FitsStage labels Out = Unit {0}
+FitsStage labels (In p) = Unit {0}
+FitsStage labels (On p m e d) = (e.label < labels) × (d ≤ sums e)
+
+abbrev pub FitsWriter : Numbers → WriterState → Type 0
+FitsWriter n (Live number stage entries made) = FitsStage n.labels stage × (entries + busy stage ≤ n.budget)
+FitsWriter n Gone = Unit {0}
+
+-- a further step can be counted
+abbrev pub CanGoOn : Stage → Type 0
+CanGoOn Out = Unit {0}
+CanGoOn (In p) = Unit {0}
+CanGoOn (On p m e d) = d ≤ 6
