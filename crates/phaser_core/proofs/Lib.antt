@@ -11,3 +11,4 @@ pub mod Whole
 pub mod Steps
 pub mod Every
 pub mod Ends
+pub mod Plains

@@ -5,3 +5,4 @@ pub mod Shares
 pub mod Invariant
 pub mod Step
 pub mod Plain
+pub mod Shape

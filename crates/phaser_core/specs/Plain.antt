@@ -13,8 +13,13 @@ use Rattle.phaser_core.specs.declared.step.Change.TheVariants.{Load, Add, Least,
 use Rattle.phaser_core.specs.declared.step.Step.{Step}
 use Rattle.phaser_core.specs.declared.writer.WriterState.{WriterState}
 use Rattle.phaser_core.specs.declared.writer.WriterState.TheVariants.{Live, Gone}
-use Rattle.phaser_core.specs.Cells.{end_at, phase, place, skips, sums, column}
-use Rattle.phaser_core.specs.Views.{busy}
+use Rattle.phaser_core.specs.declared.view.Closing.{Closing}
+use Rattle.phaser_core.specs.declared.view.Closing.TheVariants.{Idle, Swapped, Cleared, Waiting, Harvest}
+use Rattle.phaser_core.specs.declared.applied.Applied.{Applied}
+use Rattle.phaser_core.specs.declared.applied.Applied.TheVariants.{Old, NotEnabled}
+use Rattle.phaser_core.specs.Cells.{is_odd, end_at, initial, phase, place, skips, sums, column, table_cells, word_count}
+use Rattle.phaser_core.specs.Views.{IsSized, busy, pending, taken_count}
+use Rattle.phaser_core.specs.Invariant.{InTable}
 
 abbrev pub changed : Change → ℕ → ℕ
 changed Load n = n
@@ -109,3 +114,52 @@ abbrev pub CanGoOn : Stage → Type 0
 CanGoOn Out = Unit {0}
 CanGoOn (In p) = Unit {0}
 CanGoOn (On p m e d) = d ≤ 6
+
+-- of every writer
+abbrev pub AllFitWriters : Numbers → List WriterState → Type 0
+AllFitWriters n [] = Unit {0}
+AllFitWriters n (w ∷ ws) = FitsWriter n w × AllFitWriters n ws
+
+-- a writer that is not there is gone
+abbrev pub writer_at : List WriterState → ℕ → WriterState
+writer_at ws i = slice_index_or ws i Gone
+
+-- the answer, the words and the writers after a step
+abbrev pub step_answer : Option Step → List ℕ → Applied
+step_answer None words = NotEnabled
+step_answer (Some s) words = Old (slice_index words s.word)
+
+abbrev pub words_after : Option Step → List ℕ → List ℕ
+words_after None words = words
+words_after (Some s) words = slice_set words s.word (changed s.change (slice_index words s.word))
+
+abbrev pub writers_after : Option Step → Event → ℕ → List ℕ → List WriterState → List WriterState
+writers_after None e i words ws = ws
+writers_after (Some s) e i words ws = slice_set ws i (writer_after e (slice_index words s.word) (writer_at ws i))
+
+-- the reporter's steps but for Look and Take
+abbrev pub closing_step : ℕ → Event → Closing → Option Step
+closing_step interval event.SwapActive Idle = step_if (nat_lt interval 16777216) 0 (Swap (interval + 1))
+closing_step interval event.ReporterStop Idle = step_if true 4 (Swap 1)
+closing_step interval event.ClearEnd Swapped = step_if true (end_at (is_odd (interval + 1))) (Swap (initial (is_odd (interval + 1))))
+closing_step interval event.Flip Cleared = step_if true 1 (Swap (initial (is_odd (interval + 1))))
+closing_step interval _ _ = None
+
+abbrev pub closing_after : Event → ℕ → Closing → Closing
+closing_after event.SwapActive found c = Swapped
+closing_after event.ClearEnd found c = Cleared
+closing_after event.Flip found c = Waiting found
+closing_after _ found c = c
+
+abbrev pub closing_if : Option Step → Event → List ℕ → Closing → Closing
+closing_if None e words c = c
+closing_if (Some s) e words c = closing_after e (slice_index words s.word) c
+
+-- The numbers of a core are in their ranges, so that each step finds its word and its writer.
+pub record IsCoherent (n : Numbers) (words : List ℕ) (writers : List WriterState) (interval : ℕ) (closing : Closing) (taken : List ℕ) : Type 0 where
+  pub sized : IsSized n
+  pub wide : length words ≡ word_count n.labels
+  pub fit : AllFitWriters n writers
+  pub room : interval + pending closing ≤ 16777216
+  pub in_table : InTable (table_cells n.labels) closing
+  pub count : length taken ≡ taken_count closing

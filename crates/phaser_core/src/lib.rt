@@ -2,9 +2,12 @@
 //! reporter, each sample counts whole in exactly one interval, and never in one that is closed already.
 #![tactic(auto)]
 
+pub mod applied;
+mod parts;
 pub mod step;
 pub mod view;
 pub mod writer;
 
+pub use applied::Applied;
 pub use view::{Closing, Event, Joined, Numbers, Reading, Stage, View, Writing};
 pub use writer::WriterState;

@@ -1,0 +1,97 @@
+-- What a core shows, and how that goes with words and views.
+use Rattle.std.specs.Prelude.{◌≡◌, ℕ, zero, suc, ◌+◌, ◌*◌, ◌%◌, ◌<◌, ◌≤◌, ◌==◌, Bool, true, false, List, [], ◌∷◌, ◌++◌, length, map, Option, Some, None, nat_lt, slice_index, slice_index_or, slice_set}
+use mathlib.Core.Option.{some, none}
+use mathlib.Core.Option as maybe
+use lib.ListN.{get_elem?}
+use Rattle.interval_tables.specs.declared.report.Report.{Report}
+use Rattle.phaser_core.specs.declared.view.Numbers.{Numbers}
+use Rattle.phaser_core.specs.declared.view.Stage.TheVariants.{Out, In, On}
+use Rattle.phaser_core.specs.declared.view.Closing.{Closing}
+use Rattle.phaser_core.specs.declared.view.Closing.TheVariants.{Idle, Swapped, Cleared, Waiting, Harvest}
+use Rattle.phaser_core.specs.declared.view.Reading.{Reading}
+use Rattle.phaser_core.specs.declared.view.View.{View}
+use Rattle.phaser_core.specs.declared.view.View.TheVariants as view
+use Rattle.phaser_core.specs.declared.view.Event.{Event}
+use Rattle.phaser_core.specs.declared.view.Event.TheVariants as event
+use Rattle.phaser_core.specs.declared.writer.WriterState.{WriterState}
+use Rattle.phaser_core.specs.declared.writer.WriterState.TheVariants.{Live, Gone}
+use Rattle.phaser_core.specs.declared.applied.Applied.{Applied}
+use Rattle.phaser_core.specs.declared.applied.Applied.TheVariants.{Old, Settled, NotYet, NotEnabled}
+use Rattle.phaser_core.specs.Cells.{report_from, table_cells, cell_at}
+use Rattle.phaser_core.specs.Moves.{Move, first_words}
+use Rattle.phaser_core.specs.Step.{CoreState, port_of, move_at}
+
+-- the words, and of the views all but the lists and the marks
+pub record Shape : Type 0 where
+  pub numbers : Numbers
+  pub words : List ℕ
+  pub writers : List WriterState
+  -- the reporter: the interval that is being closed or that is active, how far it is, the cells taken, the closed reports
+  pub interval : ℕ
+  pub closing : Closing
+  pub taken : List ℕ
+  pub closed : List Report
+
+-- what is kept of a writer's view
+abbrev pub kept_of : View → WriterState
+kept_of (view.Writer w) = Live w.number w.stage (length w.list) w.made
+kept_of (view.Reporter r) = Gone
+kept_of view.Gone = Gone
+
+-- the shape is that of a reporter's view and the writers' views
+pub record ShowsViews (s : Shape) (r : Reading) (others : List View) : Type 0 where
+  pub labels : r.labels ≡ s.numbers.labels
+  pub interval : r.interval ≡ s.interval
+  pub closing : r.closing ≡ s.closing
+  pub taken : r.cells ≡ s.taken
+  pub closed : r.closed ≡ s.closed
+  pub writers : map kept_of others ≡ s.writers
+
+-- The core with this shape may stand for these views, over its words.
+abbrev pub Shows : Shape → List View → Type 0
+Shows s [] = ⊥
+Shows s (view.Reporter r ∷ others) = ShowsViews s r others
+Shows s (view.Writer w ∷ others) = ⊥
+Shows s (view.Gone ∷ others) = ⊥
+
+-- the number that an event's step finds: a split and a join load the active word
+abbrev pub found_by : List ℕ → Option Move → ℕ
+found_by words None = 0
+found_by words (Some m) = slice_index words m.word
+
+abbrev pub found_of : Numbers → List ℕ → List View → Event → ℕ
+found_of n words views event.Split = slice_index words 0
+found_of n words views (event.Join w) = slice_index words 0
+found_of n words views e = found_by words (move_at n e (get_elem? views (port_of e)))
+
+-- a look settles where it finds what is waited for
+abbrev pub look_answer : Bool → ℕ → ℕ → Applied
+look_answer true found want = Settled
+look_answer false found want = NotYet found want
+
+-- what an enabled event answers: the number found, but for a look
+abbrev pub answer_of : Event → Closing → ℕ → Applied
+answer_of event.Look (Waiting want) found = look_answer (found == want) found want
+answer_of _ closing found = Old found
+
+-- The answer to an event and the shape after it, where the step of the state is given: without a step the event is not enabled, and the core as before.
+abbrev pub Answered : Shape → List View → Event → Option CoreState → Applied → Shape → Type 0
+Answered before views e None a after = (a ≡ NotEnabled) × (after ≡ before)
+Answered before views e (Some s) a after = (a ≡ answer_of e before.closing (found_of before.numbers before.words views e)) × (after.numbers ≡ before.numbers) × (after.words ≡ s.0) × Shows after s.1
+
+-- a core as it is made
+abbrev pub first_shape : Numbers → Shape
+first_shape n = record { numbers = n; words = first_words n.labels; writers = Live 0 Out 0 1 ∷ []; interval = 0; closing = Idle; taken = []; closed = [] }
+
+-- every writer is joined, and the reporter is idle
+abbrev pub AllGone : List WriterState → Type 0
+AllGone [] = Unit {0}
+AllGone (Live number stage entries made ∷ ws) = ⊥
+AllGone (Gone ∷ ws) = AllGone ws
+
+abbrev pub IsDone : Shape → Type 0
+IsDone s = (s.closing ≡ Idle) × AllGone s.writers
+
+-- the report of the interval that is open at the end
+abbrev pub open_report : Shape → Report
+open_report s = report_from s.numbers.labels s.interval (λ j. slice_index s.words (cell_at s.numbers.labels s.interval j))

@@ -1,0 +1,146 @@
+// Steps on the parts of a core.
+
+ghost use Rattle.std.specs.Prelude.{◌≡◌, ◌%◌, ◌<◌, ◌≤◌, ◌++◌, [], ◌∷◌, length, IfOk, OnErr, slice_index};
+ghost use Rattle.phaser_core.specs.Cells.{end_at, initial, vacant, cell_at, table_cells, word_count, row_from, report_of};
+ghost use Rattle.phaser_core.specs.Views.{pending};
+ghost use Rattle.phaser_core.specs.Plain.{writer_step, writer_at, step_answer, words_after, writers_after, closing_step, closing_after, closing_if, AllFitWriters};
+
+use crate::applied::Applied;
+use crate::step::{Change, Step};
+use crate::view::{Closing, Event, Numbers};
+use crate::writer::WriterState;
+use interval_tables::{Report, Row, Rows};
+use jm_base::M;
+use std::alloc::Global;
+
+// what the start word and the end word of the odd phase begin with
+const HALF: u64 = 0x8000_0000_0000_0000;
+
+// the step of a writer's event
+pub(crate) fn step_writer(
+    numbers: &Numbers,
+    words: &mut [u64],
+    writers: &mut [WriterState],
+    writer: u16,
+    event: &Event,
+) -> Applied
+    requires wide { length words.old ≡ word_count numbers.now.labels }
+    requires fit { AllFitWriters numbers.now writers.old }
+    ensures answer { result ≡ step_answer (writer_step numbers.now event.now (writer_at writers.old writer)) words.old }
+    ensures words { words.new ≡ words_after (writer_step numbers.now event.now (writer_at writers.old writer)) words.old }
+    ensures writers { writers.new ≡ writers_after (writer_step numbers.now event.now (writer_at writers.old writer)) event.now writer words.old writers.old }
+{
+    let index = usize::from(writer);
+    if index >= writers.len() {
+        return Applied::NotEnabled;
+    }
+    let state = writers[index];
+    let Some(step) = state.step(numbers, event) else {
+        return Applied::NotEnabled;
+    };
+    let word = step.word as usize;
+    let found = words[word];
+    words[word] = step.change.of(found);
+    writers[index] = state.after(numbers, event, found);
+    Applied::Old(found)
+}
+
+// what the words of a phase begin with
+fn initial(odd: bool) -> u64
+    ensures { result ≡ initial odd }
+{
+    if odd { HALF } else { 0 }
+}
+
+// the word of an end word
+pub(crate) fn end_word(odd: bool) -> u32
+    ensures { result ≡ end_at odd }
+{
+    if odd { 3 } else { 2 }
+}
+
+// the reporter's steps but for Look and Take
+fn closing_step(interval: u64, event: &Event, closing: &Closing) -> Option<Step>
+    requires { interval ≤ 16777216 }
+    ensures { result ≡ closing_step interval event.now closing.now }
+{
+    let next_odd = (interval + 1) % 2 == 1;
+    match (event, closing) {
+        (Event::SwapActive, Closing::Idle) if interval < 16_777_216 => Some(Step {
+            word: 0,
+            change: Change::Swap(interval + 1),
+        }),
+        (Event::ReporterStop, Closing::Idle) => Some(Step {
+            word: 4,
+            change: Change::Swap(1),
+        }),
+        (Event::ClearEnd, Closing::Swapped) => Some(Step {
+            word: end_word(next_odd),
+            change: Change::Swap(initial(next_odd)),
+        }),
+        (Event::Flip, Closing::Cleared) => Some(Step {
+            word: 1,
+            change: Change::Swap(initial(next_odd)),
+        }),
+        _ => None,
+    }
+}
+
+// how far the reporter is after such a step
+fn closing_after(event: &Event, found: u64, closing: &Closing) -> Closing
+    ensures { result ≡ closing_after event.now found closing.now }
+{
+    match event {
+        Event::SwapActive => Closing::Swapped,
+        Event::ClearEnd => Closing::Cleared,
+        Event::Flip => Closing::Waiting { want: found },
+        _ => *closing,
+    }
+}
+
+// the step of such an event
+pub(crate) fn step_reporter(
+    words: &mut [u64],
+    interval: u64,
+    closing: &mut Closing,
+    event: &Event,
+) -> Applied
+    requires wide { 5 ≤ length words.old }
+    requires room { interval ≤ 16777216 }
+    ensures answer { result ≡ step_answer (closing_step interval event.now closing.old) words.old }
+    ensures words { words.new ≡ words_after (closing_step interval event.now closing.old) words.old }
+    ensures closing { closing.new ≡ closing_if (closing_step interval event.now closing.old) event.now words.old closing.old }
+{
+    let Some(step) = closing_step(interval, event, closing) else {
+        return Applied::NotEnabled;
+    };
+    let word = step.word as usize;
+    let found = words[word];
+    words[word] = step.change.of(found);
+    *closing = closing_after(event, found, closing);
+    Applied::Old(found)
+}
+
+// the word of a cell, in word order, of an interval's table
+pub(crate) fn cell_word(labels: u16, interval: u64, cell: u32) -> u32
+    requires labels { labels ≤ 256 }
+    requires cell { cell ≤ table_cells labels }
+    ensures { result ≡ cell_at labels interval cell }
+{
+    let table = (interval % 2) as u32;
+    5 + (table * cell_count(labels) + cell)
+}
+
+// how many cells a table has
+pub(crate) fn cell_count(labels: u16) -> u32
+    ensures { result ≡ table_cells labels }
+{
+    6 * u32::from(labels)
+}
+
+// what a cell begins with
+pub(crate) fn vacant(cell: u32) -> u64
+    ensures { result ≡ vacant (cell % 6) }
+{
+    if cell % 6 == 4 { u64::MAX } else { 0 }
+}
