@@ -5,4 +5,4 @@ pub mod report;
 pub mod row;
 
 pub use report::{Report, Rows};
-pub use row::Row;
+pub use row::{NO_SAMPLES, Row};

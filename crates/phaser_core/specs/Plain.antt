@@ -16,8 +16,8 @@ use Rattle.phaser_core.specs.declared.writer.WriterState.TheVariants.{Live, Gone
 use Rattle.phaser_core.specs.declared.view.Closing.{Closing}
 use Rattle.phaser_core.specs.declared.view.Closing.TheVariants.{Idle, Swapped, Cleared, Waiting, Harvest}
 use Rattle.phaser_core.specs.declared.applied.Applied.{Applied}
-use Rattle.phaser_core.specs.declared.applied.Applied.TheVariants.{Old, NotEnabled}
-use Rattle.phaser_core.specs.Cells.{is_odd, end_at, initial, phase, place, skips, sums, column, table_cells, word_count}
+use Rattle.phaser_core.specs.declared.applied.Applied.TheVariants.{Old, Settled, NotYet, NotEnabled}
+use Rattle.phaser_core.specs.Cells.{is_odd, end_at, initial, phase, place, skips, sums, column, table_cells, cell_at, vacant, word_count, report_of}
 use Rattle.phaser_core.specs.Views.{IsSized, busy, pending, taken_count}
 use Rattle.phaser_core.specs.Invariant.{InTable}
 
@@ -155,11 +155,67 @@ abbrev pub closing_if : Option Step → Event → List ℕ → Closing → Closi
 closing_if None e words c = c
 closing_if (Some s) e words c = closing_after e (slice_index words s.word) c
 
+-- The reporter's part: the interval that is being closed or that is active, how far it is, the cells taken, the closed reports.
+pub record Parts : Type 0 where
+  pub interval : ℕ
+  pub closing : Closing
+  pub taken : List ℕ
+  pub closed : List Report
+
+-- once all cells are taken the report is closed
+abbrev pub gathered_parts_if : Bool → ℕ → Parts → Parts
+gathered_parts_if true labels p = record { interval = p.interval + 1; closing = Idle; taken = []; closed = p.closed ++ report_of labels p.interval p.taken ∷ [] }
+gathered_parts_if false labels p = record { interval = p.interval; closing = Harvest (length p.taken); taken = p.taken; closed = p.closed }
+
+abbrev pub gathered_parts : ℕ → Parts → Parts
+gathered_parts labels p = gathered_parts_if (length p.taken == table_cells labels) labels p
+
+-- the answer to a look, and the part after it
+abbrev pub looked : Bool → ℕ → Parts → Parts
+looked true labels p = gathered_parts labels p
+looked false labels p = p
+
+abbrev pub look_answer : Bool → ℕ → ℕ → Applied
+look_answer true found want = Settled
+look_answer false found want = NotYet found want
+
+abbrev pub look_result : Closing → ℕ → Applied
+look_result (Waiting want) found = look_answer (found == want) found want
+look_result _ found = NotEnabled
+
+abbrev pub look_parts : Closing → ℕ → ℕ → Parts → Parts
+look_parts (Waiting want) found labels p = looked (found == want) labels p
+look_parts _ found labels p = p
+
+-- the part with one cell more
+abbrev pub with_cell : Parts → ℕ → Parts
+with_cell p found = record { interval = p.interval; closing = p.closing; taken = p.taken ++ found ∷ []; closed = p.closed }
+
+abbrev pub take_result : Closing → ℕ → List ℕ → Parts → Applied
+take_result (Harvest j) labels words p = Old (slice_index words (cell_at labels p.interval j))
+take_result _ labels words p = NotEnabled
+
+abbrev pub take_words : Closing → ℕ → List ℕ → Parts → List ℕ
+take_words (Harvest j) labels words p = slice_set words (cell_at labels p.interval j) (vacant (j % 6))
+take_words _ labels words p = words
+
+abbrev pub take_parts : Closing → ℕ → List ℕ → Parts → Parts
+take_parts (Harvest j) labels words p = gathered_parts labels (with_cell p (slice_index words (cell_at labels p.interval j)))
+take_parts _ labels words p = p
+
+-- the part after a step of its own on another word
+abbrev pub with_closing : Parts → Closing → Parts
+with_closing p c = record { interval = p.interval; closing = c; taken = p.taken; closed = p.closed }
+
+-- The numbers of the part are in their ranges.
+pub record FitsParts (labels : ℕ) (p : Parts) : Type 0 where
+  pub room : p.interval + pending p.closing ≤ 16777216
+  pub in_table : InTable (table_cells labels) p.closing
+  pub count : length p.taken ≡ taken_count p.closing
+
 -- The numbers of a core are in their ranges, so that each step finds its word and its writer.
-pub record IsCoherent (n : Numbers) (words : List ℕ) (writers : List WriterState) (interval : ℕ) (closing : Closing) (taken : List ℕ) : Type 0 where
+pub record IsCoherent (n : Numbers) (words : List ℕ) (writers : List WriterState) (p : Parts) : Type 0 where
   pub sized : IsSized n
   pub wide : length words ≡ word_count n.labels
   pub fit : AllFitWriters n writers
-  pub room : interval + pending closing ≤ 16777216
-  pub in_table : InTable (table_cells n.labels) closing
-  pub count : length taken ≡ taken_count closing
+  pub parts : FitsParts n.labels p

@@ -19,6 +19,7 @@ use Rattle.phaser_core.specs.declared.applied.Applied.{Applied}
 use Rattle.phaser_core.specs.declared.applied.Applied.TheVariants.{Old, Settled, NotYet, NotEnabled}
 use Rattle.phaser_core.specs.Cells.{report_from, table_cells, cell_at}
 use Rattle.phaser_core.specs.Moves.{Move, first_words}
+use Rattle.phaser_core.specs.Plain.{Parts, look_answer}
 use Rattle.phaser_core.specs.Step.{CoreState, port_of, move_at}
 
 -- the words, and of the views all but the lists and the marks
@@ -26,11 +27,7 @@ pub record Shape : Type 0 where
   pub numbers : Numbers
   pub words : List ℕ
   pub writers : List WriterState
-  -- the reporter: the interval that is being closed or that is active, how far it is, the cells taken, the closed reports
-  pub interval : ℕ
-  pub closing : Closing
-  pub taken : List ℕ
-  pub closed : List Report
+  pub reporter : Parts
 
 -- what is kept of a writer's view
 abbrev pub kept_of : View → WriterState
@@ -41,10 +38,10 @@ kept_of view.Gone = Gone
 -- the shape is that of a reporter's view and the writers' views
 pub record ShowsViews (s : Shape) (r : Reading) (others : List View) : Type 0 where
   pub labels : r.labels ≡ s.numbers.labels
-  pub interval : r.interval ≡ s.interval
-  pub closing : r.closing ≡ s.closing
-  pub taken : r.cells ≡ s.taken
-  pub closed : r.closed ≡ s.closed
+  pub interval : r.interval ≡ s.reporter.interval
+  pub closing : r.closing ≡ s.reporter.closing
+  pub taken : r.cells ≡ s.reporter.taken
+  pub closed : r.closed ≡ s.reporter.closed
   pub writers : map kept_of others ≡ s.writers
 
 -- The core with this shape may stand for these views, over its words.
@@ -64,11 +61,6 @@ found_of n words views event.Split = slice_index words 0
 found_of n words views (event.Join w) = slice_index words 0
 found_of n words views e = found_by words (move_at n e (get_elem? views (port_of e)))
 
--- a look settles where it finds what is waited for
-abbrev pub look_answer : Bool → ℕ → ℕ → Applied
-look_answer true found want = Settled
-look_answer false found want = NotYet found want
-
 -- what an enabled event answers: the number found, but for a look
 abbrev pub answer_of : Event → Closing → ℕ → Applied
 answer_of event.Look (Waiting want) found = look_answer (found == want) found want
@@ -77,11 +69,11 @@ answer_of _ closing found = Old found
 -- The answer to an event and the shape after it, where the step of the state is given: without a step the event is not enabled, and the core as before.
 abbrev pub Answered : Shape → List View → Event → Option CoreState → Applied → Shape → Type 0
 Answered before views e None a after = (a ≡ NotEnabled) × (after ≡ before)
-Answered before views e (Some s) a after = (a ≡ answer_of e before.closing (found_of before.numbers before.words views e)) × (after.numbers ≡ before.numbers) × (after.words ≡ s.0) × Shows after s.1
+Answered before views e (Some s) a after = (a ≡ answer_of e before.reporter.closing (found_of before.numbers before.words views e)) × (after.numbers ≡ before.numbers) × (after.words ≡ s.0) × Shows after s.1
 
 -- a core as it is made
 abbrev pub first_shape : Numbers → Shape
-first_shape n = record { numbers = n; words = first_words n.labels; writers = Live 0 Out 0 1 ∷ []; interval = 0; closing = Idle; taken = []; closed = [] }
+first_shape n = record { numbers = n; words = first_words n.labels; writers = Live 0 Out 0 1 ∷ []; reporter = record { interval = 0; closing = Idle; taken = []; closed = [] } }
 
 -- every writer is joined, and the reporter is idle
 abbrev pub AllGone : List WriterState → Type 0
@@ -90,8 +82,8 @@ AllGone (Live number stage entries made ∷ ws) = ⊥
 AllGone (Gone ∷ ws) = AllGone ws
 
 abbrev pub IsDone : Shape → Type 0
-IsDone s = (s.closing ≡ Idle) × AllGone s.writers
+IsDone s = (s.reporter.closing ≡ Idle) × AllGone s.writers
 
 -- the report of the interval that is open at the end
 abbrev pub open_report : Shape → Report
-open_report s = report_from s.numbers.labels s.interval (λ j. slice_index s.words (cell_at s.numbers.labels s.interval j))
+open_report s = report_from s.numbers.labels s.reporter.interval (λ j. slice_index s.words (cell_at s.numbers.labels s.reporter.interval j))

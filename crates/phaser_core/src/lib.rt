@@ -4,6 +4,7 @@
 
 pub mod applied;
 mod parts;
+mod reporter;
 pub mod step;
 pub mod view;
 pub mod writer;

@@ -9,9 +9,6 @@ use crate::applied::Applied;
 use crate::step::{Change, Step};
 use crate::view::{Closing, Event, Numbers};
 use crate::writer::WriterState;
-use interval_tables::{Report, Row, Rows};
-use jm_base::M;
-use std::alloc::Global;
 
 // what the start word and the end word of the odd phase begin with
 const HALF: u64 = 0x8000_0000_0000_0000;

@@ -1,0 +1,141 @@
+// The reporter's part of a core: how far it is with an interval, the cells that it took, the reports that it closed.
+
+ghost use Rattle.std.specs.Prelude.{◌≡◌, ◌+◌, ◌*◌, ◌<◌, ◌≤◌, ◌++◌, [], ◌∷◌, length, IfOk, OnOk, OnErr, slice_index};
+ghost use Rattle.phaser_core.specs.Cells.{is_odd, end_at, table_cells, word_count, row_from, report_of};
+ghost use Rattle.phaser_core.specs.Plain.{closing_step, closing_if, step_answer, words_after, gathered_parts, look_result, look_parts, take_result, take_words, take_parts, with_closing, FitsParts};
+
+use crate::applied::Applied;
+use crate::parts::{cell_count, cell_word, end_word, step_reporter, vacant};
+use crate::view::{Closing, Event};
+use interval_tables::{NO_SAMPLES, Report, Row, Rows};
+use jm_base::M;
+use std::alloc::Global;
+use std::marker::Model;
+
+#[derive(Drop)]
+pub struct Reporter {
+    pub(crate) interval: u64,
+    pub(crate) closing: Closing,
+    pub(crate) taken: Vec<u64>,
+    pub(crate) closed: Vec<Report>,
+}
+
+impl Model for Reporter {
+    ghost use Rattle.phaser_core.specs.Plain.{Parts};
+
+    ghost Value = { Parts };
+
+    ghost view = { λ r. record { interval = r.interval; closing = r.closing; taken = r.taken.items; closed = r.closed.items } };
+}
+
+// the row of a label's six cells
+fn row(cells: &[u64], label: u16) -> Row
+    requires { 6 * label + 6 ≤ length cells.now }
+    ensures { result ≡ row_from (λ j. slice_index cells.now j) label }
+{
+    let first = 6 * usize::from(label);
+    if cells[first] == 0 {
+        return NO_SAMPLES;
+    }
+    Row {
+        count: cells[first],
+        errors: cells[first + 1],
+        total: cells[first + 2],
+        bytes: cells[first + 3],
+        least: cells[first + 4],
+        greatest: cells[first + 5],
+    }
+}
+
+// the report of an interval's cells
+pub(crate) fn report(alloc: Global, labels: u16, interval: u64, cells: &[u64]) -> M<Report>
+    requires { length cells.now ≡ table_cells labels }
+    ensures { IfOk result (λ r. r ≡ report_of labels interval cells.now) }
+{
+    let mut rows = Vec::with_capacity(alloc, usize::from(labels))?;
+    for label in 0..labels {
+        rows.push(row(cells, label))?;
+    }
+    Ok(Report {
+        interval,
+        rows: Rows::of(rows),
+    })
+}
+
+impl Reporter {
+    // a step of the reporter on a word of its own
+    pub(crate) fn step(&mut self, words: &mut [u64], event: &Event) -> Applied
+        requires wide { 5 ≤ length words.old }
+        requires room { self.old.interval ≤ 16777216 }
+        ensures answer { result ≡ step_answer (closing_step self.old.interval event.now self.old.closing) words.old }
+        ensures words { words.new ≡ words_after (closing_step self.old.interval event.now self.old.closing) words.old }
+        ensures after { self.new ≡ with_closing self.old (closing_if (closing_step self.old.interval event.now self.old.closing) event.now words.old self.old.closing) }
+    {
+        step_reporter(words, self.interval, &mut self.closing, event)
+    }
+
+    // once all cells are taken the report is closed
+    fn gather(&mut self, alloc: Global, labels: u16) -> M<()>
+        requires most { length self.old.taken ≤ 1536 }
+        requires room { self.old.interval ≤ 16777216 }
+        ensures ok { OnOk result (self.new ≡ gathered_parts labels self.old) }
+        ensures err { OnErr result (self.new ≡ self.old) }
+    {
+        let taken = self.taken.len() as u32;
+        if taken == cell_count(labels) {
+            let closed = report(alloc, labels, self.interval, &self.taken)?;
+            self.closed.push(closed)?;
+            self.taken.clear();
+            self.interval += 1;
+            self.closing = Closing::Idle;
+        } else {
+            self.closing = Closing::Harvest { taken };
+        }
+        Ok(())
+    }
+
+    // a look at the old phase's end word
+    pub(crate) fn look(&mut self, alloc: Global, labels: u16, words: &[u64]) -> M<Applied>
+        requires labels { labels ≤ 256 }
+        requires wide { length words.now ≡ word_count labels }
+        requires fits { FitsParts labels self.old }
+        ensures ok { IfOk result (λ a. a ≡ look_result self.old.closing (slice_index words.now (end_at (is_odd self.old.interval)))) }
+        ensures after { OnOk result (self.new ≡ look_parts self.old.closing (slice_index words.now (end_at (is_odd self.old.interval))) labels self.old) }
+        ensures err { OnErr result (self.new ≡ self.old) }
+    {
+        let Closing::Waiting { want } = self.closing else {
+            return Ok(Applied::NotEnabled);
+        };
+        let seen = words[end_word(self.interval % 2 == 1) as usize];
+        if seen != want {
+            return Ok(Applied::NotYet { seen, want });
+        }
+        self.gather(alloc, labels)?;
+        Ok(Applied::Settled)
+    }
+
+    // the next cell of the old table
+    pub(crate) fn take(&mut self, alloc: Global, labels: u16, words: &mut [u64]) -> M<Applied>
+        requires labels { labels ≤ 256 }
+        requires wide { length words.old ≡ word_count labels }
+        requires fits { FitsParts labels self.old }
+        ensures ok { IfOk result (λ a. a ≡ take_result self.old.closing labels words.old self.old) }
+        ensures words { OnOk result (words.new ≡ take_words self.old.closing labels words.old self.old) }
+        ensures after { OnOk result (self.new ≡ take_parts self.old.closing labels words.old self.old) }
+        ensures same { OnErr result (words.new ≡ words.old) }
+        ensures err { OnErr result (self.new ≡ self.old) }
+    {
+        let Closing::Harvest { taken } = self.closing else {
+            return Ok(Applied::NotEnabled);
+        };
+        let word = cell_word(labels, self.interval, taken) as usize;
+        let found = words[word];
+        self.taken.push(found)?;
+        if let Err(none) = self.gather(alloc, labels) {
+            let _last = self.taken.pop();
+            return Err(none);
+        }
+        words[word] = vacant(taken);
+        Ok(Applied::Old(found))
+    }
+}
