@@ -12,3 +12,4 @@ pub mod Steps
 pub mod Every
 pub mod Ends
 pub mod Plains
+pub mod Coherence

@@ -3,6 +3,7 @@
 #![tactic(auto)]
 
 pub mod applied;
+pub mod core;
 mod parts;
 mod reporter;
 pub mod step;
@@ -10,5 +11,6 @@ pub mod view;
 pub mod writer;
 
 pub use applied::Applied;
+pub use core::Core;
 pub use view::{Closing, Event, Joined, Numbers, Reading, Stage, View, Writing};
 pub use writer::WriterState;

@@ -1,0 +1,126 @@
+-- Each event leaves the numbers of a core in their ranges.
+use Rattle.std.proofs.Common.{◌≡◌, ◌≢◌, ℕ, zero, suc, ◌+◌, ◌*◌, ◌%◌, ◌<◌, ◌≤◌, ◌==◌, not, Bool, true, false, ltb, List, [], ◌∷◌, ◌++◌, length, get_or, set, take, drop, sym, refl, ap, ◌∙◌, subst, arith, Some, None, Option, length-set, length-append, true≢false, eq-eqb}
+use Rattle.std.proofs.lemmas.Bool.{eqb-true}
+use Rattle.phaser_core.specs.declared.view.Numbers.{Numbers}
+use Rattle.phaser_core.specs.declared.view.Stage.{Stage}
+use Rattle.phaser_core.specs.declared.view.Stage.TheVariants.{Out, In, On}
+use Rattle.phaser_core.specs.declared.view.Closing.{Closing}
+use Rattle.phaser_core.specs.declared.view.Closing.TheVariants.{Idle, Swapped, Cleared, Waiting, Harvest}
+use Rattle.phaser_core.specs.declared.view.Event.{Event}
+use Rattle.phaser_core.specs.declared.view.Event.TheVariants as event
+use Rattle.phaser_core.specs.declared.step.Change.TheVariants.{Swap}
+use Rattle.phaser_core.specs.declared.step.Step.{Step}
+use Rattle.phaser_core.specs.declared.writer.WriterState.{WriterState}
+use Rattle.phaser_core.specs.declared.writer.WriterState.TheVariants.{Live, Gone}
+use Rattle.phaser_core.specs.Cells.{is_odd, end_at, initial, table_cells, word_count, vacant, cell_at}
+use Rattle.phaser_core.specs.Views.{pending, taken_count}
+use Rattle.phaser_core.specs.Invariant.{InTable}
+use Rattle.phaser_core.specs.Plain.{changed, writer_step, writer_at, writer_after, words_after, writers_after, step_if, closing_step, closing_after, closing_if, Parts, with_closing, gathered_parts_if, gathered_parts, looked, look_parts, with_cell, take_words, take_parts, FitsWriter, AllFitWriters, FitsParts, IsCoherent}
+use Rattle.phaser_core.proofs.CellSteps.{taken_low}
+use Rattle.phaser_core.proofs.Plains.{fits_set, step_fits, step_is, less}
+
+-- a slice of a `Vec` that was written as a whole
+pub take_front : {A : Type 0} (len : ℕ) (new rest : List A) → len ≡ length new → take len (new ++ rest) ≡ new
+take_front zero [] rest e = refl
+take_front zero (x ∷ xs) rest e = absurd (omega arith)
+take_front (suc len) [] rest e = absurd (omega arith)
+take_front (suc len) (x ∷ xs) rest e = ap (λ l. x ∷ l) (take_front len xs rest (omega arith))
+
+-- a writer that may not be there
+fits_or : (n : Numbers) (ws : List WriterState) (i : ℕ) → AllFitWriters n ws → FitsWriter n (writer_at ws i)
+fits_or n [] i h = tt
+fits_or n (w ∷ ws) zero h = h.0
+fits_or n (w ∷ ws) (suc i) h = fits_or n ws i h.1
+
+writer_fits : (n : Numbers) (ws : List ℕ) (wr : List WriterState) (e : Event) (i : ℕ) (o : Option Step) → o ≡ writer_step n e (writer_at wr i) → AllFitWriters n wr → AllFitWriters n (writers_after o e i ws wr)
+writer_fits n ws wr e i None is h = h
+writer_fits n ws wr e i (Some s) is h = fits_set n wr i (writer_after e (get_or ws s.word 0) (writer_at wr i)) h (step_fits n e (get_or ws s.word 0) (writer_at wr i) s (sym is) (fits_or n wr i h))
+
+words_long : (ws : List ℕ) (o : Option Step) → length (words_after o ws) ≡ length ws
+words_long ws None = refl
+words_long ws (Some s) = length-set ws s.word (changed s.change (get_or ws s.word 0))
+
+pub writer_coherent : (n : Numbers) (ws : List ℕ) (wr : List WriterState) (p : Parts) (e : Event) (i : ℕ) → IsCoherent n ws wr p → IsCoherent n (words_after (writer_step n e (writer_at wr i)) ws) (writers_after (writer_step n e (writer_at wr i)) e i ws wr) p
+writer_coherent n ws wr p e i h = record { sized = h.sized; wide = words_long ws (writer_step n e (writer_at wr i)) ∙ h.wide; fit = writer_fits n ws wr e i (writer_step n e (writer_at wr i)) refl h.fit; parts = h.parts }
+
+-- The reporter's part
+
+closing_fits : (labels interval : ℕ) (ws : List ℕ) (e : Event) (c : Closing) (taken : List ℕ) → interval + pending c ≤ 16777216 → InTable (table_cells labels) c → length taken ≡ taken_count c
+    → (interval + pending (closing_if (closing_step interval e c) e ws c) ≤ 16777216) × InTable (table_cells labels) (closing_if (closing_step interval e c) e ws c) × (length taken ≡ taken_count (closing_if (closing_step interval e c) e ws c))
+closing_fits labels interval ws event.SwapActive Idle taken r t k = swap_fits (ltb interval 16777216) refl where
+  swap_fits : (b : Bool) → ltb interval 16777216 ≡ b → (interval + pending (closing_if (step_if b 0 (Swap (interval + 1))) event.SwapActive ws Idle) ≤ 16777216) × InTable (table_cells labels) (closing_if (step_if b 0 (Swap (interval + 1))) event.SwapActive ws Idle) × (length taken ≡ taken_count (closing_if (step_if b 0 (Swap (interval + 1))) event.SwapActive ws Idle))
+  swap_fits true is = (let l = less interval 16777216 is in omega arith, tt, k)
+  swap_fits false is = (r, tt, k)
+closing_fits labels interval ws event.ReporterStop Idle taken r t k = (r, tt, k)
+closing_fits labels interval ws event.ClearEnd Swapped taken r t k = (r, tt, k)
+closing_fits labels interval ws event.Flip Cleared taken r t k = (r, tt, k)
+closing_fits labels interval ws e c taken r t k = (r, t, k)
+
+pub reporter_coherent : (n : Numbers) (ws : List ℕ) (wr : List WriterState) (p : Parts) (e : Event) → IsCoherent n ws wr p → IsCoherent n (words_after (closing_step p.interval e p.closing) ws) wr (with_closing p (closing_if (closing_step p.interval e p.closing) e ws p.closing))
+reporter_coherent n ws wr p e h =
+    let f = closing_fits n.labels p.interval ws e p.closing p.taken h.parts.room h.parts.in_table h.parts.count in
+    record { sized = h.sized; wide = words_long ws (closing_step p.interval e p.closing) ∙ h.wide; fit = h.fit; parts = record { room = f.0; in_table = f.1; count = f.2 } }
+
+not_eqb : (a b : ℕ) → (a == b) ≡ false → a ≢ b
+not_eqb a b f e = true≢false (sym (eq-eqb a b e) ∙ f)
+
+below : (a b : ℕ) → a ≤ b → a ≢ b → a < b
+below a b le ne = omega arith
+
+gathered_fits : (labels : ℕ) (p : Parts) (b : Bool) → (length p.taken == table_cells labels) ≡ b → p.interval + 1 ≤ 16777216 → length p.taken ≤ table_cells labels → FitsParts labels (gathered_parts_if b labels p)
+gathered_fits labels p true is room most = record { room = omega arith; in_table = tt; count = refl }
+gathered_fits labels p false is room most = let ne = not_eqb (length p.taken) (table_cells labels) is in record { room = room; in_table = below (length p.taken) (table_cells labels) most ne; count = refl }
+
+looked_fits : (labels : ℕ) (p : Parts) (want : ℕ) (b : Bool) → p.closing ≡ Waiting want → FitsParts labels p → FitsParts labels (looked b labels p)
+looked_fits labels p want true is h =
+    let none : length p.taken ≡ 0 = h.count ∙ ap taken_count is in let room : p.interval + 1 ≤ 16777216 = subst (λ (c : Closing). p.interval + pending c ≤ 16777216) is h.room in
+    gathered_fits labels p (length p.taken == table_cells labels) refl room (omega arith)
+looked_fits labels p want false is h = h
+
+look_fits : (labels found : ℕ) (p : Parts) (c : Closing) → p.closing ≡ c → FitsParts labels p → FitsParts labels (look_parts c found labels p)
+look_fits labels found p Idle is h = h
+look_fits labels found p Swapped is h = h
+look_fits labels found p Cleared is h = h
+look_fits labels found p (Waiting want) is h = looked_fits labels p want (found == want) is h
+look_fits labels found p (Harvest j) is h = h
+
+pub look_coherent : (n : Numbers) (ws : List ℕ) (wr : List WriterState) (p : Parts) (found : ℕ) → IsCoherent n ws wr p → IsCoherent n ws wr (look_parts p.closing found n.labels p)
+look_coherent n ws wr p found h = record { sized = h.sized; wide = h.wide; fit = h.fit; parts = look_fits n.labels found p p.closing refl h.parts }
+
+take_fits : (labels : ℕ) (ws : List ℕ) (p : Parts) (c : Closing) → p.closing ≡ c → FitsParts labels p → FitsParts labels (take_parts c labels ws p)
+take_fits labels ws p Idle is h = h
+take_fits labels ws p Swapped is h = h
+take_fits labels ws p Cleared is h = h
+take_fits labels ws p (Waiting want) is h = h
+take_fits labels ws p (Harvest j) is h =
+    let found : ℕ = get_or ws (cell_at labels p.interval j) 0 in
+    let more : length (p.taken ++ found ∷ []) ≡ length p.taken + 1 = length-append p.taken (found ∷ []) in
+    let count : length p.taken ≡ j = h.count ∙ ap taken_count is in let low : j < table_cells labels = subst (InTable (table_cells labels)) is h.in_table in
+    let room : p.interval + 1 ≤ 16777216 = subst (λ (c : Closing). p.interval + pending c ≤ 16777216) is h.room in
+    gathered_fits labels (with_cell p found) (length (p.taken ++ found ∷ []) == table_cells labels) refl room (omega arith)
+
+take_long : (labels : ℕ) (ws : List ℕ) (p : Parts) (c : Closing) → length (take_words c labels ws p) ≡ length ws
+take_long labels ws p Idle = refl
+take_long labels ws p Swapped = refl
+take_long labels ws p Cleared = refl
+take_long labels ws p (Waiting want) = refl
+take_long labels ws p (Harvest j) = length-set ws (cell_at labels p.interval j) (vacant (j % 6))
+
+pub take_coherent : (n : Numbers) (ws : List ℕ) (wr : List WriterState) (p : Parts) → IsCoherent n ws wr p → IsCoherent n (take_words p.closing n.labels ws p) wr (take_parts p.closing n.labels ws p)
+take_coherent n ws wr p h = record { sized = h.sized; wide = take_long n.labels ws p p.closing ∙ h.wide; fit = h.fit; parts = take_fits n.labels ws p p.closing refl h.parts }
+
+-- The same of `Vec`s that were written through their slices
+
+pub writer_kept : (n : Numbers) (ws slice new rest : List ℕ) (wr slice' new' rest' : List WriterState) (p : Parts) (e : Event) (i len len' : ℕ) → IsCoherent n ws wr p → slice ≡ ws → slice' ≡ wr
+    → new ≡ words_after (writer_step n e (writer_at slice' i)) slice → new' ≡ writers_after (writer_step n e (writer_at slice' i)) e i slice slice' → len ≡ length new → len' ≡ length new' → IsCoherent n (take len (new ++ rest)) (take len' (new' ++ rest')) p
+writer_kept n ws slice new rest wr slice' new' rest' p e i len len' h s s' m m' l l' =
+    let words : words_after (writer_step n e (writer_at wr i)) ws ≡ take len (new ++ rest) = sym (take_front len new rest l ∙ m ∙ (λ t. words_after (writer_step n e (writer_at (s' t) i)) (s t))) in
+    let writers : writers_after (writer_step n e (writer_at wr i)) e i ws wr ≡ take len' (new' ++ rest') = sym (take_front len' new' rest' l' ∙ m' ∙ (λ t. writers_after (writer_step n e (writer_at (s' t) i)) e i (s t) (s' t))) in
+    subst (λ (z : List ℕ × List WriterState). IsCoherent n z.0 z.1 p) (λ t. (words t, writers t)) (writer_coherent n ws wr p e i h)
+
+pub reporter_kept : (n : Numbers) (ws slice new rest : List ℕ) (wr : List WriterState) (p q : Parts) (e : Event) (len : ℕ) → IsCoherent n ws wr p → slice ≡ ws → new ≡ words_after (closing_step p.interval e p.closing) slice
+    → q ≡ with_closing p (closing_if (closing_step p.interval e p.closing) e slice p.closing) → len ≡ length new → IsCoherent n (take len (new ++ rest)) wr q
+reporter_kept n ws slice new rest wr p q e len h s m k l =
+    let words : words_after (closing_step p.interval e p.closing) ws ≡ take len (new ++ rest) = sym (take_front len new rest l ∙ m ∙ ap (words_after (closing_step p.interval e p.closing)) s) in
+    let parts : with_closing p (closing_if (closing_step p.interval e p.closing) e ws p.closing) ≡ q = sym (k ∙ ap (λ (z : List ℕ). with_closing p (closing_if (closing_step p.interval e p.closing) e z p.closing)) s) in
+    subst (λ (z : List ℕ × Parts). IsCoherent n z.0 wr z.1) (λ t. (words t, parts t)) (reporter_coherent n ws wr p e h)
