@@ -15,9 +15,9 @@ use Rattle.phaser_core.specs.declared.writer.WriterState.TheVariants.{Live, Gone
 use Rattle.phaser_core.specs.Cells.{is_odd, end_at, initial, table_cells, word_count, vacant, cell_at}
 use Rattle.phaser_core.specs.Views.{pending, taken_count}
 use Rattle.phaser_core.specs.Invariant.{InTable}
-use Rattle.phaser_core.specs.Plain.{changed, writer_step, writer_at, writer_after, words_after, writers_after, step_if, closing_step, closing_after, closing_if, Parts, with_closing, gathered_parts_if, gathered_parts, looked, look_parts, with_cell, take_words, take_parts, FitsWriter, AllFitWriters, FitsParts, IsCoherent}
+use Rattle.phaser_core.specs.Plain.{changed, writer_step, writer_at, writer_after, words_after, writers_after, step_if, closing_step, closing_after, closing_if, Parts, with_closing, gathered_parts_if, gathered_parts, looked, look_parts, with_cell, take_words, take_parts, split_if, split_of, gone_if, FitsWriter, AllFitWriters, FitsParts, IsCoherent}
 use Rattle.phaser_core.proofs.CellSteps.{taken_low}
-use Rattle.phaser_core.proofs.Plains.{fits_set, step_fits, step_is, less}
+use Rattle.phaser_core.proofs.Plains.{fits_set, fits_snoc, step_fits, step_is, less}
 
 -- a slice of a `Vec` that was written as a whole
 pub take_front : {A : Type 0} (len : ℕ) (new rest : List A) → len ≡ length new → take len (new ++ rest) ≡ new
@@ -124,3 +124,30 @@ reporter_kept n ws slice new rest wr p q e len h s m k l =
     let words : words_after (closing_step p.interval e p.closing) ws ≡ take len (new ++ rest) = sym (take_front len new rest l ∙ m ∙ ap (words_after (closing_step p.interval e p.closing)) s) in
     let parts : with_closing p (closing_if (closing_step p.interval e p.closing) e ws p.closing) ≡ q = sym (k ∙ ap (λ (z : List ℕ). with_closing p (closing_if (closing_step p.interval e p.closing) e z p.closing)) s) in
     subst (λ (z : List ℕ × Parts). IsCoherent n z.0 wr z.1) (λ t. (words t, parts t)) (reporter_coherent n ws wr p e h)
+
+-- A further writer, and one that is joined
+
+split_stage_fits : (n : Numbers) (number entries made : ℕ) (b : Bool) (l r : WriterState) → split_if b number entries made ≡ Some (l, r) → entries + 0 ≤ n.budget → FitsWriter n l × FitsWriter n r
+split_stage_fits n number entries made true l r h f =
+    let e : (Live number Out entries (made + 1), Live made Out 0 0) ≡ (l, r) = cc in
+    subst (λ (z : WriterState × WriterState). FitsWriter n z.0 × FitsWriter n z.1) e ((tt, f), (tt, omega arith))
+split_stage_fits n number entries made false l r h f = absurd cc
+
+split_fits : (n : Numbers) (w l r : WriterState) → split_of n w ≡ Some (l, r) → FitsWriter n w → FitsWriter n l × FitsWriter n r
+split_fits n (Live number Out entries made) l r h f = split_stage_fits n number entries made (ltb made n.writers) l r h f.1
+split_fits n (Live number (In p) entries made) l r h f = absurd cc
+split_fits n (Live number (On p m e d) entries made) l r h f = absurd cc
+split_fits n Gone l r h f = absurd cc
+
+pub split_kept : (n : Numbers) (ws : List ℕ) (wr more : List WriterState) (p : Parts) (w l r : WriterState) → IsCoherent n ws wr p → w ≡ writer_at wr 0 → split_of n w ≡ Some (l, r) → more ≡ wr ++ r ∷ [] → IsCoherent n ws (set more 0 l) p
+split_kept n ws wr more p w l r h is s m =
+    let f = split_fits n w l r s (subst (FitsWriter n) (sym is) (fits_or n wr 0 h.fit)) in
+    record { sized = h.sized; wide = h.wide; parts = h.parts; fit = fits_set n more 0 l (subst (AllFitWriters n) (sym m) (fits_snoc n wr r h.fit f.1)) f.0 }
+
+join_fits : (n : Numbers) (wr : List WriterState) (i : ℕ) (b : Bool) → AllFitWriters n wr → AllFitWriters n (gone_if b i wr)
+join_fits n wr i true h = fits_set n wr i Gone h tt
+join_fits n wr i false h = h
+
+pub join_kept : (n : Numbers) (ws : List ℕ) (wr slice new rest : List WriterState) (p : Parts) (i len : ℕ) (b : Bool) → IsCoherent n ws wr p → slice ≡ wr → new ≡ gone_if b i slice → len ≡ length new → IsCoherent n ws (take len (new ++ rest)) p
+join_kept n ws wr slice new rest p i len b h s m l =
+    record { sized = h.sized; wide = h.wide; parts = h.parts; fit = subst (AllFitWriters n) (sym (take_front len new rest l ∙ m ∙ ap (gone_if b i) s)) (join_fits n wr i b h.fit) }

@@ -219,3 +219,59 @@ pub record IsCoherent (n : Numbers) (words : List ℕ) (writers : List WriterSta
   pub wide : length words ≡ word_count n.labels
   pub fit : AllFitWriters n writers
   pub parts : FitsParts n.labels p
+
+-- writer 0 after it made a further writer, and that writer
+abbrev pub split_if : Bool → ℕ → ℕ → ℕ → Option (WriterState × WriterState)
+split_if true number entries made = Some (Live number Out entries (made + 1), Live made Out 0 0)
+split_if false number entries made = None
+
+abbrev pub split_of : Numbers → WriterState → Option (WriterState × WriterState)
+split_of n (Live number Out entries made) = split_if (nat_lt made n.writers) number entries made
+split_of n (Live number (In p) entries made) = None
+split_of n (Live number (On p m e d) entries made) = None
+split_of n Gone = None
+
+abbrev pub pair_result : Option (WriterState × WriterState) → List ℕ → Applied
+pair_result None words = NotEnabled
+pair_result (Some p) words = Old (slice_index words 0)
+
+abbrev pub pair_writers : Option (WriterState × WriterState) → List WriterState → List WriterState
+pair_writers None ws = ws
+pair_writers (Some p) ws = slice_set ws 0 p.0 ++ p.1 ∷ []
+
+abbrev pub split_result : Numbers → WriterState → List ℕ → Applied
+split_result n w words = pair_result (split_of n w) words
+
+abbrev pub split_writers : Numbers → WriterState → List WriterState → List WriterState
+split_writers n w ws = pair_writers (split_of n w) ws
+
+-- a writer that is out is joined by an idle reporter
+abbrev pub is_idle : Closing → Bool
+is_idle Idle = true
+is_idle Swapped = false
+is_idle Cleared = false
+is_idle (Waiting want) = false
+is_idle (Harvest j) = false
+
+abbrev pub is_out : WriterState → Bool
+is_out (Live number Out entries made) = true
+is_out (Live number (In p) entries made) = false
+is_out (Live number (On p m e d) entries made) = false
+is_out Gone = false
+
+abbrev pub old_if : Bool → List ℕ → Applied
+old_if true words = Old (slice_index words 0)
+old_if false words = NotEnabled
+
+abbrev pub gone_if : Bool → ℕ → List WriterState → List WriterState
+gone_if true i ws = slice_set ws i Gone
+gone_if false i ws = ws
+
+abbrev pub can_join : Closing → WriterState → Bool
+can_join c w = is_idle c && is_out w
+
+abbrev pub join_result : Closing → WriterState → List ℕ → Applied
+join_result c w words = old_if (can_join c w) words
+
+abbrev pub join_writers : Closing → WriterState → ℕ → List WriterState → List WriterState
+join_writers c w i ws = gone_if (can_join c w) i ws

@@ -1,9 +1,9 @@
 // Steps on the parts of a core.
 
-ghost use Rattle.std.specs.Prelude.{◌≡◌, ◌%◌, ◌<◌, ◌≤◌, ◌++◌, [], ◌∷◌, length, IfOk, OnErr, slice_index};
+ghost use Rattle.std.specs.Prelude.{◌≡◌, ◌&&◌, ◌%◌, ◌<◌, ◌≤◌, ◌++◌, [], ◌∷◌, length, IfOk, OnErr, IsSome, slice_index};
 ghost use Rattle.phaser_core.specs.Cells.{end_at, initial, vacant, cell_at, table_cells, word_count, row_from, report_of};
 ghost use Rattle.phaser_core.specs.Views.{pending};
-ghost use Rattle.phaser_core.specs.Plain.{writer_step, writer_at, step_answer, words_after, writers_after, closing_step, closing_after, closing_if, AllFitWriters};
+ghost use Rattle.phaser_core.specs.Plain.{writer_step, writer_at, step_answer, words_after, writers_after, closing_step, closing_after, closing_if, is_out, gone_if, split_of, AllFitWriters};
 
 use crate::applied::Applied;
 use crate::step::{Change, Step};
@@ -140,4 +140,29 @@ pub(crate) fn vacant(cell: u32) -> u64
     ensures { result ≡ vacant (cell % 6) }
 {
     if cell % 6 == 4 { u64::MAX } else { 0 }
+}
+
+// whether a writer was joined: where the reporter is idle and the writer out
+pub(crate) fn join_writer(idle: bool, writers: &mut [WriterState], writer: u16) -> bool
+    ensures joined { result ≡ (idle && is_out (writer_at writers.old writer)) }
+    ensures writers { writers.new ≡ gone_if (idle && is_out (writer_at writers.old writer)) writer writers.old }
+{
+    let index = usize::from(writer);
+    if index >= writers.len() || !idle || !writers[index].is_out() {
+        return false;
+    }
+    writers[index] = WriterState::Gone;
+    true
+}
+
+// writer 0 after it made a further writer, and that writer
+pub(crate) fn split_first(
+    numbers: &Numbers,
+    writers: &[WriterState],
+) -> Option<(WriterState, WriterState)>
+    ensures made { result ≡ split_of numbers.now (writer_at writers.now 0) }
+    ensures some { IsSome result → 0 < length writers.now }
+{
+    let first = writers.first()?;
+    first.split(numbers)
 }

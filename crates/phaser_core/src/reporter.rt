@@ -2,7 +2,7 @@
 
 ghost use Rattle.std.specs.Prelude.{◌≡◌, ◌+◌, ◌*◌, ◌<◌, ◌≤◌, ◌++◌, [], ◌∷◌, length, IfOk, OnOk, OnErr, slice_index};
 ghost use Rattle.phaser_core.specs.Cells.{is_odd, end_at, table_cells, word_count, row_from, report_of};
-ghost use Rattle.phaser_core.specs.Plain.{closing_step, closing_if, step_answer, words_after, gathered_parts, look_result, look_parts, take_result, take_words, take_parts, with_closing, FitsParts};
+ghost use Rattle.phaser_core.specs.Plain.{closing_step, closing_if, step_answer, words_after, gathered_parts, look_result, look_parts, take_result, take_words, take_parts, with_closing, is_idle, FitsParts};
 
 use crate::applied::Applied;
 use crate::parts::{cell_count, cell_word, end_word, step_reporter, vacant};
@@ -63,6 +63,16 @@ pub(crate) fn report(alloc: Global, labels: u16, interval: u64, cells: &[u64]) -
 }
 
 impl Reporter {
+    // whether no interval is being closed
+    pub(crate) fn is_idle(&self) -> bool
+        ensures { result ≡ is_idle self.now.closing }
+    {
+        match self.closing {
+            Closing::Idle => true,
+            _ => false,
+        }
+    }
+
     // a step of the reporter on a word of its own
     pub(crate) fn step(&mut self, words: &mut [u64], event: &Event) -> Applied
         requires wide { 5 ≤ length words.old }

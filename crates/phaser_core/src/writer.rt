@@ -3,7 +3,7 @@
 ghost use Rattle.std.specs.Prelude.{◌≡◌, ◌+◌, ◌%◌, ◌≤◌, not, IsSome};
 ghost use Rattle.interval_tables.specs.Totals.{one_if};
 ghost use Rattle.phaser_core.specs.Cells.{column, end_at, place, sums};
-ghost use Rattle.phaser_core.specs.Plain.{cell_change, cell_step, on_step, in_step, out_step, writer_step, stage_after, writer_after, FitsStage, FitsWriter, CanGoOn};
+ghost use Rattle.phaser_core.specs.Plain.{cell_change, cell_step, on_step, in_step, out_step, writer_step, stage_after, writer_after, split_of, is_out, FitsStage, FitsWriter, CanGoOn};
 
 use crate::step::{Change, Step};
 use crate::view::{Event, Numbers, Stage};
@@ -201,6 +201,47 @@ impl WriterState {
                 made,
             },
             WriterState::Gone => WriterState::Gone,
+        }
+    }
+
+    /// Whether the writer is between two entries.
+    pub(crate) fn is_out(&self) -> bool
+        ensures { result ≡ is_out self.now }
+    {
+        match self {
+            WriterState::Live { stage, .. } => match stage {
+                Stage::Out => true,
+                _ => false,
+            },
+            WriterState::Gone => false,
+        }
+    }
+
+    /// Writer 0 after it made a further writer, and that writer, where writer 0 is out and not all are made.
+    pub(crate) fn split(&self, numbers: &Numbers) -> Option<(WriterState, WriterState)>
+        ensures { result ≡ split_of numbers.now self.now }
+    {
+        match *self {
+            WriterState::Live {
+                number,
+                stage: Stage::Out,
+                entries,
+                made,
+            } if made < numbers.writers => Some((
+                WriterState::Live {
+                    number,
+                    stage: Stage::Out,
+                    entries,
+                    made: made + 1,
+                },
+                WriterState::Live {
+                    number: made,
+                    stage: Stage::Out,
+                    entries: 0,
+                    made: 0,
+                },
+            )),
+            _ => None,
         }
     }
 }
