@@ -15,7 +15,7 @@ use Rattle.phaser_core.specs.declared.writer.WriterState.TheVariants.{Live, Gone
 use Rattle.phaser_core.specs.Cells.{is_odd, end_at, initial, table_cells, word_count, vacant, cell_at}
 use Rattle.phaser_core.specs.Views.{pending, taken_count}
 use Rattle.phaser_core.specs.Invariant.{InTable}
-use Rattle.phaser_core.specs.Plain.{changed, writer_step, writer_at, writer_after, words_after, writers_after, step_if, closing_step, closing_after, closing_if, Parts, with_closing, gathered_parts_if, gathered_parts, looked, look_parts, with_cell, take_words, take_parts, split_if, split_of, gone_if, FitsWriter, AllFitWriters, FitsParts, IsCoherent}
+use Rattle.phaser_core.specs.Plain.{changed, writer_step, writer_at, writer_after, words_after, writers_after, step_if, closing_step, closing_after, closing_if, Parts, with_closing, gathered_parts_if, gathered_parts, looked, look_parts, with_taken, take_words, take_parts, split_if, split_of, gone_if, FitsWriter, AllFitWriters, FitsParts, IsCoherent}
 use Rattle.phaser_core.proofs.CellSteps.{taken_low}
 use Rattle.phaser_core.proofs.Plains.{fits_set, fits_snoc, step_fits, step_is, less}
 
@@ -67,14 +67,14 @@ not_eqb a b f e = true≢false (sym (eq-eqb a b e) ∙ f)
 below : (a b : ℕ) → a ≤ b → a ≢ b → a < b
 below a b le ne = omega arith
 
-gathered_fits : (labels : ℕ) (p : Parts) (b : Bool) → (length p.taken == table_cells labels) ≡ b → p.interval + 1 ≤ 16777216 → length p.taken ≤ table_cells labels → FitsParts labels (gathered_parts_if b labels p)
-gathered_fits labels p true is room most = record { room = omega arith; in_table = tt; count = refl }
-gathered_fits labels p false is room most = let ne = not_eqb (length p.taken) (table_cells labels) is in record { room = room; in_table = below (length p.taken) (table_cells labels) most ne; count = refl }
+gathered_fits : (labels j : ℕ) (p : Parts) (b : Bool) → (j == table_cells labels) ≡ b → p.interval + 1 ≤ 16777216 → j ≤ table_cells labels → length p.taken ≡ j → FitsParts labels (gathered_parts_if b labels j p)
+gathered_fits labels j p true is room most count = record { room = omega arith; in_table = tt; count = refl }
+gathered_fits labels j p false is room most count = record { room = room; in_table = below j (table_cells labels) most (not_eqb j (table_cells labels) is); count = count }
 
 looked_fits : (labels : ℕ) (p : Parts) (want : ℕ) (b : Bool) → p.closing ≡ Waiting want → FitsParts labels p → FitsParts labels (looked b labels p)
 looked_fits labels p want true is h =
-    let none : length p.taken ≡ 0 = h.count ∙ ap taken_count is in let room : p.interval + 1 ≤ 16777216 = subst (λ (c : Closing). p.interval + pending c ≤ 16777216) is h.room in
-    gathered_fits labels p (length p.taken == table_cells labels) refl room (omega arith)
+    let room : p.interval + 1 ≤ 16777216 = subst (λ (c : Closing). p.interval + pending c ≤ 16777216) is h.room in
+    gathered_fits labels 0 (with_taken p []) (0 == table_cells labels) refl room (omega arith) refl
 looked_fits labels p want false is h = h
 
 look_fits : (labels found : ℕ) (p : Parts) (c : Closing) → p.closing ≡ c → FitsParts labels p → FitsParts labels (look_parts c found labels p)
@@ -97,7 +97,7 @@ take_fits labels ws p (Harvest j) is h =
     let more : length (p.taken ++ found ∷ []) ≡ length p.taken + 1 = length-append p.taken (found ∷ []) in
     let count : length p.taken ≡ j = h.count ∙ ap taken_count is in let low : j < table_cells labels = subst (InTable (table_cells labels)) is h.in_table in
     let room : p.interval + 1 ≤ 16777216 = subst (λ (c : Closing). p.interval + pending c ≤ 16777216) is h.room in
-    gathered_fits labels (with_cell p found) (length (p.taken ++ found ∷ []) == table_cells labels) refl room (omega arith)
+    gathered_fits labels (j + 1) (with_taken p (p.taken ++ found ∷ [])) (j + 1 == table_cells labels) refl room (omega arith) (omega arith)
 
 take_long : (labels : ℕ) (ws : List ℕ) (p : Parts) (c : Closing) → length (take_words c labels ws p) ≡ length ws
 take_long labels ws p Idle = refl

@@ -13,3 +13,4 @@ pub mod Every
 pub mod Ends
 pub mod Plains
 pub mod Coherence
+pub mod Simulates

@@ -162,17 +162,21 @@ pub record Parts : Type 0 where
   pub taken : List ℕ
   pub closed : List Report
 
--- once all cells are taken the report is closed
-abbrev pub gathered_parts_if : Bool → ℕ → Parts → Parts
-gathered_parts_if true labels p = record { interval = p.interval + 1; closing = Idle; taken = []; closed = p.closed ++ report_of labels p.interval p.taken ∷ [] }
-gathered_parts_if false labels p = record { interval = p.interval; closing = Harvest (length p.taken); taken = p.taken; closed = p.closed }
+-- with j cells taken: the report is closed, or more are to be taken
+abbrev pub gathered_parts_if : Bool → ℕ → ℕ → Parts → Parts
+gathered_parts_if true labels j p = record { interval = p.interval + 1; closing = Idle; taken = []; closed = p.closed ++ report_of labels p.interval p.taken ∷ [] }
+gathered_parts_if false labels j p = record { interval = p.interval; closing = Harvest j; taken = p.taken; closed = p.closed }
 
-abbrev pub gathered_parts : ℕ → Parts → Parts
-gathered_parts labels p = gathered_parts_if (length p.taken == table_cells labels) labels p
+abbrev pub gathered_parts : ℕ → ℕ → Parts → Parts
+gathered_parts labels j p = gathered_parts_if (j == table_cells labels) labels j p
+
+-- the part with these cells taken
+abbrev pub with_taken : Parts → List ℕ → Parts
+with_taken p cells = record { interval = p.interval; closing = p.closing; taken = cells; closed = p.closed }
 
 -- the answer to a look, and the part after it
 abbrev pub looked : Bool → ℕ → Parts → Parts
-looked true labels p = gathered_parts labels p
+looked true labels p = gathered_parts labels 0 (with_taken p [])
 looked false labels p = p
 
 abbrev pub look_answer : Bool → ℕ → ℕ → Applied
@@ -187,10 +191,6 @@ abbrev pub look_parts : Closing → ℕ → ℕ → Parts → Parts
 look_parts (Waiting want) found labels p = looked (found == want) labels p
 look_parts _ found labels p = p
 
--- the part with one cell more
-abbrev pub with_cell : Parts → ℕ → Parts
-with_cell p found = record { interval = p.interval; closing = p.closing; taken = p.taken ++ found ∷ []; closed = p.closed }
-
 abbrev pub take_result : Closing → ℕ → List ℕ → Parts → Applied
 take_result (Harvest j) labels words p = Old (slice_index words (cell_at labels p.interval j))
 take_result _ labels words p = NotEnabled
@@ -200,7 +200,7 @@ take_words (Harvest j) labels words p = slice_set words (cell_at labels p.interv
 take_words _ labels words p = words
 
 abbrev pub take_parts : Closing → ℕ → List ℕ → Parts → Parts
-take_parts (Harvest j) labels words p = gathered_parts labels (with_cell p (slice_index words (cell_at labels p.interval j)))
+take_parts (Harvest j) labels words p = gathered_parts labels (j + 1) (with_taken p (p.taken ++ slice_index words (cell_at labels p.interval j) ∷ []))
 take_parts _ labels words p = p
 
 -- the part after a step of its own on another word

@@ -35,13 +35,14 @@ kept_of (view.Writer w) = Live w.number w.stage (length w.list) w.made
 kept_of (view.Reporter r) = Gone
 kept_of view.Gone = Gone
 
--- the shape is that of a reporter's view and the writers' views
+-- what is kept of the reporter's view
+abbrev pub parts_of : Reading → Parts
+parts_of r = record { interval = r.interval; closing = r.closing; taken = r.cells; closed = r.closed }
+
+-- the shape is that of a reporter's view and the other views
 pub record ShowsViews (s : Shape) (r : Reading) (others : List View) : Type 0 where
   pub labels : r.labels ≡ s.numbers.labels
-  pub interval : r.interval ≡ s.reporter.interval
-  pub closing : r.closing ≡ s.reporter.closing
-  pub taken : r.cells ≡ s.reporter.taken
-  pub closed : r.closed ≡ s.reporter.closed
+  pub reporter : parts_of r ≡ s.reporter
   pub writers : map kept_of others ≡ s.writers
 
 -- The core with this shape may stand for these views, over its words.
@@ -66,10 +67,10 @@ abbrev pub answer_of : Event → Closing → ℕ → Applied
 answer_of event.Look (Waiting want) found = look_answer (found == want) found want
 answer_of _ closing found = Old found
 
--- The answer to an event and the shape after it, where the step of the state is given: without a step the event is not enabled, and the core as before.
-abbrev pub Answered : Shape → List View → Event → Option CoreState → Applied → Shape → Type 0
-Answered before views e None a after = (a ≡ NotEnabled) × (after ≡ before)
-Answered before views e (Some s) a after = (a ≡ answer_of e before.reporter.closing (found_of before.numbers before.words views e)) × (after.numbers ≡ before.numbers) × (after.words ≡ s.0) × Shows after s.1
+-- The answer to an event and the shape after it, where the step of the state and the number that it finds are given: without a step the event is not enabled, and the core as before.
+abbrev pub Answered : Shape → Event → ℕ → Option CoreState → Applied → Shape → Type 0
+Answered before e found None a after = (a ≡ NotEnabled) × (after ≡ before)
+Answered before e found (Some s) a after = (a ≡ answer_of e before.reporter.closing found) × (after.numbers ≡ before.numbers) × (after.words ≡ s.0) × Shows after s.1
 
 -- a core as it is made
 abbrev pub first_shape : Numbers → Shape

@@ -88,7 +88,7 @@ impl Reporter {
     fn gather(&mut self, alloc: Global, labels: u16) -> M<()>
         requires most { length self.old.taken ≤ 1536 }
         requires room { self.old.interval ≤ 16777216 }
-        ensures ok { OnOk result (self.new ≡ gathered_parts labels self.old) }
+        ensures ok { OnOk result (self.new ≡ gathered_parts labels (length self.old.taken) self.old) }
         ensures err { OnErr result (self.new ≡ self.old) }
     {
         let taken = self.taken.len() as u32;
