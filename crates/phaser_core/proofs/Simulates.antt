@@ -4,6 +4,7 @@ use mathlib.Core.Option.{some, none}
 use mathlib.Core.Option as maybe
 use lib.ListN.{get_elem?}
 use lib.Seq.{map-set}
+use Rattle.std.proofs.lemmas.List.{set-get_or}
 use Rattle.jm_base.specs.declared.types.Entry.{Entry}
 use Rattle.interval_tables.specs.Totals.{one_if}
 use Rattle.phaser_core.specs.declared.view.Numbers.{Numbers}
@@ -24,8 +25,8 @@ use Rattle.phaser_core.specs.declared.writer.WriterState.{WriterState}
 use Rattle.phaser_core.specs.declared.writer.WriterState.TheVariants.{Live, Gone}
 use Rattle.phaser_core.specs.declared.applied.Applied.{Applied}
 use Rattle.phaser_core.specs.declared.applied.Applied.TheVariants.{Old, Settled, NotYet, NotEnabled}
-use Rattle.phaser_core.specs.Cells.{is_odd, end_at, phase, place, folded, part, column, sums, table_cells, cell_at, vacant}
-use Rattle.phaser_core.specs.Moves.{Move, entering, loading, adding, leaving, looking_stop, raising_stop, swapping, clearing, flipping, looking, taking, raising_as_reporter, gathered_if, gathered, settled, stepped_words, stepped_views, splitting, split_off, joining}
+use Rattle.phaser_core.specs.Cells.{is_odd, end_at, phase, place, folded, part, column, sums, table_cells, cell_at, vacant, report_of}
+use Rattle.phaser_core.specs.Moves.{Move, entering, loading, adding, leaving, looking_stop, raising_stop, swapping, clearing, flipping, looking, taking, raising_as_reporter, gathered_if, gathered, settled, stepped_words, stepped_views, splitting, split_off, joining, taking_in}
 use Rattle.phaser_core.specs.Step.{CoreState, given, writer_move, reporter_move, move_of, move_at, moved, split_if, split_stage, split_at, join_stage, join_at}
 use Rattle.phaser_core.specs.Plain.{changed, cell_change, step_if, cell_step, stage_step, writer_step, stage_after, entries_after, writer_after, writer_at, step_answer, words_after, writers_after, closing_step, closing_after, closing_if, Parts, gathered_parts_if, gathered_parts, with_taken, with_closing, looked, look_answer, look_result, look_parts, take_result, take_words, take_parts, split_if as pair_if, split_of, pair_result, pair_writers, is_idle, is_out, old_if, gone_if}
 use Rattle.phaser_core.specs.Shape.{Shape, kept_of, parts_of, ShowsViews, Shows, found_by, answer_of, Answered}
@@ -110,6 +111,10 @@ set_next v os i u = ap (λ (j : ℕ). set (v ∷ os) j u) (add-one i)
 get_next : (v : View) (os : List View) (i : ℕ) → get_elem? (v ∷ os) (i + 1) ≡ get_elem? os i
 get_next v os i = ap (get_elem? (v ∷ os)) (add-one i)
 
+map_snoc : (os : List View) (v : View) → map kept_of (os ++ v ∷ []) ≡ map kept_of os ++ kept_of v ∷ []
+map_snoc [] v = refl
+map_snoc (o ∷ os) v = ap (λ (l : List WriterState). kept_of o ∷ l) (map_snoc os v)
+
 module _ (n : Numbers) (ws : List ℕ) (r : Reading) (os : List View) (named : r.labels ≡ n.labels) where
   abbrev S : Shape
   S = shape_of n ws r os
@@ -186,3 +191,113 @@ module _ (n : Numbers) (ws : List ℕ) (r : Reading) (os : List View) (named : r
   stop_answers Cleared is = (refl, refl)
   stop_answers (Waiting want) is = (refl, refl)
   stop_answers (Harvest j) is = (refl, refl)
+
+  -- A look, a take
+
+  gathered_as : (b : Bool) (labels j : ℕ) (cells : List ℕ) → r.labels ≡ labels → parts_of (gathered_if b r cells j) ≡ gathered_parts_if b labels j (with_taken (parts_of r) cells)
+  gathered_as true labels j cells e = λ i. record { interval = r.interval + 1; closing = Idle; taken = []; closed = r.closed ++ report_of (e i) r.interval cells ∷ [] }
+  gathered_as false labels j cells e = refl
+
+  gathered_labels : (b : Bool) (j : ℕ) (cells : List ℕ) → (gathered_if b r cells j).labels ≡ r.labels
+  gathered_labels true j cells = refl
+  gathered_labels false j cells = refl
+
+  gathered_is : (j : ℕ) (cells : List ℕ) → parts_of (gathered r cells j) ≡ gathered_parts n.labels j (with_taken (parts_of r) cells)
+  gathered_is j cells = gathered_as (j == table_cells r.labels) n.labels j cells named ∙ ap (λ (l : ℕ). gathered_parts_if (j == table_cells l) n.labels j (with_taken (parts_of r) cells)) named
+
+  settled_is : (b : Bool) → parts_of (settled r b) ≡ looked b n.labels (parts_of r)
+  settled_is true = gathered_is 0 []
+  settled_is false = refl
+
+  settled_labels : (b : Bool) → (settled r b).labels ≡ r.labels
+  settled_labels true = gathered_labels (0 == table_cells r.labels) 0 []
+  settled_labels false = refl
+
+  abbrev looked_at : ℕ
+  looked_at = get_or ws (end_at (is_odd r.interval)) 0
+
+  pub look_answers : (c : Closing) → r.closing ≡ c → Answered S event.Look (found_by ws (reporter_move event.Look r c)) (moved ws (view.Reporter r ∷ os) 0 (reporter_move event.Look r c)) (look_result c looked_at) (after_reporter ws (look_parts c looked_at n.labels (parts_of r)))
+  look_answers (Waiting want) is = reporter_moves event.Look (looking r want) (settled r (looked_at == want)) (look_result (Waiting want) looked_at) ws (looked (looked_at == want) n.labels (parts_of r))
+      refl (settled_labels (looked_at == want)) (settled_is (looked_at == want)) (ap (λ (c : Closing). answer_of event.Look c looked_at) (sym is)) (sym (set-get_or ws (end_at (is_odd r.interval)) 0))
+  look_answers Idle is = (refl, refl)
+  look_answers Swapped is = (refl, refl)
+  look_answers Cleared is = (refl, refl)
+  look_answers (Harvest j) is = (refl, refl)
+
+  pub take_answers : (c : Closing) → r.closing ≡ c → Answered S event.Take (found_by ws (reporter_move event.Take r c)) (moved ws (view.Reporter r ∷ os) 0 (reporter_move event.Take r c)) (take_result c n.labels ws (parts_of r)) (after_reporter (take_words c n.labels ws (parts_of r)) (take_parts c n.labels ws (parts_of r)))
+  take_answers (Harvest j) is =
+      let at : (labels : ℕ) → ℕ = λ labels. get_or ws (cell_at labels r.interval j) 0 in
+      reporter_moves event.Take (taking r j) (gathered r (r.cells ++ at r.labels ∷ []) (j + 1)) (Old (at n.labels)) (set ws (cell_at n.labels r.interval j) (vacant (j % 6))) (gathered_parts n.labels (j + 1) (with_taken (parts_of r) (r.cells ++ at n.labels ∷ [])))
+      refl (gathered_labels (j + 1 == table_cells r.labels) (j + 1) (r.cells ++ at r.labels ∷ []))
+      (gathered_is (j + 1) (r.cells ++ at r.labels ∷ []) ∙ ap (λ (l : ℕ). gathered_parts n.labels (j + 1) (with_taken (parts_of r) (r.cells ++ at l ∷ []))) named)
+      (ap (λ (l : ℕ). Old (at l)) (sym named)) (ap (λ (l : ℕ). set ws (cell_at l r.interval j) (vacant (j % 6))) (sym named))
+  take_answers Idle is = (refl, refl)
+  take_answers Swapped is = (refl, refl)
+  take_answers Cleared is = (refl, refl)
+  take_answers (Waiting want) is = (refl, refl)
+
+  -- A split, a join
+
+  abbrev after_writers : List WriterState → Shape
+  after_writers wr = record { numbers = n; words = ws; writers = wr; reporter = parts_of r }
+
+  split_answer_if : (b : Bool) (w : Writing) (rest : List View) → w.stage ≡ Out → let st : Option (WriterState × WriterState) = pair_if b w.number (length w.list) w.made in
+      Answered (shape_of n ws r (view.Writer w ∷ rest)) event.Split (get_or ws 0 0) (split_if b ws (view.Reporter r ∷ view.Writer w ∷ rest) (view.Writer w)) (pair_result st ws) (record { numbers = n; words = ws; writers = pair_writers st (kept_of (view.Writer w) ∷ map kept_of rest); reporter = parts_of r })
+  split_answer_if true w rest out = (refl, refl, refl, record {
+    labels = named;
+    reporter = refl;
+    writers = (λ i. Live w.number (out i) (length w.list) (w.made + 1) ∷ map_snoc rest (view.Writer record { number = w.made; list = []; stage = Out; made = 0; raised = false; saw = false }) i);
+  })
+  split_answer_if false w rest out = (refl, refl)
+
+  split_stage_answer : (w : Writing) (rest : List View) (g : Stage) → w.stage ≡ g → let st : Option (WriterState × WriterState) = split_of n (Live w.number g (length w.list) w.made) in
+      Answered (shape_of n ws r (view.Writer w ∷ rest)) event.Split (get_or ws 0 0) (split_stage n ws (view.Reporter r ∷ view.Writer w ∷ rest) w g) (pair_result st ws) (record { numbers = n; words = ws; writers = pair_writers st (kept_of (view.Writer w) ∷ map kept_of rest); reporter = parts_of r })
+  split_stage_answer w rest Out is = split_answer_if (ltb w.made n.writers) w rest is
+  split_stage_answer w rest (In p) is = (refl, refl)
+  split_stage_answer w rest (On p m e d) is = (refl, refl)
+
+-- a further writer
+pub split_answers : (n : Numbers) (ws : List ℕ) (r : Reading) (os : List View) → r.labels ≡ n.labels → let st : Option (WriterState × WriterState) = split_of n (writer_at (map kept_of os) 0) in
+    Answered (shape_of n ws r os) event.Split (get_or ws 0 0) (split_at n ws (view.Reporter r ∷ os) (get_elem? (view.Reporter r ∷ os) 1)) (pair_result st ws) (record { numbers = n; words = ws; writers = pair_writers st (map kept_of os); reporter = parts_of r })
+split_answers n ws r [] named = (refl, refl)
+split_answers n ws r (view.Writer w ∷ rest) named = split_stage_answer n ws r [] named w rest w.stage refl
+split_answers n ws r (view.Reporter q ∷ rest) named = (refl, refl)
+split_answers n ws r (view.Gone ∷ rest) named = (refl, refl)
+
+module _ (n : Numbers) (ws : List ℕ) (r : Reading) (os : List View) (named : r.labels ≡ n.labels) (i : ℕ) where
+  abbrev J : Bool → Applied × Shape
+  J b = (old_if b ws, record { numbers = n; words = ws; writers = gone_if b i (map kept_of os); reporter = parts_of r })
+
+  abbrev JoinAnswered : Option CoreState → Bool → Type 0
+  JoinAnswered o b = Answered (shape_of n ws r os) (event.Join i) (get_or ws 0 0) o (J b).0 (J b).1
+
+  join_now : (w : Writing) → JoinAnswered (join_stage ws (view.Reporter r ∷ os) (i + 1) r Idle w Out) true
+  join_now w = (refl, refl, refl, subst (Shows (J true).1) (sym (set_next (view.Reporter (taking_in r w)) os i view.Gone)) (record { labels = named; reporter = refl; writers = map-set kept_of os i view.Gone }))
+
+  join_stage_answer : (c : Closing) (w : Writing) (g : Stage) → JoinAnswered (join_stage ws (view.Reporter r ∷ os) (i + 1) r c w g) (is_idle c && is_out (Live w.number g (length w.list) w.made))
+  join_stage_answer Idle w Out = join_now w
+  join_stage_answer Idle w (In p) = (refl, refl)
+  join_stage_answer Idle w (On p m e d) = (refl, refl)
+  join_stage_answer Swapped w g = (refl, refl)
+  join_stage_answer Cleared w g = (refl, refl)
+  join_stage_answer (Waiting want) w g = (refl, refl)
+  join_stage_answer (Harvest j) w g = (refl, refl)
+
+  not_out : (c : Closing) → (is_idle c && is_out Gone) ≡ false
+  not_out Idle = refl
+  not_out Swapped = refl
+  not_out Cleared = refl
+  not_out (Waiting want) = refl
+  not_out (Harvest j) = refl
+
+  join_found : (o : maybe.Option View) → JoinAnswered (join_at ws (view.Reporter r ∷ os) (i + 1) (some (view.Reporter r)) o) (is_idle r.closing && is_out (kept_or o))
+  join_found none = subst (JoinAnswered None) (sym (not_out r.closing)) (refl, refl)
+  join_found (some (view.Writer w)) = join_stage_answer r.closing w w.stage
+  join_found (some (view.Reporter q)) = subst (JoinAnswered None) (sym (not_out r.closing)) (refl, refl)
+  join_found (some view.Gone) = subst (JoinAnswered None) (sym (not_out r.closing)) (refl, refl)
+
+  -- a writer that is joined
+  pub join_answers : JoinAnswered (join_at ws (view.Reporter r ∷ os) (i + 1) (get_elem? (view.Reporter r ∷ os) 0) (get_elem? (view.Reporter r ∷ os) (i + 1))) (is_idle r.closing && is_out (writer_at (map kept_of os) i))
+  join_answers =
+      subst (λ (o : maybe.Option View). JoinAnswered (join_at ws (view.Reporter r ∷ os) (i + 1) (some (view.Reporter r)) o) (is_idle r.closing && is_out (writer_at (map kept_of os) i))) (sym (get_next (view.Reporter r) os i))
+      (subst (λ (k : WriterState). JoinAnswered (join_at ws (view.Reporter r ∷ os) (i + 1) (some (view.Reporter r)) (get_elem? os i)) (is_idle r.closing && is_out k)) (kept_at os i) (join_found (get_elem? os i)))
