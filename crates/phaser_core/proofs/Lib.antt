@@ -14,3 +14,4 @@ pub mod Ends
 pub mod Plains
 pub mod Coherence
 pub mod Simulates
+pub mod Applying

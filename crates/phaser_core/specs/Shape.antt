@@ -18,9 +18,11 @@ use Rattle.phaser_core.specs.declared.writer.WriterState.TheVariants.{Live, Gone
 use Rattle.phaser_core.specs.declared.applied.Applied.{Applied}
 use Rattle.phaser_core.specs.declared.applied.Applied.TheVariants.{Old, Settled, NotYet, NotEnabled}
 use Rattle.phaser_core.specs.Cells.{report_from, table_cells, cell_at}
+use Rattle.phaser_core.specs.declared.view.Joined.{Joined}
+use Rattle.phaser_core.specs.Views.{Pair}
 use Rattle.phaser_core.specs.Moves.{Move, first_words}
 use Rattle.phaser_core.specs.Plain.{Parts, look_answer}
-use Rattle.phaser_core.specs.Step.{CoreState, port_of, move_at}
+use Rattle.phaser_core.specs.Step.{CoreState, port_of, move_at, core_step}
 
 -- the words, and of the views all but the lists and the marks
 pub record Shape : Type 0 where
@@ -72,6 +74,10 @@ abbrev pub Answered : Shape → Event → ℕ → Option CoreState → Applied �
 Answered before e found None a after = (a ≡ NotEnabled) × (after ≡ before)
 Answered before e found (Some s) a after = (a ≡ answer_of e before.reporter.closing found) × (after.numbers ≡ before.numbers) × (after.words ≡ s.0) × Shows after s.1
 
+-- An event applied to a core is the step of every state that the core may stand for.
+abbrev pub Applies : Shape → Event → Applied → Shape → Type 0
+Applies before e a after = (views : List View) → Shows before views → Answered before e (found_of before.numbers before.words views e) (core_step before.numbers before.words views e) a after
+
 -- a core as it is made
 abbrev pub first_shape : Numbers → Shape
 first_shape n = record { numbers = n; words = first_words n.labels; writers = Live 0 Out 0 1 ∷ []; reporter = record { interval = 0; closing = Idle; taken = []; closed = [] } }
@@ -88,3 +94,10 @@ IsDone s = (s.reporter.closing ≡ Idle) × AllGone s.writers
 -- the report of the interval that is open at the end
 abbrev pub open_report : Shape → Report
 open_report s = report_from s.numbers.labels s.reporter.interval (λ j. slice_index s.words (cell_at s.numbers.labels s.reporter.interval j))
+
+-- the lists of the joined writers
+abbrev pub joined_lists : List View → List (List Pair)
+joined_lists [] = []
+joined_lists (view.Reporter r ∷ others) = map (λ (j : Joined). j.list) r.joined
+joined_lists (view.Writer w ∷ others) = []
+joined_lists (view.Gone ∷ others) = []

@@ -7,15 +7,16 @@ ghost use Rattle.phaser_core.specs.declared.view.Numbers.{Numbers};
 ghost use Rattle.phaser_core.specs.declared.view.Event.{Event};
 ghost use Rattle.phaser_core.specs.Cells.{is_odd, end_at, no_report};
 ghost use Rattle.phaser_core.specs.Views.{IsSized};
-ghost use Rattle.phaser_core.specs.Shares.{share_of};
+ghost use Rattle.phaser_core.specs.Shares.{share_of, Partition};
+ghost use Rattle.phaser_core.specs.Moves.{first_words};
 ghost use Rattle.phaser_core.specs.Invariant.{RecorderInvariant};
-ghost use Rattle.phaser_core.specs.Step.{core_step, first_state, after_all, AllFit};
+ghost use Rattle.phaser_core.specs.Step.{first_state, after_all, AllFit};
 ghost use Rattle.phaser_core.specs.Plain.{writer_step, writer_at, step_answer, words_after, writers_after, closing_step, closing_if, with_closing, look_result, look_parts, take_result, take_words, take_parts, split_result, split_writers, can_join, join_result, join_writers};
-ghost use Rattle.phaser_core.specs.Shape.{Shows, Answered, first_shape, IsDone, open_report};
+ghost use Rattle.phaser_core.specs.Shape.{Shows, Applies, first_shape, AllGone, IsDone, open_report, joined_lists};
 
 use crate::applied::Applied;
-use crate::parts::{join_writer, split_first, step_writer};
-use crate::reporter::Reporter;
+use crate::parts::{cell_count, cell_word, join_writer, split_first, step_writer, vacant};
+use crate::reporter::{Reporter, report};
 use crate::view::{Closing, Event, Numbers, Stage};
 use crate::writer::WriterState;
 use interval_tables::Report;
@@ -44,6 +45,109 @@ impl Model for Core {
 }
 
 impl Core {
+    /// A core with a reporter and writer 0. It has two tables of cells for `labels` labels, at most 256; up to
+    /// `writers` writers, 1 to 64, may be made, and each records at most `budget` entries. All writers together
+    /// record at most 4,194,304.
+    pub fn new(alloc: Global, labels: u16, writers: u16, budget: u32) -> M<Core>
+        requires labels { labels ≤ 256 }
+        requires some { 1 ≤ writers }
+        requires most { writers ≤ 64 }
+        requires entries { writers * budget ≤ 4194304 }
+        ensures { IfOk result (λ c. c ≡ first_shape (record { labels = labels; writers = writers; budget = budget })) }
+    {
+        let words = first_words(alloc, labels)?;
+        let mut states = Vec::with_capacity(alloc, usize::from(writers))?;
+        states.push(WriterState::Live {
+            number: 0,
+            stage: Stage::Out,
+            entries: 0,
+            made: 1,
+        })?;
+        Ok(Core {
+            numbers: Numbers {
+                labels,
+                writers,
+                budget,
+            },
+            words,
+            writers: states,
+            reporter: Reporter::new(alloc),
+        })
+    }
+
+    /// One step of one actor on one word: the table of the steps. Want of memory leaves the core as before.
+    pub fn apply(&mut self, alloc: Global, event: Event) -> M<Applied>
+        ensures step { IfOk result (λ a. Applies self.old event a self.new) }
+        ensures err { OnErr result (self.new ≡ self.old) }
+    {
+        match event {
+            Event::Enter(writer)
+            | Event::Load(writer, _)
+            | Event::Add(writer)
+            | Event::Lower(writer)
+            | Event::Raise(writer)
+            | Event::Exit(writer)
+            | Event::LookStop(writer)
+            | Event::RaiseStop(writer) => Ok(self.step_writer(writer, &event)),
+            Event::SwapActive | Event::ClearEnd | Event::Flip | Event::ReporterStop => {
+                Ok(self.step_reporter(&event))
+            }
+            Event::Look => self.look(alloc),
+            Event::Take => self.take(alloc),
+            Event::Split => self.split(),
+            Event::Join(writer) => Ok(self.join(writer)),
+        }
+    }
+
+    /// The number in a word, `None` where there is no such word.
+    pub fn word(&self, index: u32) -> Option<u64>
+        ensures { result ≡ slice_get self.now.words index }
+    {
+        self.words.get(index as usize).copied()
+    }
+
+    /// The closed reports, in the order of their intervals.
+    pub fn closed(&self) -> &[Report]
+        ensures reports { result.now ≡ self.now.reporter.closed }
+        ensures shares { (views : List View) → Shows self.now views → RecorderInvariant self.now.numbers self.now.words views
+            → (m : ℕ) → m < length result.now
+            → slice_index_or result.now m no_report ≡ record { interval = m; rows = sum_of self.now.numbers.labels (share_of m views) } }
+    {
+        self.reporter.closed()
+    }
+
+    /// Whether every writer is joined and the reporter is idle.
+    pub fn is_done(&self) -> bool
+        ensures { IsTrue result ↔ IsDone self.now }
+    {
+        self.reporter.is_idle() && all_gone(&self.writers)
+    }
+
+    /// The closed reports, and the report of the interval that is open as the last.
+    pub fn finish(self, alloc: Global) -> M<Vec<Report>>
+        requires { IsDone self }
+        ensures reports { IfOk result (λ reports. reports.items ≡ self.reporter.closed ++ open_report self ∷ []) }
+        ensures partition { IfOk result (λ reports. (views : List View) → Shows self views → RecorderInvariant self.numbers self.words views
+            → Partition self.numbers.labels (joined_lists views) reports.items) }
+    {
+        let Core {
+            numbers,
+            words,
+            reporter,
+            ..
+        } = self;
+        let Reporter {
+            interval,
+            mut closed,
+            ..
+        } = reporter;
+        let first = cell_word(numbers.labels, interval, 0) as usize;
+        let cells = cell_count(numbers.labels) as usize;
+        let last = report(alloc, numbers.labels, interval, &words[first..first + cells])?;
+        closed.push(last)?;
+        Ok(closed)
+    }
+
     // a step of a writer
     fn step_writer(&mut self, writer: u16, event: &Event) -> Applied
         ensures answer { result ≡ step_answer (writer_step self.old.numbers event.now (writer_at self.old.writers writer)) self.old.words }
@@ -127,3 +231,39 @@ impl Core {
         }
     }
 }
+
+// the words at the start: the words of both phases, the stop word, and two tables of vacant cells
+fn first_words(alloc: Global, labels: u16) -> M<Vec<u64>>
+    requires { labels ≤ 256 }
+    ensures { IfOk result (λ words. words.items ≡ first_words labels) }
+{
+    let cells = cell_count(labels);
+    let mut words = Vec::with_capacity(alloc, 5 + 2 * cells as usize)?;
+    words.push(0)?;
+    words.push(0)?;
+    words.push(0)?;
+    words.push(0x8000_0000_0000_0000)?;
+    words.push(0)?;
+    for cell in 0..2 * cells {
+        words.push(vacant(cell))?;
+    }
+    Ok(words)
+}
+
+// whether every writer was joined
+fn all_gone(writers: &[WriterState]) -> bool
+    ensures { IsTrue result ↔ AllGone writers.now }
+{
+    for writer in writers {
+        if let WriterState::Live { .. } = writer {
+            return false;
+        }
+    }
+    true
+}
+
+/// The law of the recorder: from the first state on, whatever the order of the events, the state meets the invariant.
+pub fn every_order_keeps_the_invariant()
+    ensures { (n : Numbers) (events : List Event) → IsSized n → AllFit events
+        → RecorderInvariant n (after_all n (first_state n) events).0 (after_all n (first_state n) events).1 }
+{}

@@ -63,6 +63,25 @@ pub(crate) fn report(alloc: Global, labels: u16, interval: u64, cells: &[u64]) -
 }
 
 impl Reporter {
+    // a reporter that has closed nothing
+    pub(crate) fn new(alloc: Global) -> Reporter
+        ensures { result ≡ record { interval = 0; closing = Closing.Idle; taken = []; closed = [] } }
+    {
+        Reporter {
+            interval: 0,
+            closing: Closing::Idle,
+            taken: Vec::new(alloc),
+            closed: Vec::new(alloc),
+        }
+    }
+
+    // the closed reports
+    pub(crate) fn closed(&self) -> &[Report]
+        ensures { result.now ≡ self.now.closed }
+    {
+        &self.closed
+    }
+
     // whether no interval is being closed
     pub(crate) fn is_idle(&self) -> bool
         ensures { result ≡ is_idle self.now.closing }
