@@ -15,3 +15,4 @@ pub mod Plains
 pub mod Coherence
 pub mod Simulates
 pub mod Applying
+pub mod Makes

@@ -243,11 +243,16 @@ module _ (n : Numbers) (ws : List ℕ) (r : Reading) (os : List View) (named : r
 
   split_answer_if : (b : Bool) (w : Writing) (rest : List View) → w.stage ≡ Out → let st : Option (WriterState × WriterState) = pair_if b w.number (length w.list) w.made in
       Answered (shape_of n ws r (view.Writer w ∷ rest)) event.Split (get_or ws 0 0) (split_if b ws (view.Reporter r ∷ view.Writer w ∷ rest) (view.Writer w)) (pair_result st ws) (record { numbers = n; words = ws; writers = pair_writers st (kept_of (view.Writer w) ∷ map kept_of rest); reporter = parts_of r })
-  split_answer_if true w rest out = (refl, refl, refl, record {
-    labels = named;
-    reporter = refl;
-    writers = (λ i. Live w.number (out i) (length w.list) (w.made + 1) ∷ map_snoc rest (view.Writer record { number = w.made; list = []; stage = Out; made = 0; raised = false; saw = false }) i);
-  })
+  split_answer_if true w rest out = (
+    refl,
+    refl,
+    refl,
+    record {
+      labels = named;
+      reporter = refl;
+      writers = (λ i. Live w.number (out i) (length w.list) (w.made + 1) ∷ map_snoc rest (view.Writer record { number = w.made; list = []; stage = Out; made = 0; raised = false; saw = false }) i);
+    },
+  )
   split_answer_if false w rest out = (refl, refl)
 
   split_stage_answer : (w : Writing) (rest : List View) (g : Stage) → w.stage ≡ g → let st : Option (WriterState × WriterState) = split_of n (Live w.number g (length w.list) w.made) in

@@ -1,5 +1,5 @@
 -- What a core shows, and how that goes with words and views.
-use Rattle.std.specs.Prelude.{◌≡◌, ℕ, zero, suc, ◌+◌, ◌*◌, ◌%◌, ◌<◌, ◌≤◌, ◌==◌, Bool, true, false, List, [], ◌∷◌, ◌++◌, length, map, Option, Some, None, nat_lt, slice_index, slice_index_or, slice_set}
+use Rattle.std.specs.Prelude.{◌≡◌, ℕ, zero, suc, ◌+◌, ◌*◌, ◌%◌, ◌<◌, ◌≤◌, ◌==◌, Bool, true, false, List, [], ◌∷◌, ◌++◌, length, map, Option, Some, None, nat_lt, IsTrue, slice_index, slice_index_or, slice_set}
 use mathlib.Core.Option.{some, none}
 use mathlib.Core.Option as maybe
 use lib.ListN.{get_elem?}
@@ -21,7 +21,7 @@ use Rattle.phaser_core.specs.Cells.{report_from, table_cells, cell_at}
 use Rattle.phaser_core.specs.declared.view.Joined.{Joined}
 use Rattle.phaser_core.specs.Views.{Pair}
 use Rattle.phaser_core.specs.Moves.{Move, first_words}
-use Rattle.phaser_core.specs.Plain.{Parts, look_answer}
+use Rattle.phaser_core.specs.Plain.{Parts, look_answer, is_idle}
 use Rattle.phaser_core.specs.Step.{CoreState, port_of, move_at, core_step}
 
 -- the words, and of the views all but the lists and the marks
@@ -83,13 +83,13 @@ abbrev pub first_shape : Numbers → Shape
 first_shape n = record { numbers = n; words = first_words n.labels; writers = Live 0 Out 0 1 ∷ []; reporter = record { interval = 0; closing = Idle; taken = []; closed = [] } }
 
 -- every writer is joined, and the reporter is idle
-abbrev pub AllGone : List WriterState → Type 0
-AllGone [] = Unit {0}
-AllGone (Live number stage entries made ∷ ws) = ⊥
-AllGone (Gone ∷ ws) = AllGone ws
+abbrev pub all_gone : List WriterState → Bool
+all_gone [] = true
+all_gone (Live number stage entries made ∷ ws) = false
+all_gone (Gone ∷ ws) = all_gone ws
 
 abbrev pub IsDone : Shape → Type 0
-IsDone s = (s.reporter.closing ≡ Idle) × AllGone s.writers
+IsDone s = IsTrue (is_idle s.reporter.closing) × IsTrue (all_gone s.writers)
 
 -- the report of the interval that is open at the end
 abbrev pub open_report : Shape → Report

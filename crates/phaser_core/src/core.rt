@@ -8,15 +8,15 @@ ghost use Rattle.phaser_core.specs.declared.view.Event.{Event};
 ghost use Rattle.phaser_core.specs.Cells.{is_odd, end_at, no_report};
 ghost use Rattle.phaser_core.specs.Views.{IsSized};
 ghost use Rattle.phaser_core.specs.Shares.{share_of, Partition};
-ghost use Rattle.phaser_core.specs.Moves.{first_words};
+ghost use Rattle.phaser_core.specs.Moves.{first_cells, first_words};
 ghost use Rattle.phaser_core.specs.Invariant.{RecorderInvariant};
 ghost use Rattle.phaser_core.specs.Step.{first_state, after_all, AllFit};
 ghost use Rattle.phaser_core.specs.Plain.{writer_step, writer_at, step_answer, words_after, writers_after, closing_step, closing_if, with_closing, look_result, look_parts, take_result, take_words, take_parts, split_result, split_writers, can_join, join_result, join_writers};
-ghost use Rattle.phaser_core.specs.Shape.{Shows, Applies, first_shape, AllGone, IsDone, open_report, joined_lists};
+ghost use Rattle.phaser_core.specs.Shape.{Shows, Applies, first_shape, all_gone, IsDone, open_report, joined_lists};
 
 use crate::applied::Applied;
-use crate::parts::{cell_count, cell_word, join_writer, split_first, step_writer, vacant};
-use crate::reporter::{Reporter, report};
+use crate::parts::{join_writer, split_first, step_writer};
+use crate::reporter::Reporter;
 use crate::view::{Closing, Event, Numbers, Stage};
 use crate::writer::WriterState;
 use interval_tables::Report;
@@ -53,7 +53,8 @@ impl Core {
         requires some { 1 ≤ writers }
         requires most { writers ≤ 64 }
         requires entries { writers * budget ≤ 4194304 }
-        ensures { IfOk result (λ c. c ≡ first_shape (record { labels = labels; writers = writers; budget = budget })) }
+        ensures made { IfOk result (λ c. c ≡ first_shape (record { labels = labels; writers = writers; budget = budget })) }
+        ensures shows { IfOk result (λ c. Shows c (first_state (record { labels = labels; writers = writers; budget = budget })).1) }
     {
         let words = first_words(alloc, labels)?;
         let mut states = Vec::with_capacity(alloc, usize::from(writers))?;
@@ -133,28 +134,22 @@ impl Core {
         let Core {
             numbers,
             words,
+            writers: _,
             reporter,
-            ..
         } = self;
-        let Reporter {
-            interval,
-            mut closed,
-            ..
-        } = reporter;
-        let first = cell_word(numbers.labels, interval, 0) as usize;
-        let cells = cell_count(numbers.labels) as usize;
-        let last = report(alloc, numbers.labels, interval, &words[first..first + cells])?;
-        closed.push(last)?;
-        Ok(closed)
+        let reports = reporter.finish(alloc, numbers.labels, words.as_slice())?;
+        Ok(reports)
     }
 
     // a step of a writer
     fn step_writer(&mut self, writer: u16, event: &Event) -> Applied
         ensures answer { result ≡ step_answer (writer_step self.old.numbers event.now (writer_at self.old.writers writer)) self.old.words }
-        ensures after { self.new ≡ record { numbers = self.old.numbers;
-            words = words_after (writer_step self.old.numbers event.now (writer_at self.old.writers writer)) self.old.words;
-            writers = writers_after (writer_step self.old.numbers event.now (writer_at self.old.writers writer)) event.now writer self.old.words self.old.writers;
-            reporter = self.old.reporter } }
+        ensures after { self.new ≡ record {
+          numbers = self.old.numbers;
+          words = words_after (writer_step self.old.numbers event.now (writer_at self.old.writers writer)) self.old.words;
+          writers = writers_after (writer_step self.old.numbers event.now (writer_at self.old.writers writer)) event.now writer self.old.words self.old.writers;
+          reporter = self.old.reporter;
+        } }
     {
         step_writer(
             &self.numbers,
@@ -168,10 +163,12 @@ impl Core {
     // a step of the reporter, but for Look and Take
     fn step_reporter(&mut self, event: &Event) -> Applied
         ensures answer { result ≡ step_answer (closing_step self.old.reporter.interval event.now self.old.reporter.closing) self.old.words }
-        ensures after { self.new ≡ record { numbers = self.old.numbers;
-            words = words_after (closing_step self.old.reporter.interval event.now self.old.reporter.closing) self.old.words;
-            writers = self.old.writers;
-            reporter = with_closing self.old.reporter (closing_if (closing_step self.old.reporter.interval event.now self.old.reporter.closing) event.now self.old.words self.old.reporter.closing) } }
+        ensures after { self.new ≡ record {
+          numbers = self.old.numbers;
+          words = words_after (closing_step self.old.reporter.interval event.now self.old.reporter.closing) self.old.words;
+          writers = self.old.writers;
+          reporter = with_closing self.old.reporter (closing_if (closing_step self.old.reporter.interval event.now self.old.reporter.closing) event.now self.old.words self.old.reporter.closing);
+        } }
     {
         self.reporter.step(self.words.as_mut_slice(), event)
     }
@@ -179,8 +176,12 @@ impl Core {
     // a look of the reporter
     fn look(&mut self, alloc: Global) -> M<Applied>
         ensures ok { IfOk result (λ a. a ≡ look_result self.old.reporter.closing (slice_index self.old.words (end_at (is_odd self.old.reporter.interval)))) }
-        ensures after { OnOk result (self.new ≡ record { numbers = self.old.numbers; words = self.old.words; writers = self.old.writers;
-            reporter = look_parts self.old.reporter.closing (slice_index self.old.words (end_at (is_odd self.old.reporter.interval))) self.old.numbers.labels self.old.reporter }) }
+        ensures after { OnOk result (self.new ≡ record {
+          numbers = self.old.numbers;
+          words = self.old.words;
+          writers = self.old.writers;
+          reporter = look_parts self.old.reporter.closing (slice_index self.old.words (end_at (is_odd self.old.reporter.interval))) self.old.numbers.labels self.old.reporter;
+        }) }
         ensures err { OnErr result (self.new ≡ self.old) }
     {
         self.reporter
@@ -190,10 +191,12 @@ impl Core {
     // a take of the reporter
     fn take(&mut self, alloc: Global) -> M<Applied>
         ensures ok { IfOk result (λ a. a ≡ take_result self.old.reporter.closing self.old.numbers.labels self.old.words self.old.reporter) }
-        ensures after { OnOk result (self.new ≡ record { numbers = self.old.numbers;
-            words = take_words self.old.reporter.closing self.old.numbers.labels self.old.words self.old.reporter;
-            writers = self.old.writers;
-            reporter = take_parts self.old.reporter.closing self.old.numbers.labels self.old.words self.old.reporter }) }
+        ensures after { OnOk result (self.new ≡ record {
+          numbers = self.old.numbers;
+          words = take_words self.old.reporter.closing self.old.numbers.labels self.old.words self.old.reporter;
+          writers = self.old.writers;
+          reporter = take_parts self.old.reporter.closing self.old.numbers.labels self.old.words self.old.reporter;
+        }) }
         ensures err { OnErr result (self.new ≡ self.old) }
     {
         self.reporter
@@ -203,9 +206,12 @@ impl Core {
     // writer 0 makes a further writer
     fn split(&mut self) -> M<Applied>
         ensures ok { IfOk result (λ a. a ≡ split_result self.old.numbers (writer_at self.old.writers 0) self.old.words) }
-        ensures after { OnOk result (self.new ≡ record { numbers = self.old.numbers; words = self.old.words;
-            writers = split_writers self.old.numbers (writer_at self.old.writers 0) self.old.writers;
-            reporter = self.old.reporter }) }
+        ensures after { OnOk result (self.new ≡ record {
+          numbers = self.old.numbers;
+          words = self.old.words;
+          writers = split_writers self.old.numbers (writer_at self.old.writers 0) self.old.writers;
+          reporter = self.old.reporter;
+        }) }
         ensures err { OnErr result (self.new ≡ self.old) }
     {
         let Some((left, new)) = split_first(&self.numbers, self.writers.as_slice()) else {
@@ -219,9 +225,12 @@ impl Core {
     // the reporter takes in a writer
     fn join(&mut self, writer: u16) -> Applied
         ensures answer { result ≡ join_result self.old.reporter.closing (writer_at self.old.writers writer) self.old.words }
-        ensures after { self.new ≡ record { numbers = self.old.numbers; words = self.old.words;
-            writers = join_writers self.old.reporter.closing (writer_at self.old.writers writer) writer self.old.writers;
-            reporter = self.old.reporter } }
+        ensures after { self.new ≡ record {
+          numbers = self.old.numbers;
+          words = self.old.words;
+          writers = join_writers self.old.reporter.closing (writer_at self.old.writers writer) writer self.old.writers;
+          reporter = self.old.reporter;
+        } }
     {
         let idle = self.reporter.is_idle();
         if join_writer(idle, self.writers.as_mut_slice(), writer) {
@@ -237,22 +246,26 @@ fn first_words(alloc: Global, labels: u16) -> M<Vec<u64>>
     requires { labels ≤ 256 }
     ensures { IfOk result (λ words. words.items ≡ first_words labels) }
 {
-    let cells = cell_count(labels);
-    let mut words = Vec::with_capacity(alloc, 5 + 2 * cells as usize)?;
-    words.push(0)?;
-    words.push(0)?;
-    words.push(0)?;
-    words.push(0x8000_0000_0000_0000)?;
-    words.push(0)?;
-    for cell in 0..2 * cells {
-        words.push(vacant(cell))?;
-    }
+    let mut words = Vec::with_capacity(alloc, 5 + 12 * usize::from(labels))?;
+    words.extend_from_slice(&[0, 0, 0, 0x8000_0000_0000_0000, 0])?;
+    push_table(&mut words, labels)?;
+    push_table(&mut words, labels)?;
     Ok(words)
+}
+
+// a table of vacant cells
+fn push_table(words: &mut Vec<u64>, labels: u16) -> M<()>
+    ensures { OnOk result (words.new.items ≡ words.old.items ++ first_cells labels) }
+{
+    for _label in 0..labels {
+        words.extend_from_slice(&[0, 0, 0, 0, u64::MAX, 0])?;
+    }
+    Ok(())
 }
 
 // whether every writer was joined
 fn all_gone(writers: &[WriterState]) -> bool
-    ensures { IsTrue result ↔ AllGone writers.now }
+    ensures { result ≡ all_gone writers.now }
 {
     for writer in writers {
         if let WriterState::Live { .. } = writer {

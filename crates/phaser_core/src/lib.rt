@@ -14,3 +14,6 @@ pub use applied::Applied;
 pub use core::Core;
 pub use view::{Closing, Event, Joined, Numbers, Reading, Stage, View, Writing};
 pub use writer::WriterState;
+
+#[cfg(test)]
+mod tests;

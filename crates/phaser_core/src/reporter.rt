@@ -1,7 +1,7 @@
 // The reporter's part of a core: how far it is with an interval, the cells that it took, the reports that it closed.
 
 ghost use Rattle.std.specs.Prelude.{◌≡◌, ◌+◌, ◌*◌, ◌<◌, ◌≤◌, ◌++◌, [], ◌∷◌, length, IfOk, OnOk, OnErr, slice_index};
-ghost use Rattle.phaser_core.specs.Cells.{is_odd, end_at, table_cells, word_count, row_from, report_of};
+ghost use Rattle.phaser_core.specs.Cells.{is_odd, end_at, table_cells, word_count, cell_at, row_from, report_from, report_of};
 ghost use Rattle.phaser_core.specs.Plain.{closing_step, closing_if, step_answer, words_after, gathered_parts, look_result, look_parts, take_result, take_words, take_parts, with_closing, is_idle, FitsParts};
 
 use crate::applied::Applied;
@@ -62,6 +62,19 @@ pub(crate) fn report(alloc: Global, labels: u16, interval: u64, cells: &[u64]) -
     })
 }
 
+// the report of the cells of an interval's table
+fn open_report(alloc: Global, labels: u16, interval: u64, words: &[u64]) -> M<Report>
+    requires labels { labels ≤ 256 }
+    requires wide { length words.now ≡ word_count labels }
+    ensures { IfOk result (λ r. r ≡ report_from labels interval (λ j. slice_index words.now (cell_at labels interval j))) }
+{
+    let first = cell_word(labels, interval, 0) as usize;
+    let rest = &words[first..];
+    let cells = &rest[..cell_count(labels) as usize];
+    let last = report(alloc, labels, interval, cells)?;
+    Ok(last)
+}
+
 impl Reporter {
     // a reporter that has closed nothing
     pub(crate) fn new(alloc: Global) -> Reporter
@@ -80,6 +93,23 @@ impl Reporter {
         ensures { result.now ≡ self.now.closed }
     {
         &self.closed
+    }
+
+    // the closed reports, with that of the interval whose cells stand in the words
+    pub(crate) fn finish(self, alloc: Global, labels: u16, words: &[u64]) -> M<Vec<Report>>
+        requires labels { labels ≤ 256 }
+        requires wide { length words.now ≡ word_count labels }
+        ensures { IfOk result (λ reports. reports.items ≡ self.closed ++ report_from labels self.interval (λ j. slice_index words.now (cell_at labels self.interval j)) ∷ []) }
+    {
+        let Reporter {
+            interval,
+            closing: _,
+            taken: _,
+            mut closed,
+        } = self;
+        let last = open_report(alloc, labels, interval, words)?;
+        closed.push(last)?;
+        Ok(closed)
     }
 
     // whether no interval is being closed

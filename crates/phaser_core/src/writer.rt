@@ -173,7 +173,15 @@ impl WriterState {
                     interval,
                     entry,
                     done,
-                } => on_step(numbers.labels, *number, *odd, *interval, entry, *done, event),
+                } => on_step(
+                    numbers.labels,
+                    *number,
+                    *odd,
+                    *interval,
+                    entry,
+                    *done,
+                    event,
+                ),
             },
             WriterState::Gone => None,
         }
