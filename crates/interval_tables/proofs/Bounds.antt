@@ -1,11 +1,11 @@
 -- Rows in bounds: no counter wraps, and rows that are merged one by one.
-use Rattle.std.proofs.Common.{◌≡◌, ℕ, zero, suc, ◌+◌, ◌*◌, not, Bool, true, false, ◌<◌, ◌≤◌, List, [], ◌∷◌, ◌++◌, length, get_or, set, take, drop, sym, refl, ap, ◌∙◌, subst, arith, add-one}
+use Rattle.std.proofs.Common.{length-append, ◌≡◌, ℕ, zero, suc, ◌+◌, ◌*◌, not, Bool, true, false, ◌<◌, ◌≤◌, List, [], ◌∷◌, ◌++◌, length, get_or, set, take, drop, sym, refl, ap, ◌∙◌, subst, arith, add-one}
 use Rattle.jm_base.specs.declared.types.Entry.{Entry}
 use Rattle.interval_tables.specs.declared.row.Row.{Row}
 use Rattle.interval_tables.specs.Totals.{total, one_if}
 use Rattle.interval_tables.specs.Rows.{failed, sum_of, AllLabels, no_samples, with_entry, merged, rows_with, merged_rows, IsInBounds, CanTake, CanMerge, CanMergeRows}
 use Rattle.interval_tables.proofs.Totals.{total_written}
-use Rattle.interval_tables.proofs.Sums.{counts_over, errors_over, over_labels}
+use Rattle.interval_tables.proofs.Sums.{counts_over, errors_over, over_labels, length-sum_of, sum_of_add}
 
 pub can_take : (rows : List Row) (e : Entry) → e.label < length rows → IsInBounds (rows_with rows e) → CanTake (get_or rows e.label no_samples) e
 can_take rows e h b =
@@ -111,3 +111,27 @@ sum_in_bounds n es labels small few =
     let b = over_labels (λ (r : Row). r.bytes) (λ (e : Entry). e.bytes) (λ _. refl) n es labels in
     let s = small_times es small in let s0 = s.0 in let s1 = s.1 in let s2 = s.2 in
     record { counts = omega arith; errors = omega arith; totals = omega arith; bytes = omega arith }
+
+-- one entry more may be counted where the rows are the sum of fewer than 4,194,304 entries
+pub record CanAdd (rows : List Row) (e : Entry) : Type 0 where
+  pub label : e.label < length rows
+  pub bounds : IsInBounds rows
+  pub room : IsInBounds (rows_with rows e)
+
+all_labels_snoc : (n : ℕ) (es : List Entry) (e : Entry) → AllLabels n es → e.label < n → AllLabels n (es ++ e ∷ [])
+all_labels_snoc n [] e h l = (l, tt)
+all_labels_snoc n (x ∷ es) e h l = (h.0, all_labels_snoc n es e h.1 l)
+
+all_small_snoc : (es : List Entry) (e : Entry) → AllSmall es → e.elapsed < 4294967296 → e.bytes < 4294967296 → AllSmall (es ++ e ∷ [])
+all_small_snoc [] e h a b = (a, b, tt)
+all_small_snoc (x ∷ es) e h a b = (h.0, h.1, all_small_snoc es e h.2 a b)
+
+pub can_add : (n : ℕ) (rows : List Row) (es : List Entry) (e : Entry) → rows ≡ sum_of n es → AllLabels n es → AllSmall es → length es < 4194304 → e.label < n → e.elapsed < 4294967296 → e.bytes < 4294967296 → CanAdd rows e
+can_add n rows es e is labels small few label elapsed bytes =
+    let long : length (sum_of n es) ≡ n = length-sum_of n es in
+    let more : length (es ++ e ∷ []) ≡ length es + 1 = length-append es (e ∷ []) in
+    subst (λ (l : List Row). CanAdd l e) (sym is) (record {
+      label = omega arith;
+      bounds = sum_in_bounds n es labels small (omega arith);
+      room = subst IsInBounds (sym (sum_of_add n es e label)) (sum_in_bounds n (es ++ e ∷ []) (all_labels_snoc n es e labels label) (all_small_snoc es e small elapsed bytes) (omega arith));
+    })
