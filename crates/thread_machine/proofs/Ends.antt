@@ -1,6 +1,6 @@
 -- What an ended thread's standing says over each form of an outside, and how each step goes on from the one before.
-use Rattle.std.proofs.Common.{◌≡◌, ℕ, Bool, List, [], ◌∷◌, ◌++◌, Some, None, refl, sym, ap, ◌∙◌}
-use Rattle.std.specs.Prelude.{map, MatchOption, IfSome}
+use Rattle.std.proofs.Common.{◌≡◌, ℕ, Bool, List, [], ◌∷◌, ◌++◌, Option, Some, None, refl, sym, ap, ◌∙◌}
+use Rattle.std.specs.Prelude.{map, MatchOption, IfSome, IsSome}
 use Rattle.std.specs.Option.{option_map}
 use Rattle.std.proofs.lemmas.List.{append-nil, map-append}
 use Rattle.jm_base.specs.declared.types.Entry.{Entry}
@@ -19,7 +19,10 @@ use Rattle.thread_machine.specs.declared.trace.TraceItem.{TraceItem}
 use Rattle.thread_machine.specs.declared.trace.TraceItem.TheVariants.{Sampled as TracedSample, Null as TracedNull, Ended as TracedEnd}
 use Rattle.thread_machine.specs.Bare.{bare}
 use Rattle.thread_machine.specs.Standing.{Standing, rest, IsAtStart, owed_items, Stands}
-use Rattle.thread_machine.specs.Stepped.{GivesSample, GivesNone, IsOver, Ends}
+use Rattle.thread_machine.specs.declared.step.Step.{Step}
+use Rattle.thread_machine.specs.declared.step.Step.TheVariants.{Sampled as StepSampled, Null as StepNull, Enter as StepEnter, Leave as StepLeave, Ended as StepEnded}
+use Rattle.thread_machine.specs.SoFar.{StandsBehind, ShowsAFront}
+use Rattle.thread_machine.specs.Stepped.{Steps, GivesSample, GivesNone, IsOver, Ends}
 use Rattle.thread_machine.specs.Follows.{FollowsWhole, Follows, HasRun}
 
 -- From start to now the run has given what the items show, and is over.
@@ -160,3 +163,37 @@ pub noted_is : (interval : ℕ) (old new : Standing) (sample : Sample) → old.o
     → IfSome old.owed (λ s. new ≡ record old { owed = None; trace = old.trace ++ TracedSample s interval ∷ [] })
     → new ≡ record old { owed = None; trace = old.trace ++ TracedSample sample interval ∷ [] }
 noted_is interval old new sample owed h = rw owed at h
+
+-- until it has ended, what a thread shows is a front of its events over what was told
+pub shows_a_front : ShowsAFront
+shows_a_front start now budget w stands nothing =
+    let run : Run (Unit {0}) = events w.plan w.thread budget in
+    let heard = stands.goes.heard in
+    let tail : List Event = (over_value list_form (rest w) []).events in
+    let e : (over_value list_form run (heard ++ [])).events ≡ stands.so_far ++ tail =
+    ap (λ g. g.events) (path-value list_form stands.goes.path (heard ++ []) [] (list-replays heard [])) in
+    let e' : (over_value list_form run heard).events ≡ stands.so_far ++ tail = ap (λ l. (over_value list_form run l).events) (sym (append-nil heard)) ∙ e in (
+      heard,
+      stands.goes.hears.told ∙ ap (option_map (λ t. t ++ heard)) nothing,
+      record {
+        more = map shown tail;
+        items = ap (map shown) e' ∙ map-append shown stands.so_far tail ∙ ap (λ l. l ++ map shown tail) stands.shows;
+      },
+    )
+
+-- a step, whatever it answers
+pub stands_behind : (start now later : Account) (budget : ℕ) (w new : Standing) (step : Step) → w.owed ≡ None → Steps now later w new step
+    → Stands start now budget w → StandsBehind start later budget w new step
+stands_behind start now later budget w new (StepSampled entry) none s stands = stands_sample start now later budget w new stands none entry s
+stands_behind start now later budget w new StepNull none s stands = stands_none start now later budget w new stands none s
+stands_behind start now later budget w new (StepEnter lock) none s stands = absurd s
+stands_behind start now later budget w new (StepLeave lock) none s stands = absurd s
+stands_behind start now later budget w new (StepEnded end) none s stands = has_run start now later budget w new stands none end s
+
+-- a sample that is noted, where it is known that there is one
+pub stands_noted_some : (start now : Account) (budget interval : ℕ) (w new : Standing) → IsSome w.owed
+    → IfSome w.owed (λ s. new ≡ record w { owed = None; trace = w.trace ++ TracedSample s interval ∷ [] }) → Stands start now budget w → Stands start now budget new
+stands_noted_some start now budget interval w new some is stands = by_owed w.owed refl some where
+  by_owed : (o : Option Sample) → w.owed ≡ o → IsSome o → Stands start now budget new
+  by_owed None e h = absurd (cc)
+  by_owed (Some sample) e h = stands_noted start now budget interval w new sample e (noted_is interval w new sample e is) stands

@@ -9,3 +9,4 @@ pub mod Stepped
 pub mod Follows
 pub mod Inside
 pub mod Ran
+pub mod SoFar

@@ -1,9 +1,11 @@
 // One thread of a plan, a step at a time.
 
-ghost use Rattle.std.specs.Prelude.{◌≡◌, ◌<◌, ◌++◌, ◌∷◌, [], length, false, None, All, IsSome, IfOk, IfSome};
+ghost use Rattle.std.specs.Prelude.{◌≡◌, ◌<◌, ◌++◌, ◌∷◌, [], length, false, None, All, IsSome, IfOk, IfSome, ℕ};
 ghost use Rattle.element_tree.specs.Tree.{threads_of, labels_of};
 ghost use Rattle.thread_machine.specs.Bare.{IsLabelled};
-ghost use Rattle.thread_machine.specs.Standing.{IsAtStart};
+ghost use Rattle.jm_base.specs.Outside.{Account};
+ghost use Rattle.thread_machine.specs.Standing.{IsAtStart, Stands};
+ghost use Rattle.thread_machine.specs.SoFar.{StandsBehind, ShowsAFront};
 ghost use Rattle.thread_machine.specs.Stepped.{Steps};
 ghost use Rattle.thread_machine.specs.Ran.{is_end};
 
@@ -39,7 +41,8 @@ impl<'p> Worker<'p> {
     /// `budget` is how many samplers it may run at most.
     pub fn new(alloc: Global, plan: &'p Plan, number: u16, budget: u32) -> M<Worker<'p>>
         requires { number < threads_of plan.now }
-        ensures { IfOk result (IsAtStart plan.now number budget) }
+        ensures start { IfOk result (IsAtStart plan.now number budget) }
+        ensures stands { IfOk result (λ w. (start : Account) → Stands start start budget w) }
     {
         Ok(Worker {
             runner: Runner::new(alloc, plan, number, budget)?,
@@ -52,7 +55,9 @@ impl<'p> Worker<'p> {
     pub fn step<O: Outside>(&mut self, outside: &mut O) -> Step
         requires owed { self.old.owed ≡ None }
         requires going { self.old.ended ≡ false }
-        ensures { Steps (O.account outside.old) (O.account outside.new) self.old self.new result }
+        ensures steps { Steps (O.account outside.old) (O.account outside.new) self.old self.new result }
+        ensures stands { (start : Account) (budget : ℕ) → Stands start (O.account outside.old) budget self.old
+            → StandsBehind start (O.account outside.new) budget self.old self.new result }
     {
         match self.runner.try_step(outside) {
             Ok(step) => {
@@ -70,8 +75,9 @@ impl<'p> Worker<'p> {
     /// Says in which interval the sample of the last step was counted. Its item is appended to the trace.
     pub fn noted(&mut self, interval: u64)
         requires { IsSome self.old.owed }
-        ensures { IfSome self.old.owed (λ s. self.new
+        ensures item { IfSome self.old.owed (λ s. self.new
             ≡ record self.old { owed = None; trace = self.old.trace ++ TraceItem.Sampled s interval ∷ [] }) }
+        ensures stands { (start now : Account) (budget : ℕ) → Stands start now budget self.old → Stands start now budget self.new }
     {
         if let Some(sample) = self.runner.owed.take() {
             self.runner
@@ -96,6 +102,12 @@ impl<'p> Worker<'p> {
         self.runner.trace.into_vec()
     }
 }
+
+/// The law of a thread that has not ended: its trace, and the sample that is owed to it, show a front of the thread's events
+/// over what its outside was told since it began.
+pub fn a_trace_is_a_front()
+    ensures { ShowsAFront }
+{}
 
 fn is_end(step: &Step) -> bool
     ensures { result ≡ is_end step.now }

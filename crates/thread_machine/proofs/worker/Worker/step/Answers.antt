@@ -1,4 +1,5 @@
 use Rattle.std.proofs.Common.{◌≡◌, false, ap, ◌∙◌}
+use Rattle.thread_machine.proofs.Ends.{stands_behind}
 use Rattle.thread_machine.proofs.Sound.{sound_behind}
 use Rattle.thread_machine.proofs.worker.Worker.step.Goals as goal
 
@@ -7,3 +8,10 @@ invariant_of-self g c =
     let going : c.self.inside.ended ≡ false = ap (λ s. s.ended) c.self.view_is ∙ c.requires.going in
     rw c.is_end-self-inside.ensures
     (sound_behind _ _ c.self.inside.runner c.try_step.new.self (rw going at c.self.invariant) c.in-Ok.step c.in-Ok.ensures.steps c.in-Ok.ensures.on)
+
+pub returns-in-Ok-clause-stands : goal.returns-in-Ok-clause-stands
+returns-in-Ok-clause-stands g c =
+    let going : c.self.inside.ended ≡ false = ap (λ s. s.ended) c.self.view_is ∙ c.requires.going in
+    let owed = ap (λ s. s.owed) c.self.view_is ∙ c.requires.owed in
+    rw (← c.self.view_is, going, c.is_end-self-inside.ensures)
+    (λ start budget stands. stands_behind start _ _ budget _ _ c.in-Ok.step owed c.in-Ok.ensures.steps stands)
