@@ -1,8 +1,6 @@
 -- Each event leaves the numbers of a core in their ranges.
-use Rattle.std.proofs.Common.{◌≡◌, ◌≢◌, ℕ, zero, suc, ◌+◌, ◌*◌, ◌%◌, ◌<◌, ◌≤◌, ◌==◌, not, Bool, true, false, ltb, List, [], ◌∷◌, ◌++◌, length, get_or, set, take, drop, sym, refl, ap, ◌∙◌, subst, arith, Some, None, Option, length-set, length-append, true≢false, eq-eqb}
-use Rattle.std.proofs.lemmas.Bool.{eqb-true}
+use Rattle.std.proofs.Common.{◌≡◌, ◌≢◌, ℕ, zero, suc, ◌+◌, ◌%◌, ◌<◌, ◌≤◌, ◌==◌, Bool, true, false, ltb, List, [], ◌∷◌, ◌++◌, length, get_or, set, take, sym, refl, ap, ◌∙◌, subst, arith, Some, None, Option, length-set, length-append, true≢false, eq-eqb}
 use Rattle.phaser_core.specs.declared.view.Numbers.{Numbers}
-use Rattle.phaser_core.specs.declared.view.Stage.{Stage}
 use Rattle.phaser_core.specs.declared.view.Stage.TheVariants.{Out, In, On}
 use Rattle.phaser_core.specs.declared.view.Closing.{Closing}
 use Rattle.phaser_core.specs.declared.view.Closing.TheVariants.{Idle, Swapped, Cleared, Waiting, Harvest}
@@ -12,12 +10,11 @@ use Rattle.phaser_core.specs.declared.step.Change.TheVariants.{Swap}
 use Rattle.phaser_core.specs.declared.step.Step.{Step}
 use Rattle.phaser_core.specs.declared.writer.WriterState.{WriterState}
 use Rattle.phaser_core.specs.declared.writer.WriterState.TheVariants.{Live, Gone}
-use Rattle.phaser_core.specs.Cells.{is_odd, end_at, initial, table_cells, word_count, vacant, cell_at}
+use Rattle.phaser_core.specs.Cells.{table_cells, vacant, cell_at}
 use Rattle.phaser_core.specs.Views.{pending, taken_count}
 use Rattle.phaser_core.specs.Invariant.{InTable}
-use Rattle.phaser_core.specs.Plain.{changed, writer_step, writer_at, writer_after, words_after, writers_after, step_if, closing_step, closing_after, closing_if, Parts, with_closing, gathered_parts_if, gathered_parts, looked, look_parts, with_taken, take_words, take_parts, split_if, split_of, gone_if, FitsWriter, AllFitWriters, FitsParts, IsCoherent}
-use Rattle.phaser_core.proofs.CellSteps.{taken_low}
-use Rattle.phaser_core.proofs.Plains.{fits_set, fits_snoc, step_fits, step_is, less}
+use Rattle.phaser_core.specs.Plain.{changed, writer_step, writer_at, writer_after, words_after, writers_after, step_if, closing_step, closing_if, Parts, with_closing, gathered_parts_if, looked, look_parts, with_taken, take_words, take_parts, split_if, split_of, gone_if, FitsWriter, AllFitWriters, FitsParts, IsCoherent}
+use Rattle.phaser_core.proofs.Plains.{fits_set, fits_snoc, step_fits, less}
 
 -- a slice of a `Vec` that was written as a whole
 pub take_front : {A : Type 0} (len : ℕ) (new rest : List A) → len ≡ length new → take len (new ++ rest) ≡ new

@@ -1,6 +1,6 @@
 -- A core as it is made, and how it ends.
-use Rattle.std.proofs.Common.{◌≡◌, ◌≢◌, ℕ, zero, suc, ◌+◌, ◌-◌, ◌*◌, ◌%◌, ◌<◌, ◌≤◌, Bool, true, false, true≢false, List, [], ◌∷◌, ◌++◌, length, get_or, map, take, drop, sym, refl, ap, ◌∙◌, subst, arith, append_assoc, add-one}
-use mathlib.Core.Option.{some, none, some-injective, some-ne-none}
+use Rattle.std.proofs.Common.{◌≡◌, ◌≢◌, ℕ, zero, suc, ◌+◌, ◌-◌, ◌<◌, true, true≢false, List, [], ◌∷◌, ◌++◌, length, get_or, map, take, drop, sym, refl, ap, ◌∙◌, subst, arith, append_assoc, add-one}
+use mathlib.Core.Option.{some, some-injective, some-ne-none}
 use lib.ListN.{get_elem?}
 use Rattle.interval_tables.specs.declared.report.Report.{Report}
 use Rattle.phaser_core.specs.declared.view.Numbers.{Numbers}
@@ -18,7 +18,7 @@ use Rattle.phaser_core.specs.Shares.{Partition}
 use Rattle.phaser_core.specs.Moves.{first_cells, first_words}
 use Rattle.phaser_core.specs.Invariant.{RecorderInvariant}
 use Rattle.phaser_core.specs.Plain.{Parts, IsCoherent, is_idle}
-use Rattle.phaser_core.specs.Shape.{Shape, kept_of, parts_of, ShowsViews, Shows, all_gone, open_report, joined_lists}
+use Rattle.phaser_core.specs.Shape.{Shape, kept_of, ShowsViews, Shows, all_gone, open_report, joined_lists}
 use Rattle.phaser_core.proofs.Members.{first_wide}
 use Rattle.phaser_core.proofs.CellSteps.{report_same, place_in}
 use Rattle.phaser_core.proofs.Steps.{reporter_port}

@@ -1,5 +1,5 @@
 -- What the core does is the step of every state that it may stand for.
-use Rattle.std.proofs.Common.{◌≡◌, ◌≢◌, ℕ, zero, suc, ◌+◌, ◌*◌, ◌%◌, ◌^◌, ◌<◌, ◌≤◌, ◌==◌, ◌&&◌, not, Bool, true, false, ltb, List, [], ◌∷◌, ◌++◌, length, get_or, set, map, sym, refl, ap, ◌∙◌, subst, arith, Some, None, Option, length-append, add-one}
+use Rattle.std.proofs.Common.{◌≡◌, ℕ, zero, suc, ◌+◌, ◌%◌, ◌==◌, ◌&&◌, not, Bool, true, false, ltb, List, [], ◌∷◌, ◌++◌, length, get_or, set, map, sym, refl, ap, ◌∙◌, subst, Some, None, Option, length-append, add-one}
 use mathlib.Core.Option.{some, none}
 use mathlib.Core.Option as maybe
 use lib.ListN.{get_elem?}
@@ -24,11 +24,11 @@ use Rattle.phaser_core.specs.declared.step.Step.{Step}
 use Rattle.phaser_core.specs.declared.writer.WriterState.{WriterState}
 use Rattle.phaser_core.specs.declared.writer.WriterState.TheVariants.{Live, Gone}
 use Rattle.phaser_core.specs.declared.applied.Applied.{Applied}
-use Rattle.phaser_core.specs.declared.applied.Applied.TheVariants.{Old, Settled, NotYet, NotEnabled}
-use Rattle.phaser_core.specs.Cells.{is_odd, end_at, phase, place, folded, part, column, sums, table_cells, cell_at, vacant, report_of}
-use Rattle.phaser_core.specs.Moves.{Move, entering, loading, adding, leaving, looking_stop, raising_stop, swapping, clearing, flipping, looking, taking, raising_as_reporter, gathered_if, gathered, settled, stepped_words, stepped_views, splitting, split_off, joining, taking_in}
-use Rattle.phaser_core.specs.Step.{CoreState, given, writer_move, reporter_move, move_of, move_at, moved, split_if, split_stage, split_at, join_stage, join_at}
-use Rattle.phaser_core.specs.Plain.{changed, cell_change, step_if, cell_step, stage_step, writer_step, stage_after, entries_after, writer_after, writer_at, step_answer, words_after, writers_after, closing_step, closing_after, closing_if, Parts, gathered_parts_if, gathered_parts, with_taken, with_closing, looked, look_answer, look_result, look_parts, take_result, take_words, take_parts, split_if as pair_if, split_of, pair_result, pair_writers, is_idle, is_out, old_if, gone_if}
+use Rattle.phaser_core.specs.declared.applied.Applied.TheVariants.{Old}
+use Rattle.phaser_core.specs.Cells.{is_odd, end_at, place, folded, part, column, sums, table_cells, cell_at, vacant, report_of}
+use Rattle.phaser_core.specs.Moves.{Move, entering, loading, adding, leaving, swapping, clearing, flipping, looking, taking, raising_as_reporter, gathered_if, gathered, settled, stepped_words, taking_in}
+use Rattle.phaser_core.specs.Step.{CoreState, given, writer_move, reporter_move, move_at, moved, split_if, split_stage, split_at, join_stage, join_at}
+use Rattle.phaser_core.specs.Plain.{changed, cell_change, step_if, stage_step, writer_step, writer_after, writer_at, step_answer, words_after, writers_after, closing_step, closing_if, Parts, gathered_parts_if, gathered_parts, with_taken, with_closing, looked, look_result, look_parts, take_result, take_words, take_parts, split_if as pair_if, split_of, pair_result, pair_writers, is_idle, is_out, old_if, gone_if}
 use Rattle.phaser_core.specs.Shape.{Shape, kept_of, parts_of, ShowsViews, Shows, found_by, answer_of, Answered}
 
 -- the shape of a state

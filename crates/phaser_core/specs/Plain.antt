@@ -1,5 +1,5 @@
 -- What the core keeps of the views, and its steps on that.
-use Rattle.std.specs.Prelude.{◌≡◌, ℕ, zero, suc, ◌+◌, ◌*◌, ◌%◌, ◌^◌, ◌<◌, ◌≤◌, ◌==◌, ◌&&◌, not, Bool, true, false, if◌then◌else◌, min, max, List, [], ◌∷◌, ◌++◌, length, map, Option, Some, None, nat_lt, nat_le, slice_index, slice_index_or, slice_set}
+use Rattle.std.specs.Prelude.{◌≡◌, ℕ, zero, suc, ◌+◌, ◌%◌, ◌^◌, ◌<◌, ◌≤◌, ◌==◌, ◌&&◌, not, Bool, true, false, min, max, List, [], ◌∷◌, ◌++◌, length, Option, Some, None, nat_lt, slice_index, slice_index_or, slice_set}
 use Rattle.jm_base.specs.declared.types.Entry.{Entry}
 use Rattle.interval_tables.specs.declared.report.Report.{Report}
 use Rattle.interval_tables.specs.Totals.{one_if}
@@ -17,7 +17,7 @@ use Rattle.phaser_core.specs.declared.view.Closing.{Closing}
 use Rattle.phaser_core.specs.declared.view.Closing.TheVariants.{Idle, Swapped, Cleared, Waiting, Harvest}
 use Rattle.phaser_core.specs.declared.applied.Applied.{Applied}
 use Rattle.phaser_core.specs.declared.applied.Applied.TheVariants.{Old, Settled, NotYet, NotEnabled}
-use Rattle.phaser_core.specs.Cells.{is_odd, end_at, initial, phase, place, skips, sums, column, table_cells, cell_at, vacant, word_count, report_of}
+use Rattle.phaser_core.specs.Cells.{is_odd, end_at, initial, phase, place, sums, column, table_cells, cell_at, vacant, word_count, report_of}
 use Rattle.phaser_core.specs.Views.{IsSized, busy, pending, taken_count}
 use Rattle.phaser_core.specs.Invariant.{InTable}
 

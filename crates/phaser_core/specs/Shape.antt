@@ -1,13 +1,11 @@
 -- What a core shows, and how that goes with words and views.
-use Rattle.std.specs.Prelude.{◌≡◌, ℕ, zero, suc, ◌+◌, ◌*◌, ◌%◌, ◌<◌, ◌≤◌, ◌==◌, Bool, true, false, List, [], ◌∷◌, ◌++◌, length, map, Option, Some, None, nat_lt, IsTrue, slice_index, slice_index_or, slice_set}
-use mathlib.Core.Option.{some, none}
-use mathlib.Core.Option as maybe
+use Rattle.std.specs.Prelude.{◌≡◌, ℕ, ◌==◌, Bool, true, false, List, [], ◌∷◌, length, map, Option, Some, None, IsTrue, slice_index}
 use lib.ListN.{get_elem?}
 use Rattle.interval_tables.specs.declared.report.Report.{Report}
 use Rattle.phaser_core.specs.declared.view.Numbers.{Numbers}
-use Rattle.phaser_core.specs.declared.view.Stage.TheVariants.{Out, In, On}
+use Rattle.phaser_core.specs.declared.view.Stage.TheVariants.{Out}
 use Rattle.phaser_core.specs.declared.view.Closing.{Closing}
-use Rattle.phaser_core.specs.declared.view.Closing.TheVariants.{Idle, Swapped, Cleared, Waiting, Harvest}
+use Rattle.phaser_core.specs.declared.view.Closing.TheVariants.{Idle, Waiting}
 use Rattle.phaser_core.specs.declared.view.Reading.{Reading}
 use Rattle.phaser_core.specs.declared.view.View.{View}
 use Rattle.phaser_core.specs.declared.view.View.TheVariants as view
@@ -16,8 +14,8 @@ use Rattle.phaser_core.specs.declared.view.Event.TheVariants as event
 use Rattle.phaser_core.specs.declared.writer.WriterState.{WriterState}
 use Rattle.phaser_core.specs.declared.writer.WriterState.TheVariants.{Live, Gone}
 use Rattle.phaser_core.specs.declared.applied.Applied.{Applied}
-use Rattle.phaser_core.specs.declared.applied.Applied.TheVariants.{Old, Settled, NotYet, NotEnabled}
-use Rattle.phaser_core.specs.Cells.{report_from, table_cells, cell_at}
+use Rattle.phaser_core.specs.declared.applied.Applied.TheVariants.{Old, NotEnabled}
+use Rattle.phaser_core.specs.Cells.{report_from, cell_at}
 use Rattle.phaser_core.specs.declared.view.Joined.{Joined}
 use Rattle.phaser_core.specs.Views.{Pair}
 use Rattle.phaser_core.specs.Moves.{Move, first_words}

@@ -1,4 +1,4 @@
-use Rattle.std.proofs.Common.{◌<◌, arith}
+use Rattle.std.proofs.Common.{arith}
 use Rattle.phaser_core.specs.declared.view.Stage.TheVariants.{Out}
 use Rattle.phaser_core.specs.declared.writer.WriterState.{WriterState}
 use Rattle.phaser_core.specs.declared.writer.WriterState.TheVariants.{Live}
