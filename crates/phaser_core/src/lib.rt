@@ -3,7 +3,7 @@
 #![tactic(auto)]
 
 pub mod applied;
-pub mod core;
+pub mod machine;
 mod parts;
 mod reporter;
 pub mod step;
@@ -11,7 +11,7 @@ pub mod view;
 pub mod writer;
 
 pub use applied::Applied;
-pub use core::Core;
+pub use machine::Core;
 pub use view::{Closing, Event, Joined, Numbers, Reading, Stage, View, Writing};
 pub use writer::WriterState;
 

@@ -3,7 +3,7 @@ use Rattle.phaser_core.specs.declared.view.Stage.TheVariants.{Out}
 use Rattle.phaser_core.specs.declared.writer.WriterState.{WriterState}
 use Rattle.phaser_core.specs.declared.writer.WriterState.TheVariants.{Live}
 use Rattle.phaser_core.proofs.Makes.{made_coherent}
-use Rattle.phaser_core.proofs.core.Core.new.Goals as goal
+use Rattle.phaser_core.proofs.machine.Core.new.Goals as goal
 
 pub invariant_of-result : goal.invariant_of-result
 invariant_of-result c = made_coherent (record { labels = c.args.labels; writers = c.args.writers; budget = c.args.budget }) c.in_ok-words.words.items c.push.new.self.items c.new.result

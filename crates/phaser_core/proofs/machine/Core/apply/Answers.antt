@@ -1,5 +1,5 @@
 use Rattle.phaser_core.proofs.Applying.{writer_applied, reporter_applies, look_applies, take_applies, split_applies, join_applies, ok_applies}
-use Rattle.phaser_core.proofs.core.Core.apply.Goals as goal
+use Rattle.phaser_core.proofs.machine.Core.apply.Goals as goal
 
 pub returns-in-Enter-clause-step : goal.returns-in-Enter-clause-step
 returns-in-Enter-clause-step c = writer_applied c.args.self.now c.args.event c.in-Enter.event c.in-Enter.writer c.in-Enter.event-is c.in-Enter.is c.step_writer.result c.step_writer.new.self c.step_writer.ensures.answer c.step_writer.ensures.after
