@@ -1,0 +1,15 @@
+//! The words at the end.
+ghost use Rattle.std.specs.Prelude.{◌≡◌, ◌<◌, length, slice_index};
+ghost use Rattle.phaser_words.specs.Seats.{last_words};
+
+use crate::places::LastWords;
+
+impl LastWords {
+    /// A word as it stands at the end: 0 the active interval, 1 start, 2 and 3 the end words, 4 stop, and then the cells.
+    pub fn word(&self, index: u32) -> u64
+        requires { index < length (last_words self.now) }
+        ensures { result ≡ slice_index (last_words self.now) index }
+    {
+        self.closed.word(index as usize)
+    }
+}

@@ -1,0 +1,198 @@
+//! The steps of the reporter.
+ghost use Rattle.std.specs.Prelude.{◌≡◌, ◌+◌, ◌*◌, ◌<◌, ◌∷◌, ◌++◌, [], length};
+ghost use Rattle.phaser_core.specs.Cells.{table_cells, cell_at};
+ghost use Rattle.phaser_core.specs.Views.{at_closing, joined_at, AllJoined};
+ghost use Rattle.phaser_core.specs.Moves.{gathered, reporter_raised};
+ghost use Rattle.phaser_words.specs.Kinds.{IsWaiting, HasCell, taken_in, Recalled};
+ghost use Rattle.phaser_words.specs.Seats.{reading, numbers, IsReporterOf, IsLook};
+
+use crate::cells::{ACTIVE, START, STOP, end_word, initial, vacant_cell};
+use crate::places::{ReporterWordSeat, Words};
+use crate::rule::{Clears, Flips, Handing, Looks, Reads, Recalls, ReporterRaises, Swaps, Takes};
+use phaser_core::{Applied, Closing};
+use std::marker::Brand;
+
+impl ReporterWordSeat {
+    /// The interval that is being closed, or that is open where none is.
+    pub fn interval(&self) -> u64
+        ensures { result ≡ (reading self.now).interval }
+    {
+        self.interval
+    }
+}
+
+impl Words {
+    /// Raises the stop word as the reporter, and gives it as it was.
+    pub fn reporter_stop(&self, seat: &mut ReporterWordSeat) -> u64
+        requires seat { IsReporterOf self.now seat.old }
+        requires idle { (reading seat.old).closing ≡ Closing.Idle }
+        ensures seat { IsReporterOf self.now seat.new }
+        ensures raised { reading seat.new ≡ reporter_raised (reading seat.old) }
+    {
+        self.table
+            .shared
+            .swap::<ReporterRaises>(&mut seat.seat, STOP, 1)
+    }
+
+    /// Begins to close the interval: samples enter the next one from now on. Gives the active word as it was.
+    pub fn swap_active(&self, seat: &mut ReporterWordSeat) -> u64
+        requires seat { IsReporterOf self.now seat.old }
+        requires idle { (reading seat.old).closing ≡ Closing.Idle }
+        requires few { (reading seat.old).interval < 16777216 }
+        ensures seat { IsReporterOf self.now seat.new }
+        ensures swapped { reading seat.new ≡ at_closing (reading seat.old) Closing.Swapped }
+    {
+        let next = seat.interval + 1;
+        let found = self
+            .table
+            .shared
+            .swap::<Swaps>(&mut seat.seat, ACTIVE, next);
+        seat.closing = Closing::Swapped;
+        found
+    }
+
+    /// Makes the end word of the next phase what that phase begins with. Gives the word as it was.
+    pub fn clear_end(&self, seat: &mut ReporterWordSeat) -> u64
+        requires seat { IsReporterOf self.now seat.old }
+        requires swapped { (reading seat.old).closing ≡ Closing.Swapped }
+        ensures seat { IsReporterOf self.now seat.new }
+        ensures cleared { reading seat.new ≡ at_closing (reading seat.old) Closing.Cleared }
+    {
+        let odd = seat.interval % 2 == 0;
+        let found = self
+            .table
+            .shared
+            .swap::<Clears>(&mut seat.seat, end_word(odd), initial(odd));
+        seat.closing = Closing::Cleared;
+        found
+    }
+
+    /// Turns the phase. The start word as it was is what the end word of the old phase is to show.
+    pub fn flip(&self, seat: &mut ReporterWordSeat) -> u64
+        requires seat { IsReporterOf self.now seat.old }
+        requires cleared { (reading seat.old).closing ≡ Closing.Cleared }
+        ensures seat { IsReporterOf self.now seat.new }
+        ensures waiting { reading seat.new ≡ at_closing (reading seat.old) (Closing.Waiting result) }
+    {
+        let odd = seat.interval % 2 == 0;
+        let found = self
+            .table
+            .shared
+            .swap::<Flips>(&mut seat.seat, START, initial(odd));
+        seat.closing = Closing::Waiting { want: found };
+        found
+    }
+
+    /// Looks once whether every writer of the phase that ended has left: `Settled`, or `NotYet` with the end word as it
+    /// was found and what it is to show. Where it settled and there are no labels, the interval is closed with a report
+    /// without rows.
+    pub fn look(&self, seat: &mut ReporterWordSeat) -> Applied
+        requires seat { IsReporterOf self.now seat.old }
+        requires waiting { IsWaiting (reading seat.old).closing }
+        ensures seat { IsReporterOf self.now seat.new }
+        ensures told { IsLook (reading seat.old) result (reading seat.new) }
+    {
+        let Closing::Waiting { want } = seat.closing else {
+            unreachable!()
+        };
+        let odd = seat.interval % 2 == 1;
+        let seen = self
+            .table
+            .shared
+            .load::<Looks>(&mut seat.seat, end_word(odd));
+        if seen != want {
+            return Applied::NotYet { seen, want };
+        }
+        if self.labels == 0 {
+            seat.closing = Closing::Idle;
+            seat.interval += 1;
+        } else {
+            seat.closing = Closing::Harvest { taken: 0 };
+        }
+        Applied::Settled
+    }
+
+    /// Takes the next cell of the interval that is closing, and gives what it held. With the last cell the interval is
+    /// closed.
+    pub fn take(&self, seat: &mut ReporterWordSeat) -> u64
+        requires seat { IsReporterOf self.now seat.old }
+        requires left { HasCell (numbers self.now).labels (reading seat.old).closing }
+        ensures seat { IsReporterOf self.now seat.new }
+        ensures taken { reading seat.new ≡ gathered (reading seat.old) ((reading seat.old).cells ++ result ∷ []) (taken_in (reading seat.old).closing + 1) }
+    {
+        let Closing::Harvest { taken } = seat.closing else {
+            unreachable!()
+        };
+        let word = self.cell_of(seat.interval, taken);
+        let found = self
+            .table
+            .shared
+            .swap::<Takes>(&mut seat.seat, word, vacant_cell(taken));
+        if taken + 1 == 6 * self.labels as u32 {
+            seat.closing = Closing::Idle;
+            seat.interval += 1;
+        } else {
+            seat.closing = Closing::Harvest { taken: taken + 1 };
+        }
+        found
+    }
+
+    // the word of a cell, in word order, of the table in which an interval counts
+    fn cell_of(&self, interval: u64, cell: u32) -> usize
+        requires { cell < table_cells (numbers self.now).labels }
+        ensures { result ≡ cell_at (numbers self.now).labels interval cell }
+    {
+        let table = (interval % 2) as usize * (6 * self.labels as usize);
+        5 + (table + cell as usize)
+    }
+
+    // The same as `recall`, for numbers that the proof names.
+    fn recall_with<J: Handing>(&self, seat: &mut ReporterWordSeat)
+        requires seat { IsReporterOf self.now seat.old }
+        requires handed { J.numbers ≡ numbers self.now }
+        ensures seat { IsReporterOf self.now seat.new }
+        ensures same { reading seat.new ≡ reading seat.old }
+        ensures knows { Recalled (numbers self.now) (reading seat.old) }
+    {
+        self.table.shared.load::<Recalls<J>>(&mut seat.seat, ACTIVE);
+    }
+
+    /// A load of the active word that changes nothing. By it the reporter learns what the rule says of its own view:
+    /// what its closed reports sum, and how many writers there are at most.
+    pub fn recall(&self, seat: &mut ReporterWordSeat)
+        requires seat { IsReporterOf self.now seat.old }
+        ensures seat { IsReporterOf self.now seat.new }
+        ensures same { reading seat.new ≡ reading seat.old }
+        ensures knows { Recalled (numbers self.now) (reading seat.old) }
+    {
+        self.recall_with::<Brand>(seat);
+    }
+
+    // The same as `read`, for a cell that the proof names.
+    fn read_with<J: Handing>(&self, seat: &mut ReporterWordSeat, cell: u32) -> u64
+        requires seat { IsReporterOf self.now seat.old }
+        requires idle { (reading seat.old).closing ≡ Closing.Idle }
+        requires joined { AllJoined (reading seat.old) }
+        requires cell { cell < table_cells (numbers self.now).labels }
+        requires handed { J.cell ≡ cell }
+        ensures seat { IsReporterOf self.now seat.new }
+        ensures same { reading seat.new ≡ reading seat.old }
+        ensures worth { result ≡ joined_at (reading seat.old).labels (reading seat.old).interval cell (reading seat.old).joined }
+    {
+        let word = self.cell_of(seat.interval, cell);
+        self.table.shared.load::<Reads<J>>(&mut seat.seat, word)
+    }
+
+    /// Loads a cell of the open interval, once every writer was joined: it holds what their lists contribute to it.
+    pub fn read(&self, seat: &mut ReporterWordSeat, cell: u32) -> u64
+        requires seat { IsReporterOf self.now seat.old }
+        requires idle { (reading seat.old).closing ≡ Closing.Idle }
+        requires joined { AllJoined (reading seat.old) }
+        requires cell { cell < table_cells (numbers self.now).labels }
+        ensures seat { IsReporterOf self.now seat.new }
+        ensures same { reading seat.new ≡ reading seat.old }
+        ensures worth { result ≡ joined_at (reading seat.old).labels (reading seat.old).interval cell (reading seat.old).joined }
+    {
+        self.read_with::<Brand>(seat, cell)
+    }
+}

@@ -1,0 +1,2 @@
+pub mod Cellwise
+pub mod Joining

@@ -1,0 +1,9 @@
+use Rattle.std.proofs.Common.{◌≡◌, length}
+use Rattle.recorder_core.specs.Seats.{writes, IsWriter}
+use Rattle.recorder_core.proofs.tests.record_all.Given as goal
+
+abbrev pub invariant-loop-n : goal.invariant-loop-n
+invariant-loop-n l = record {
+  seat : IsWriter l.recorder l.seat;
+  list : length (writes l.seat).list ≡ l.n;
+}

@@ -1,0 +1,52 @@
+-- What a contract says of the recorder and its seats.
+use Rattle.std.specs.Prelude.{◌≡◌, ◌<◌, Bool, true, false}
+use Rattle.phaser_core.specs.declared.view.Numbers.{Numbers}
+use Rattle.phaser_core.specs.declared.view.Writing.{Writing}
+use Rattle.phaser_core.specs.declared.view.Reading.{Reading}
+use Rattle.phaser_core.specs.declared.view.Closing.TheVariants.{Waiting}
+use Rattle.phaser_core.specs.Views.{AllJoined}
+use Rattle.phaser_words.specs.Seats.{writing, reading, numbers, IsWriterOf, IsReporterOf}
+use Rattle.recorder_core.specs.declared.places.Recorder.{Recorder}
+use Rattle.recorder_core.specs.declared.places.WriterSeat.{WriterSeat}
+use Rattle.recorder_core.specs.declared.places.ReporterSeat.{ReporterSeat}
+use Rattle.recorder_core.specs.declared.places.Closing.{Closing}
+use Rattle.recorder_core.specs.declared.places.Books.{Books}
+use Rattle.recorder_core.specs.declared.recorder.Poll.{Poll}
+use Rattle.recorder_core.specs.declared.recorder.Poll.TheVariants.{Settled, NotYet}
+use Rattle.recorder_core.specs.Stands.{before}
+
+-- what a writer knows, what the reporter knows, and what it knew when it began to close the interval
+abbrev pub writes : WriterSeat → Writing
+writes s = writing s.words
+
+abbrev pub reports : ReporterSeat → Reading
+reports s = reading s.words
+
+abbrev pub closes : Closing → Reading
+closes c = before c.settled (reading c.words)
+
+abbrev pub is_settled : Closing → Bool
+is_settled c = c.settled
+
+-- what the recorder was made with
+abbrev pub numbers_of : Recorder → Numbers
+numbers_of r = numbers r.words
+
+-- the seat was made by this recorder
+abbrev pub IsWriter : Recorder → WriterSeat → Type 0
+IsWriter r s = IsWriterOf r.words s.words
+
+abbrev pub IsReporter : Recorder → ReporterSeat → Type 0
+IsReporter r s = IsReporterOf r.words s.words
+
+abbrev pub IsClosing : Recorder → Closing → Type 0
+IsClosing r c = IsReporterOf r.words c.words
+
+-- A poll that settled says so from then on. One that did not found less than it waits for, changed nothing, and some writer is not joined.
+abbrev pub IsPoll : Reading → Poll → Reading → Bool → Type 0
+IsPoll r Settled s settled = settled ≡ true
+IsPoll r (NotYet seen want) s settled = (settled ≡ false) × (s ≡ r) × (r.closing ≡ Waiting want) × (seen < want) × ¬ (AllJoined r)
+
+-- what the reporter knew at the end: every writer's list and marks, its own mark, and every report but the last
+abbrev pub books_of : Books → Reading
+books_of b = reading b.seat
