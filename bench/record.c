@@ -1,0 +1,91 @@
+/* The atomic steps of a record, in WRITERS threads, while the main thread turns the tables every millisecond.
+   Usage: record SAMPLES WRITERS. It prints how many samples were counted. */
+#include <pthread.h>
+#include <stdatomic.h>
+#include <stdint.h>
+#include <stdio.h>
+#include <stdlib.h>
+#include <time.h>
+
+#define HALF (UINT64_C(1) << 63)
+
+static _Atomic uint64_t words[17];
+static _Atomic int ended;
+static uint64_t samples;
+static int writers;
+
+static void keep_least(_Atomic uint64_t *cell, uint64_t x)
+{
+    uint64_t old = atomic_load(cell);
+    while (old > x && !atomic_compare_exchange_weak(cell, &old, x)) {
+    }
+}
+
+static void keep_greatest(_Atomic uint64_t *cell, uint64_t x)
+{
+    uint64_t old = atomic_load(cell);
+    while (old < x && !atomic_compare_exchange_weak(cell, &old, x)) {
+    }
+}
+
+static void record(uint64_t failed, uint64_t elapsed, uint64_t bytes)
+{
+    uint64_t token = atomic_fetch_add(&words[1], 1);
+    uint64_t interval = atomic_load(&words[0]);
+    _Atomic uint64_t *cells = &words[5 + (interval % 2) * 6];
+    atomic_fetch_add(&cells[0], 1);
+    if (failed)
+        atomic_fetch_add(&cells[1], 1);
+    atomic_fetch_add(&cells[2], elapsed);
+    atomic_fetch_add(&cells[3], bytes);
+    keep_least(&cells[4], elapsed);
+    keep_greatest(&cells[5], elapsed);
+    atomic_fetch_add(&words[token >= HALF ? 3 : 2], 1);
+}
+
+static void *work(void *unused)
+{
+    (void)unused;
+    for (uint64_t n = 0; n < samples; n++)
+        record(n % 3 == 0, n % 7 + 1, 1);
+    atomic_fetch_add(&ended, 1);
+    return NULL;
+}
+
+static uint64_t close_interval(uint64_t k)
+{
+    uint64_t next = (k + 1) % 2 ? HALF : 0;
+    atomic_exchange(&words[0], k + 1);
+    atomic_exchange(&words[(k + 1) % 2 ? 3 : 2], next);
+    uint64_t want = atomic_exchange(&words[1], next);
+    while (atomic_load(&words[k % 2 ? 3 : 2]) != want) {
+    }
+    _Atomic uint64_t *cells = &words[5 + (k % 2) * 6];
+    uint64_t count = atomic_exchange(&cells[0], 0);
+    for (int c = 1; c < 6; c++)
+        atomic_exchange(&cells[c], c == 4 ? UINT64_MAX : 0);
+    return count;
+}
+
+int main(int argc, char **argv)
+{
+    samples = argc > 1 ? strtoull(argv[1], NULL, 10) : 1000;
+    writers = argc > 2 ? atoi(argv[2]) : 1;
+    words[3] = HALF;
+    words[9] = words[15] = UINT64_MAX;
+    pthread_t threads[64];
+    for (int i = 0; i < writers && i < 64; i++)
+        pthread_create(&threads[i], NULL, work, NULL);
+    uint64_t count = 0, k = 0;
+    for (int over = 0; !over;) {
+        over = atomic_load(&ended) == writers;
+        count += close_interval(k++);
+        struct timespec pause = {0, 1000000};
+        if (!over)
+            nanosleep(&pause, NULL);
+    }
+    for (int i = 0; i < writers && i < 64; i++)
+        pthread_join(threads[i], NULL);
+    printf("%d writers: %llu samples\n", writers, (unsigned long long)count);
+    return 0;
+}

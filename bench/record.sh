@@ -1,0 +1,36 @@
+#!/bin/sh
+# Nanoseconds of a record, with 1, 2 and 4 writers and an interval every millisecond, beside a C program of the same
+# atomic steps, in one run.
+# Usage: bench/record.sh [ROUNDS]
+set -eu
+cd "$(dirname "$0")/.."
+rounds=${1:-5}
+out=$(mktemp -d)
+trap 'rm -rf "$out"' EXIT
+gcc -O2 -pthread -o "$out/steps" bench/record.c
+(cd crates/recorder_bench && rt run -- 1 0 1 >"$out/build.log" 2>&1) || { cat "$out/build.log"; exit 1; }
+program=crates/recorder_bench/out/recorder_bench
+
+# the least time of some runs of a command, in nanoseconds
+least() {
+    best=
+    i=0
+    while [ "$i" -lt "$rounds" ]; do
+        from=$(date +%s%N)
+        "$@" >/dev/null
+        to=$(date +%s%N)
+        took=$((to - from))
+        if [ -z "$best" ] || [ "$took" -lt "$best" ]; then best=$took; fi
+        i=$((i + 1))
+    done
+    echo "$best"
+}
+
+echo "steps of a record: 8, or 9 of a sample that failed"
+for writers in 1 2 4; do
+    count=1000000
+    ours=$(($(least "$program" $count 1 $writers) - $(least "$program" 1 1 $writers)))
+    theirs=$(($(least "$out/steps" $count $writers) - $(least "$out/steps" 1 $writers)))
+    awk -v a="$ours" -v b="$theirs" -v n="$((count * writers))" -v w="$writers" \
+        'BEGIN { printf "%d writers: %.1f ns a record; the same steps in C: %.1f ns; ratio %.2f\n", w, a / n, b / n, a / b }'
+done

@@ -1,0 +1,10 @@
+use Rattle.std.proofs.Common.{◌≡◌, length}
+use Rattle.recorder_core.specs.Seats.{reports, numbers_of, IsReporter}
+use Rattle.recorder_bench.proofs.report_until.Given as goal
+
+abbrev pub invariant-loop-interval : goal.invariant-loop-interval
+invariant-loop-interval g l = record {
+  seat : IsReporter l.recorder l.seat;
+  next : (reports l.seat).interval ≡ l.interval;
+  rows : length l.report.rows ≡ (numbers_of l.recorder).labels;
+}
