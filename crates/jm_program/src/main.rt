@@ -7,29 +7,32 @@ mod status;
 mod words;
 
 use edge_io::{FromRead, IntoWrite};
+use jm_base::{M, NoMemory};
 use program::plain_command;
 use status::Status;
 use std::alloc::Global;
 use std::process::ExitCode;
 use std::{env, io};
 
-// The words of the command line without the program's own name. Where one of them is no text, or memory is wanting, there are none.
-fn words_of(rt: &HostRuntime, alloc: Global) -> Vec<String> {
+// The words of the command line without the program's own name. Where one of them is no text, there are none.
+fn words_of(rt: &HostRuntime, alloc: Global) -> M<Vec<String>> {
     let mut words = Vec::new(alloc);
-    let Ok(all) = env::args(rt) else {
-        return words;
+    let all = match env::args(rt) {
+        Ok(all) => all,
+        Err(error) if error.kind() == io::ErrorKind::OutOfMemory => return Err(NoMemory),
+        Err(_) => return Ok(words),
     };
     for word in all.skip(1) {
-        if words.push(word).is_err() {
-            return Vec::new(alloc);
-        }
+        words.push(word)?;
     }
-    words
+    Ok(words)
 }
 
 fn main(rt: HostRuntime) -> ExitCode {
     let alloc = rt.alloc();
-    let words = words_of(&rt, alloc);
+    let Ok(words) = words_of(&rt, alloc) else {
+        return ExitCode::from(Status::Memory.number());
+    };
     let mut plan = FromRead::new(rt.stdin());
     let mut results = IntoWrite::new(rt.stdout());
     let mut reports = IntoWrite::new(rt.stderr());

@@ -316,3 +316,22 @@ fn texts_are_quoted_where_they_need_it(rt: HostRuntime) -> Result<(), Fail> {
     );
     Ok(())
 }
+
+#[test]
+fn a_message_is_cut_at_256_bytes(rt: HostRuntime) -> Result<(), Fail> {
+    let mut plan = Vec::from_slice(
+        rt.alloc(),
+        b"{\"type\":\"TestPlan\",\"children\":[{\"type\":\"ThreadGroup\",\"name\":\"TG\",\"children\":[{\"type\":\"Script\",\"name\":\"A\",\"props\":{\"replies\":[{\"message\":\"",
+    )?;
+    let mut line = Vec::from_slice(rt.alloc(), b"interval\n0,0,A,200,")?;
+    for _ in 0..255 {
+        plan.push(b'x')?;
+        line.push(b'x')?;
+    }
+    plan.extend_from_slice(b"\xc3\xa4 and more\"}]}}]}]}")?;
+    line.extend_from_slice(b"\xc3,TG 1-1,true,,0,0\n")?;
+    let ran = run(rt.alloc(), &["solo"], &plan, NOTHING_FAILS)?;
+    assert_eq!(rt; ran.status, 0);
+    assert!(rt; ran.results.bytes().ends_with(&line));
+    Ok(())
+}
