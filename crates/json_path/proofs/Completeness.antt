@@ -1,15 +1,14 @@
 -- What the grammar spells, the machine reads.
-use Rattle.std.proofs.Common.{◌≡◌, ℕ, zero, suc, ◌+◌, ◌-◌, ◌<◌, ◌≤◌, Bool, true, false, not, ◌&&◌, ◌||◌, ◌==◌, ◌⊎◌, inl, inr, nat_lt, List, [], ◌∷◌, ◌++◌, length, codes, Option, Some, None, Result, Ok, Err, if◌then◌else◌, refl, ap, sym, ◌∙◌, subst, arith, append_assoc, length-append}
+use Rattle.std.proofs.Common.{◌≡◌, ℕ, ◌+◌, ◌<◌, ◌≤◌, Bool, true, false, not, ◌&&◌, ◌==◌, inl, inr, nat_lt, List, [], ◌∷◌, ◌++◌, length, Some, None, Ok, if◌then◌else◌, refl, ap, sym, ◌∙◌, subst, arith, append_assoc, length-append}
 use Rattle.std.specs.List.{list_all}
 use Rattle.std.specs.Char.{is_ascii_digit}
 use Rattle.std.specs.Str.Parse.{digits_value}
 use Rattle.std.proofs.lemmas.Bool.Decides.{nat_tests}
 use Rattle.json_path.specs.declared.path.Step.{Step}
 use Rattle.json_path.specs.declared.path.Step.TheVariants.{Name, Index, All}
-use Rattle.json_path.specs.declared.parse.Place.{Place}
-use Rattle.json_path.specs.declared.parse.Place.TheVariants.{Start, Between, AfterDot, InName, AfterBracket, InQuotes, AfterQuote, InIndex, AfterStar}
-use Rattle.json_path.specs.Grammar.{is_name_byte, is_quotable, IsDotted, IsQuoted, IsIndexed, IsStepText, AreSteps, no_step, a_step, IsPathOf}
-use Rattle.json_path.specs.Machine.{State, start, next, next_at, begin_step, with_name, with_index, with_all, run, finish, or_else_fault, path_of}
+use Rattle.json_path.specs.declared.parse.Place.TheVariants.{Between, AfterDot, InName, AfterBracket, InQuotes, AfterQuote, InIndex, AfterStar}
+use Rattle.json_path.specs.Grammar.{is_name_byte, is_quotable, IsStepText, AreSteps, no_step, a_step, IsPathOf}
+use Rattle.json_path.specs.Machine.{State, start, next, begin_step, with_index, run, finish, or_else_fault}
 use Rattle.json_path.proofs.Reading.{run-next, run-none, run-then}
 
 -- the states by their places

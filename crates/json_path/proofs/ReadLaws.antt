@@ -1,9 +1,9 @@
 -- One turn of the reading of a path.
-use Rattle.std.proofs.Common.{◌≡◌, ℕ, ◌+◌, ◌<◌, ◌≤◌, Bool, true, false, List, [], ◌∷◌, length, drop, get_or, Option, Some, None, Result, Ok, Err, MatchResult, IfOk, refl, ap, sym, ◌∙◌, subst, arith}
+use Rattle.std.proofs.Common.{◌≡◌, ℕ, ◌+◌, ◌<◌, ◌≤◌, true, false, List, length, drop, get_or, Option, Some, None, Result, Ok, Err, MatchResult, refl, ap, sym, ◌∙◌, subst}
 use Rattle.std.proofs.lemmas.List.{drop_more, drop_all}
 use Rattle.json_path.specs.declared.path.Step.{Step}
 use Rattle.json_path.specs.declared.path.PathError.{PathError}
-use Rattle.json_path.specs.declared.path.PathError.TheVariants.{BadPath, NoMemory}
+use Rattle.json_path.specs.declared.path.PathError.TheVariants.{BadPath}
 use Rattle.json_path.specs.declared.parse.Parser.{Parser}
 use Rattle.json_path.specs.Grammar.{IsPathOf, IsFaultOf}
 use Rattle.json_path.specs.Machine.{State, start, next, run, finish, or_else_fault, path_of}

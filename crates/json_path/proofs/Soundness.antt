@@ -1,12 +1,12 @@
 -- What the machine reads is in the grammar, and at each state some path can still come.
-use Rattle.std.proofs.Common.{◌≡◌, ℕ, zero, suc, ◌+◌, ◌-◌, ◌<◌, ◌≤◌, Bool, true, false, not, ◌&&◌, ◌||◌, ◌==◌, ◌⊎◌, inl, inr, nat_lt, List, [], ◌∷◌, ◌++◌, length, codes, Option, Some, None, Result, Ok, Err, MatchResult, if◌then◌else◌, refl, ap, sym, ◌∙◌, subst, arith, append_assoc, length-append}
+use Rattle.std.proofs.Common.{◌≡◌, ℕ, suc, ◌+◌, ◌<◌, ◌≤◌, Bool, true, false, not, ◌&&◌, ◌==◌, inl, inr, nat_lt, List, [], ◌∷◌, ◌++◌, length, Option, Some, None, Result, Ok, Err, MatchResult, if◌then◌else◌, refl, ap, sym, ◌∙◌, subst, arith, append_assoc, length-append}
 use Rattle.std.specs.List.{list_all}
 use Rattle.std.specs.Char.{is_ascii_digit}
 use Rattle.std.specs.Str.Parse.{digits_value}
 use Rattle.std.proofs.lemmas.Bool.Decides.{nat_tests}
 use Rattle.json_path.specs.declared.path.Step.{Step}
 use Rattle.json_path.specs.declared.path.Step.TheVariants.{Name, Index, All}
-use Rattle.json_path.specs.Grammar.{is_name_byte, is_quotable, IsDotted, IsQuoted, IsIndexed, IsStepText, AreSteps, no_step, a_step, IsPathOf, BeginsPath, Stops, IsFaultOf}
+use Rattle.json_path.specs.Grammar.{is_name_byte, is_quotable, IsStepText, AreSteps, no_step, a_step, IsPathOf, BeginsPath, IsFaultOf}
 use Rattle.json_path.specs.Machine.{State, start, next, begin_step, with_index, run, state_or_fault, finish, or_else_fault, path_of}
 use Rattle.json_path.proofs.Reading.{run-next, run-stuck, run-none, run-then}
 use Rattle.json_path.proofs.Completeness.{between, after_dot, in_name, after_bracket, in_quotes, after_quote, in_index, after_star, append-nil, whole_path}

@@ -1,6 +1,4 @@
-use Rattle.std.proofs.Common.{◌≡◌, List, Result, Ok, ap, sym, ◌∙◌, subst}
-use Rattle.json_path.specs.declared.path.Step.{Step}
-use Rattle.json_path.specs.Machine.{path_of}
+use Rattle.std.proofs.Common.{Ok, ap, sym, ◌∙◌}
 use Rattle.json_path.proofs.ReadLaws.{gives_steps, gives_only, gives_refused, gives_place, same_error}
 use Rattle.json_path.proofs.parse.parse_path.Goals as goal
 

@@ -1,4 +1,4 @@
-use Rattle.std.proofs.Common.{◌+◌, ◌-◌, ◌*◌, ◌^◌, min, sym, ◌∙◌, refl, rules, arith, ap}
+use Rattle.std.proofs.Common.{◌+◌, ◌-◌, ◌*◌, ◌^◌, min, sym, ◌∙◌, refl, arith, ap}
 use Rattle.json_path.specs.declared.parse.Parser.{Parser}
 use Rattle.json_path.proofs.ParserLaws.{digit_taken, byte_other}
 use Rattle.json_path.proofs.parse.Parser.continue_index.Goals as goal
