@@ -14,17 +14,18 @@ static _Atomic int ended;
 static uint64_t samples;
 static int writers;
 
+/* C11 has no fetch_min and fetch_max: each is a compare-and-exchange that writes the lesser, or the greater, of the two. */
 static void keep_least(_Atomic uint64_t *cell, uint64_t x)
 {
-    uint64_t old = atomic_load(cell);
-    while (old > x && !atomic_compare_exchange_weak(cell, &old, x)) {
+    uint64_t old = atomic_load_explicit(cell, memory_order_relaxed);
+    while (!atomic_compare_exchange_weak(cell, &old, old < x ? old : x)) {
     }
 }
 
 static void keep_greatest(_Atomic uint64_t *cell, uint64_t x)
 {
-    uint64_t old = atomic_load(cell);
-    while (old < x && !atomic_compare_exchange_weak(cell, &old, x)) {
+    uint64_t old = atomic_load_explicit(cell, memory_order_relaxed);
+    while (!atomic_compare_exchange_weak(cell, &old, old > x ? old : x)) {
     }
 }
 

@@ -4,27 +4,13 @@
 # Usage: bench/record.sh [ROUNDS]
 set -eu
 cd "$(dirname "$0")/.."
+. bench/least.sh
 rounds=${1:-5}
 out=$(mktemp -d)
 trap 'rm -rf "$out"' EXIT
 gcc -O2 -pthread -o "$out/steps" bench/record.c
 (cd crates/recorder_bench && rt run -- 1 0 1 >"$out/build.log" 2>&1) || { cat "$out/build.log"; exit 1; }
 program=crates/recorder_bench/out/recorder_bench
-
-# the least time of some runs of a command, in nanoseconds
-least() {
-    best=
-    i=0
-    while [ "$i" -lt "$rounds" ]; do
-        from=$(date +%s%N)
-        "$@" >/dev/null
-        to=$(date +%s%N)
-        took=$((to - from))
-        if [ -z "$best" ] || [ "$took" -lt "$best" ]; then best=$took; fi
-        i=$((i + 1))
-    done
-    echo "$best"
-}
 
 echo "steps of a record: 8, or 9 of a sample that failed"
 for writers in 1 2 4; do

@@ -3,6 +3,7 @@
 # Usage: bench/sections.sh [ROUNDS]
 set -eu
 cd "$(dirname "$0")/.."
+. bench/least.sh
 rounds=${1:-20}
 count=4000000
 out=$(mktemp -d)
@@ -10,21 +11,6 @@ trap 'rm -rf "$out"' EXIT
 gcc -O2 -o "$out/steps" bench/sections.c
 (cd crates/sections_bench && rt run -- 1 >"$out/build.log" 2>&1) || { cat "$out/build.log"; exit 1; }
 program=crates/sections_bench/out/sections_bench
-
-# the least time of some runs of a command with this many sections, in nanoseconds
-least() {
-    best=
-    i=0
-    while [ "$i" -lt "$rounds" ]; do
-        from=$(date +%s%N)
-        "$1" "$2" >/dev/null
-        to=$(date +%s%N)
-        took=$((to - from))
-        if [ -z "$best" ] || [ "$took" -lt "$best" ]; then best=$took; fi
-        i=$((i + 1))
-    done
-    echo "$best"
-}
 
 ours=$(($(least "$program" $count) - $(least "$program" 0)))
 theirs=$(($(least "$out/steps" $count) - $(least "$out/steps" 0)))
