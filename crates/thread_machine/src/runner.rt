@@ -17,6 +17,8 @@ use jm_base::{End, M, Outside, Sample};
 use jm_meaning::sample_once;
 use std::alloc::Global;
 
+/// A thread: its plan and number, the machine of moves, the samplers that it may still run, the sample that is still to be noted,
+/// and its trace.
 #[derive(Drop)]
 pub struct Runner<'p> {
     pub plan: &'p Plan,
@@ -29,6 +31,7 @@ pub struct Runner<'p> {
 }
 
 impl<'p> Runner<'p> {
+    /// A thread before its first step. `budget` is how many samplers it may run at most.
     pub fn new(alloc: Global, plan: &'p Plan, thread: u16, budget: u32) -> M<Runner<'p>>
         requires { thread < threads_of plan.now }
         ensures start { IfOk result (λ r. IsAtStart plan.now thread budget (standing_of r false)) }
@@ -46,7 +49,7 @@ impl<'p> Runner<'p> {
         })
     }
 
-    // A step, or the thread as it was cut for want of memory.
+    /// A step. Where memory is wanting the thread stays as it was cut, with room for its end.
     pub fn try_step<O: Outside>(&mut self, outside: &mut O) -> M<Step>
         requires owed { self.old.owed ≡ None }
         requires on { GoesOn self.old }

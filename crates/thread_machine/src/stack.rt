@@ -32,6 +32,7 @@ impl Model for Stack {
 }
 
 impl Stack {
+    /// No open element.
     pub fn new(alloc: Global) -> Stack
         ensures { result ≡ [] }
     {
@@ -40,6 +41,7 @@ impl Stack {
         }
     }
 
+    /// Opens an element inside those that are open.
     pub fn push(&mut self, frame: Frame) -> M<()>
         ensures ok { OnOk result (self.new ≡ frame ∷ self.old) }
         ensures err { OnErr result (self.new ≡ self.old) }
@@ -48,12 +50,14 @@ impl Stack {
         Ok(())
     }
 
+    /// The innermost open element.
     pub fn top(&self) -> Option<Frame>
         ensures { MatchOption result (self.now ≡ []) (λ f. (fs : List Frame) × (self.now ≡ f ∷ fs)) }
     {
         self.frames.last().copied()
     }
 
+    /// Leaves the innermost open element.
     pub fn pop(&mut self)
         ensures none { self.old ≡ [] → self.new ≡ [] }
         ensures one { (f : Frame) (fs : List Frame) → self.old ≡ f ∷ fs → self.new ≡ fs }
@@ -61,6 +65,7 @@ impl Stack {
         self.frames.pop();
     }
 
+    /// Puts another frame in the place of the innermost.
     pub fn set_top(&mut self, frame: Frame)
         ensures { (f : Frame) (fs : List Frame) → self.old ≡ f ∷ fs → self.new ≡ frame ∷ fs }
     {

@@ -39,6 +39,7 @@ impl Model for Trace {
 }
 
 impl Trace {
+    /// An empty trace with room for the thread's end.
     pub fn new(alloc: Global) -> M<Trace>
         ensures { IfOk result (λ t. (t.items ≡ []) × (1 ≤ t.room)) }
     {
@@ -57,6 +58,7 @@ impl Trace {
         Ok(())
     }
 
+    /// Appends an item in the room that was taken for it, so that no memory is asked for.
     pub fn put(&mut self, item: TraceItem)
         requires { 0 < self.old.room }
         ensures items { self.new.items ≡ self.old.items ++ item ∷ [] }
@@ -68,12 +70,14 @@ impl Trace {
         }
     }
 
+    /// The items, from the first.
     pub fn items(&self) -> &[TraceItem]
         ensures { result.now ≡ self.now.items }
     {
         &self.items
     }
 
+    /// The items themselves.
     pub fn into_vec(self) -> Vec<TraceItem>
         ensures { result.items ≡ self.items }
     {
