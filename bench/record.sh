@@ -4,8 +4,8 @@
 # Usage: bench/record.sh [ROUNDS]
 set -eu
 cd "$(dirname "$0")/.."
-. bench/least.sh
-rounds=${1:-5}
+. bench/median.sh
+rounds=${1:-11}
 out=$(mktemp -d)
 trap 'rm -rf "$out"' EXIT
 gcc -O2 -pthread -o "$out/steps" bench/record.c
@@ -15,8 +15,8 @@ program=crates/recorder_bench/out/recorder_bench
 echo "steps of a record: 8, or 9 of a sample that failed"
 for writers in 1 2 4; do
     count=1000000
-    ours=$(($(least "$program" $count 1 $writers) - $(least "$program" 1 1 $writers)))
-    theirs=$(($(least "$out/steps" $count $writers) - $(least "$out/steps" 1 $writers)))
+    ours=$(($(median "$program" $count 1 $writers) - $(median "$program" 1 1 $writers)))
+    theirs=$(($(median "$out/steps" $count $writers) - $(median "$out/steps" 1 $writers)))
     awk -v a="$ours" -v b="$theirs" -v n="$((count * writers))" -v w="$writers" \
         'BEGIN { printf "%d writers: %.1f ns a record; the same steps in C: %.1f ns; ratio %.2f\n", w, a / n, b / n, a / b }'
 done

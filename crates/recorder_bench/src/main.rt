@@ -78,23 +78,30 @@ fn record(recorder: &Recorder, seat: &mut WriterSeat, count: u32)
     record_all::<Brand>(recorder, seat, count, Blank::new(1));
 }
 
+/// A writer's seat, with room behind it, so that two threads write to no common cache line.
+#[derive(Drop)]
+struct Lane {
+    seat: WriterSeat,
+    _apart: [u64; 16],
+}
+
 /// All writers record, each in a thread of its own. Then it says that they have ended.
 fn record_in_threads<R: Threads + Sync>(
     rt: &R,
     recorder: &Recorder,
-    mut seats: Vec<WriterSeat>,
+    mut lanes: Vec<Lane>,
     count: u32,
     ended: &AtomicU64,
 )
-    requires seats { All (λ s. IsWriter recorder.now s × ((writes s).list ≡ [])) seats.items }
+    requires lanes { All (λ l. IsWriter recorder.now l.seat × ((writes l.seat).list ≡ [])) lanes.items }
     requires budget { count ≤ (numbers_of recorder.now).budget }
     requires label { 0 < (numbers_of recorder.now).labels }
 {
     thread::for_each_mut(
         rt,
-        seats.as_mut_slice(),
+        lanes.as_mut_slice(),
         64,
-        &|_, seat| { record(recorder, seat, count) },
+        &|_, lane| { record(recorder, &mut lane.seat, count) },
     );
     ended.store(1, Ordering::SeqCst);
 }
@@ -161,27 +168,33 @@ fn report_until<R: Wait + Clock>(
     totals
 }
 
-/// The seats of all writers.
+/// The lanes of all writers.
 fn split_all(
     alloc: Global,
     recorder: &Recorder,
     mut first: WriterSeat,
     writers: u16,
-) -> Result<Vec<WriterSeat>, NoMemory>
+) -> Result<Vec<Lane>, NoMemory>
     requires seat { IsWriter recorder.now first }
     requires list { (writes first).list ≡ [] }
     requires made { (writes first).made ≡ 1 }
     requires writers { writers ≤ (numbers_of recorder.now).writers }
-    ensures { IfOk result (λ v. All (λ s. IsWriter recorder.now s × ((writes s).list ≡ [])) v.items) }
+    ensures { IfOk result (λ v. All (λ l. IsWriter recorder.now l.seat × ((writes l.seat).list ≡ [])) v.items) }
 {
-    let mut seats = Vec::new(alloc);
+    let mut lanes = Vec::new(alloc);
     for made in 1..writers {
         let _made = made;
         let seat = recorder.split_writer(&mut first);
-        seats.push(seat)?;
+        lanes.push(Lane {
+            seat,
+            _apart: [0; 16],
+        })?;
     }
-    seats.push(first)?;
-    Ok(seats)
+    lanes.push(Lane {
+        seat: first,
+        _apart: [0; 16],
+    })?;
+    Ok(lanes)
 }
 
 /// One run: the threads record, and the caller's other thread reports.
@@ -196,7 +209,7 @@ fn run<R: Threads + Wait + Clock + Sync>(
     requires count { writers * count ≤ MOST }
 {
     let (recorder, reporter, first) = Recorder::new(alloc, 1, writers, count)?;
-    let seats = split_all(alloc, &recorder, first, writers)?;
+    let lanes = split_all(alloc, &recorder, first, writers)?;
     let report = Report::vacant(alloc, 1)?;
     let ended = AtomicU64::new(0);
     let shared = &recorder;
@@ -205,8 +218,8 @@ fn run<R: Threads + Wait + Clock + Sync>(
         rt,
         || report_until(rt, shared, reporter, report, flag, pause),
         || -> ()
-            requires { All (λ s. IsWriter shared.now s × ((writes s).list ≡ [])) seats.items × (count ≤ (numbers_of shared.now).budget) × (0 < (numbers_of shared.now).labels) }
-        { record_in_threads(rt, shared, seats, count, flag) },
+            requires { All (λ l. IsWriter shared.now l.seat × ((writes l.seat).list ≡ [])) lanes.items × (count ≤ (numbers_of shared.now).budget) × (0 < (numbers_of shared.now).labels) }
+        { record_in_threads(rt, shared, lanes, count, flag) },
     );
     Ok(totals)
 }

@@ -7,5 +7,5 @@ invariant-loop-made l = record {
   seat : IsWriter l.recorder l.first;
   list : (writes l.first).list ≡ [];
   made : (writes l.first).made ≡ l.made;
-  all : All (λ s. IsWriter l.recorder s × ((writes s).list ≡ [])) l.seats.items;
+  all : All (λ s. IsWriter l.recorder s.seat × ((writes s.seat).list ≡ [])) l.lanes.items;
 }
