@@ -1,5 +1,5 @@
-# The median time of some runs of a command, in nanoseconds. `rounds` says how many runs. Where threads contend, the
-# least time would be that of a run whose threads happened to share a processor.
+# The median time of some runs of a command, in nanoseconds. `rounds` says how many runs. Where threads contend, single
+# runs differ by several times, so that the least time says little of the others.
 median() {
     i=0
     while [ "$i" -lt "$rounds" ]; do
