@@ -18,6 +18,8 @@ pub fn parse_template(alloc: Global, text: &[u8]) -> M<Template>
     requires { length text.now ≤ 65536 }
     ensures reading { IfOk result (λ template. IsReadingOf text.now template) }
     ensures spelled { IfOk result (λ template. spelling template ≡ text.now) }
+    // The same, as a function of the text.
+    ensures exact { IfOk result (λ template. template ≡ reading text.now) }
 {
     let found = references(alloc, text)?;
     let template = read(alloc, text, &found)?;

@@ -9,3 +9,6 @@ returns-clause-exists c = λ s. (reading s, reading_is s)
 
 pub returns-clause-only : goal.returns-clause-only
 returns-clause-only c = λ s ps qs h k. reading_only s ps h ∙ sym (reading_only s qs k)
+
+pub returns-clause-function : goal.returns-clause-function
+returns-clause-function c = λ s. reading_is s
