@@ -1,0 +1,56 @@
+-- The commands, their options, and what they ask for.
+use Rattle.std.specs.Prelude.{false, ◌^◌, ◌-◌, List, [], ◌∷◌, Option, Some, None, option_map, option_and_then, unwrap_or, if◌then◌else◌, codes, find}
+use Rattle.std.specs.List.{list_all}
+use Rattle.std.specs.Str.{bytes_eq}
+use Rattle.command_words.specs.declared.command.Command.{Command}
+use Rattle.command_words.specs.declared.command.Command.TheVariants.{Check, Solo as RunSolo}
+use Rattle.command_words.specs.declared.command.Solo.{Solo}
+use Rattle.command_words.specs.Grammar.{Word, Options, is_word, given_for, value_of}
+use Rattle.command_words.specs.Values.{number_between, properties_of}
+
+-- the options of `solo` by the texts of their values
+abbrev pub solo_from : Word → Word → Word → Word → Option Solo
+solo_from seed props samples thread =
+    option_and_then (λ s. option_and_then (λ n. option_and_then (λ t. option_map (λ p.
+    record { seed = s; props = p; samples = n; thread = t })
+    (properties_of props)) (number_between 0 63 thread)) (number_between 1 262144 samples)) (number_between 0 (2 ^ 64 - 1) seed)
+
+-- the options of `solo` by the values that are given; what is not given has the value behind its name
+abbrev pub solo_of : (Word → Option Word) → Option Solo
+solo_of value = solo_from
+    (unwrap_or (value (codes "seed")) (codes "0"))
+    (unwrap_or (value (codes "props")) (codes ""))
+    (unwrap_or (value (codes "samples")) (codes "65536"))
+    (unwrap_or (value (codes "thread")) (codes "0"))
+
+-- a command: its name, its options, and what it asks for where these values are given
+pub record CommandRule : Type 0 where
+  pub name : Word
+  pub options : Options
+  pub meaning : (Word → Option Word) → Option Command
+
+abbrev pub check : CommandRule
+check = record { name = codes "check"; options = []; meaning = λ value. Some Check }
+
+abbrev pub solo : CommandRule
+solo = record {
+  name = codes "solo";
+  options = (codes "seed", false) ∷ (codes "props", false) ∷ (codes "samples", false) ∷ (codes "thread", false) ∷ [];
+  meaning = λ value. option_map RunSolo (solo_of value);
+}
+
+abbrev pub commands : List CommandRule
+commands = check ∷ solo ∷ []
+
+abbrev pub command_named : Word → Option CommandRule
+command_named name = find (λ c. bytes_eq c.name name) commands
+
+-- the first word names a command, and the others are options that it knows, with right values
+abbrev pub asked_of : List Word → Option Command
+asked_of [] = None
+asked_of (word ∷ words) =
+    option_and_then (λ c. option_and_then (λ given. c.meaning (value_of given)) (given_for c.options words)) (command_named word)
+
+-- what a command line asks for; none of words that are no command line
+abbrev pub command_of : List Word → Option Command
+command_of words = if list_all is_word words then asked_of words else None

@@ -1,0 +1,6 @@
+pub mod Grammar
+pub mod Values
+pub mod Commands
+pub mod Parser
+pub mod Shown
+pub mod Spelling

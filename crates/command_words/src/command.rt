@@ -1,0 +1,25 @@
+// The commands of the program.
+
+use var_functions::Props;
+
+/// What a command line asks for.
+#[derive(Drop)]
+pub enum Command {
+    /// `check`: read a plan and write it out whole.
+    Check,
+    /// `solo`: run one thread of a plan over the plan's own replies.
+    Solo(Solo),
+}
+
+/// The options of `solo`.
+#[derive(Drop)]
+pub struct Solo {
+    /// `--seed`, of the random words. Each number of 64 bits is one.
+    pub seed: u64,
+    /// `--props`, which `__P` reads.
+    pub props: Props,
+    /// `--samples`, the most that the thread may take: 1 to 262,144.
+    pub samples: u32,
+    /// `--thread`, which one is run, counted from 0 over all groups: at most 63.
+    pub thread: u16,
+}

@@ -1,0 +1,15 @@
+//! The words of the command line, as a value: which command, and its options.
+#![tactic(auto)]
+
+mod command;
+mod error;
+mod parser;
+mod reading;
+mod value;
+
+pub use command::{Command, Solo};
+pub use error::WordsError;
+pub use reading::read_words;
+
+#[cfg(test)]
+mod tests;

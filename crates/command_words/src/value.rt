@@ -1,0 +1,81 @@
+// The values of options.
+
+ghost use Rattle.std.specs.Prelude.{◌≡◌, ◌≤◌, IfOk, IfSome, Some, None};
+ghost use Rattle.command_words.specs.Values.{number_between, properties_of};
+ghost use Rattle.command_words.specs.Commands.{solo_from};
+
+use crate::command::Solo;
+use crate::error::WordsError;
+use std::alloc::Global;
+use var_functions::{Props, PropsError};
+
+/// The number that 1 to 20 decimal digits write, where it is from the least to the most.
+fn number_between(least: u64, most: u64, text: &[u8]) -> Option<u64>
+    ensures value { result ≡ number_between least most text.now }
+    ensures bounds { IfSome result (λ n. (least ≤ n) × (n ≤ most)) }
+{
+    if text.is_empty() || text.len() > 20 {
+        return None;
+    }
+    let mut value: u128 = 0;
+    for byte in text {
+        if !byte.is_ascii_digit() {
+            return None;
+        }
+        value = value * 10 + u128::from(*byte - b'0');
+        if value > u128::from(most) {
+            return None;
+        }
+    }
+    if value < u128::from(least) {
+        return None;
+    }
+    Some(value as u64)
+}
+
+/// The properties of a text of at most 65,536 bytes.
+fn properties_of(alloc: Global, text: &[u8]) -> Result<Props, WordsError>
+    ensures ok { IfOk result (λ p. properties_of text.now ≡ Some p) }
+    ensures bad { result ≡ Err WordsError.BadWords → properties_of text.now ≡ None }
+{
+    if text.len() > 65_536 {
+        return Err(WordsError::BadWords);
+    }
+    match Props::read(alloc, text) {
+        Ok(props) => Ok(props),
+        Err(PropsError::BadProps) => Err(WordsError::BadWords),
+        Err(PropsError::NoMemory) => Err(WordsError::NoMemory),
+    }
+}
+
+/// The options of `solo` by the texts of their values.
+pub(crate) fn solo_from(
+    alloc: Global,
+    seed: &str,
+    props: &str,
+    samples: &str,
+    thread: &str,
+) -> Result<Solo, WordsError>
+    ensures ok { IfOk result (λ s. solo_from seed.now props.now samples.now thread.now ≡ Some s) }
+    ensures bad { result ≡ Err WordsError.BadWords → solo_from seed.now props.now samples.now thread.now ≡ None }
+{
+    let Some(seed) = number_between(0, u64::MAX, seed.as_bytes()) else {
+        return Err(WordsError::BadWords);
+    };
+    let Some(samples) = number_between(1, 262_144, samples.as_bytes()) else {
+        return Err(WordsError::BadWords);
+    };
+    let Some(thread) = number_between(0, 63, thread.as_bytes()) else {
+        return Err(WordsError::BadWords);
+    };
+    match properties_of(alloc, props.as_bytes()) {
+        Ok(props) => Ok(Solo {
+            seed,
+            props,
+            samples: samples as u32,
+            thread: thread as u16,
+        }),
+        Err(WordsError::BadWords) => Err(WordsError::BadWords),
+        Err(WordsError::NoMemory) => Err(WordsError::NoMemory),
+    }
+}

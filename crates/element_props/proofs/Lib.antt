@@ -1,0 +1,9 @@
+pub mod ConditionLaws
+pub mod ReplyLaws
+pub mod Unique
+pub mod PropLaws
+pub mod FormLaws
+pub mod ReadsLaws
+pub mod PropsLoop
+pub mod RefusedLaws
+pub mod OwnLaws

@@ -1,0 +1,13 @@
+pub mod Conditions
+pub mod PieceViews
+pub mod Patterns
+pub mod Rows
+pub mod Seen
+pub mod Makers
+pub mod Reads
+pub mod Answers
+pub mod Replies
+pub mod Tables
+pub mod Forms
+pub mod Props
+pub mod Written

@@ -1,0 +1,121 @@
+-- The properties of an element as they are written: those that are not what stands for them when absent, in the order of their rows.
+use Rattle.std.specs.Prelude.{ℕ, ℤ, pos, negsuc, Bool, true, false, not, ◌&&◌, List, [], ◌∷◌, Option, Some, None, if◌then◌else◌, nat_eq, bytes_eq, slice_get, unwrap_or, codes}
+use Rattle.jm_base.specs.declared.types.ScriptReply.{ScriptReply}
+use Rattle.serde_json.specs.Data.{Data, null, boolean, number, unsigned, string, array, object, Items, no_items, item, Members, no_members, member}
+use Rattle.serde_json.specs.Find.{of_integer}
+use Rattle.template_text.specs.Pieces.{spelling}
+use Rattle.element_props.specs.declared.prop.Prop.{Prop}
+use Rattle.element_props.specs.declared.prop.Prop.TheVariants.{Absent, Template, Text, Number, Truth, Choice, Pattern, Pairs, Replies, Texts, Patterns}
+use Rattle.element_props.specs.declared.prop.Pair.{Pair}
+use Rattle.element_props.specs.Rows.{Form, choice, Presence, required, optional, text_default, number_default, truth_default, first_choice, no_pairs, Row}
+
+-- a member, where there is a value for it
+abbrev pub with_entry : List ℕ → Option Data → Members → Members
+with_entry name None ms = ms
+with_entry name (Some d) ms = member name d ms
+
+abbrev pub unless : Bool → Data → Option Data
+unless b d = if b then None else Some d
+
+abbrev pub same_truth : Bool → Bool → Bool
+same_truth true b = b
+same_truth false b = not b
+
+-- exactly the keys of a reply whose value differs from its default, in byte order
+abbrev pub reply_members : ScriptReply → Members
+reply_members r =
+    with_entry (codes "body") (unless (bytes_eq r.body []) (string r.body))
+    (with_entry (codes "code") (unless (nat_eq r.code 200) (number (unsigned r.code)))
+    (with_entry (codes "echo") (unless (not r.echo) (boolean true))
+    (with_entry (codes "fault") (unless (not r.fault) (boolean true))
+    (with_entry (codes "headers") (unless (bytes_eq r.headers []) (string r.headers))
+    (with_entry (codes "message") (unless (bytes_eq r.message (codes "OK")) (string r.message))
+    (with_entry (codes "ms") (unless (nat_eq r.ms 0) (number (unsigned r.ms)))
+    (with_entry (codes "null") (unless (not r.null) (boolean true)) no_members)))))))
+
+abbrev pub replies_data : List ScriptReply → Items
+replies_data [] = no_items
+replies_data (r ∷ rs) = item (object (reply_members r)) (replies_data rs)
+
+-- a pair is written as the list of its name and its value
+abbrev pub pairs_data : List Pair → Items
+pairs_data [] = no_items
+pairs_data (p ∷ ps) = item (array (item (string p.name) (item (string (spelling p.value)) no_items))) (pairs_data ps)
+
+abbrev pub texts_data : List (List ℕ) → Items
+texts_data [] = no_items
+texts_data (s ∷ ss) = item (string s) (texts_data ss)
+
+abbrev pub words_of : Form → List (List ℕ)
+words_of (choice words) = words
+words_of form = []
+
+-- a property's value as JSON, a template as its spelling
+abbrev pub value_data : Form → Prop → Data
+value_data form Absent = null
+value_data form (Template ps) = string (spelling ps)
+value_data form (Text s) = string s
+value_data form (Number z) = number (of_integer z)
+value_data form (Truth b) = boolean b
+value_data form (Choice n) = string (unwrap_or (slice_get (words_of form) n) [])
+value_data form (Pattern s) = string s
+value_data form (Pairs ps) = array (pairs_data ps)
+value_data form (Replies rs) = array (replies_data rs)
+value_data form (Texts ss) = array (texts_data ss)
+value_data form (Patterns ss regexes whole) = array (texts_data ss)
+
+abbrev pub int_eq : ℤ → ℤ → Bool
+int_eq (pos m) (pos n) = nat_eq m n
+int_eq (negsuc m) (negsuc n) = nat_eq m n
+int_eq (pos m) (negsuc n) = false
+int_eq (negsuc m) (pos n) = false
+
+abbrev pub no_pair : List Pair → Bool
+no_pair [] = true
+no_pair (p ∷ ps) = false
+
+-- ---- whether a value is what stands for the property when it is absent; a required one never is
+
+abbrev pub is_text : List ℕ → Prop → Bool
+is_text s (Template ps) = bytes_eq (spelling ps) s
+is_text s (Text t) = bytes_eq t s
+is_text s p = false
+
+abbrev pub is_number : ℤ → Prop → Bool
+is_number n (Number m) = int_eq m n
+is_number n p = false
+
+abbrev pub is_truth : Bool → Prop → Bool
+is_truth b (Truth c) = same_truth c b
+is_truth b p = false
+
+abbrev pub is_first : Prop → Bool
+is_first (Choice n) = nat_eq n 0
+is_first p = false
+
+abbrev pub is_no_pairs : Prop → Bool
+is_no_pairs (Pairs ps) = no_pair ps
+is_no_pairs p = false
+
+abbrev pub is_nothing : Prop → Bool
+is_nothing Absent = true
+is_nothing p = false
+
+abbrev pub is_default : Presence → Prop → Bool
+is_default required p = false
+is_default optional p = is_nothing p
+is_default (text_default s) p = is_text s p
+is_default (number_default n) p = is_number n p
+is_default (truth_default b) p = is_truth b p
+is_default first_choice p = is_first p
+is_default no_pairs p = is_no_pairs p
+
+-- what is written of a property
+abbrev pub entry : Row → Prop → Option Data
+entry row p = unless (is_default row.presence p) (value_data row.form p)
+
+-- exactly the properties whose value differs from its default
+abbrev pub written : List Row → List Prop → Members
+written [] ps = no_members
+written (row ∷ rows) [] = no_members
+written (row ∷ rows) (p ∷ ps) = with_entry row.name (entry row p) (written rows ps)

@@ -1,0 +1,28 @@
+//! The properties of one element of a plan: the forms that a value may have, the rows of a type's table, how properties
+//! are read by them, and how they are written.
+#![tactic(auto)]
+
+mod asking;
+mod conditions;
+mod error;
+mod forms;
+mod patterns;
+mod place;
+mod prop;
+mod props;
+mod regex_patterns;
+mod replies;
+mod rows;
+mod tables;
+
+pub use conditions::bad_condition;
+pub use error::{BuildError, PatternFault, What};
+pub use patterns::{MakeError, Pattern, Patterns};
+pub use place::prop_path;
+pub use prop::{Pair, Prop};
+pub use props::own_properties;
+pub use regex_patterns::RegexPatterns;
+pub use rows::{Form, Presence, Row, Words, texts};
+
+#[cfg(test)]
+mod tests;

@@ -1,0 +1,95 @@
+// Patterns, each with what was made of it.
+
+ghost use Rattle.std.specs.Prelude.{◌≡◌, ◌≤◌, ◌∷◌, [], Err, None, IfOk};
+ghost use Rattle.jm_base.specs.Counts.{Rose};
+ghost use Rattle.regex.specs.Strings.{regex_source};
+ghost use Rattle.element_props.specs.Patterns.{Asked, Asks, IsKept, reading_of};
+
+use jm_base::Text;
+use regex::Regex;
+use std::alloc::Global;
+use std::error::Error;
+use std::fmt;
+use std::marker::Model;
+
+/// Why no pattern was made of a text.
+#[derive(Clone, Copy, PartialEq, Eq, Debug)]
+pub enum MakeError {
+    /// The text is no regular expression, or nests too deep for one.
+    Syntax,
+    /// The expression is too large once compiled.
+    Size,
+    /// Memory was wanting.
+    NoMemory,
+}
+
+impl fmt::Display for MakeError {
+    fn fmt<W: fmt::Write>(&self, f: &mut fmt::Formatter<W>) -> fmt::Result {
+        let text = match self {
+            MakeError::Syntax => "not a regular expression",
+            MakeError::Size => "too large a regular expression",
+            MakeError::NoMemory => "out of memory",
+        };
+        write!(f, "{text}")
+    }
+}
+
+impl Error for MakeError {}
+
+/// Makes regular expressions of texts. It counts those that were too large, and may tell which texts it was given.
+pub trait Patterns {
+    /// What is known of a maker: the texts that it was given in order, where it tells, and its count of those that were too large.
+    ghost account: { Self → Asked };
+
+    /// The regular expression that a text is.
+    fn make(&mut self, alloc: Global, text: &str) -> Result<Regex, MakeError>
+        // It has been given this text, and nothing else.
+        ensures asks { (result ≡ Err MakeError.NoMemory → ⊥) → Asks (account self.old) (text.now ∷ []) (account self.new) }
+        ensures count { (account self.old).oversize ≤ (account self.new).oversize }
+        ensures ok { IfOk result (λ r. (regex_source r ≡ text.now) × IsKept r) }
+        ensures syntax { result ≡ Err MakeError.Syntax → reading_of text.now ≡ None }
+        ensures size { result ≡ Err MakeError.Size → Rose (account self.old).oversize (account self.new).oversize };
+}
+
+/// A text with the regular expression that was made of it. Contracts see the text.
+#[derive(Drop)]
+pub struct Pattern {
+    text: Text,
+    regex: Regex,
+}
+
+impl Model for Pattern {
+    ghost use Rattle.std.specs.Prelude.{◌≡◌, List, ℕ};
+    ghost use Rattle.regex.specs.Strings.{regex_source};
+    ghost use Rattle.element_props.specs.Patterns.{IsKept};
+
+    ghost Value = { List ℕ };
+
+    ghost view = { λ p. p.text };
+
+    ghost invariant = { λ p. (regex_source p.regex ≡ p.text) × IsKept p.regex };
+}
+
+impl Pattern {
+    /// A text with what was made of it.
+    pub fn of(text: Text, regex: Regex) -> Pattern
+        requires { (regex_source regex ≡ text) × IsKept regex }
+        ensures { result ≡ text }
+    {
+        Pattern { text, regex }
+    }
+
+    /// The text.
+    pub fn text(&self) -> &Text
+        ensures { result.now ≡ self.now }
+    {
+        &self.text
+    }
+
+    /// The regular expression of the text.
+    pub fn regex(&self) -> &Regex
+        ensures { (regex_source result.now ≡ self.now) × IsKept result.now }
+    {
+        &self.regex
+    }
+}

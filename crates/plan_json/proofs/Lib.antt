@@ -1,0 +1,3 @@
+pub mod ShapeLaws
+pub mod FirstFaultLaws
+pub mod ReadingLaws

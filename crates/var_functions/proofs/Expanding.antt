@@ -1,0 +1,190 @@
+-- One piece after another, and one argument after another.
+use Rattle.std.proofs.Common.{◌≡◌, ℕ, zero, suc, ◌+◌, ◌≤◌, ◌<◌, List, [], ◌∷◌, ◌++◌, length, drop, get_or, Option, Some, None, refl, sym, ap, ◌∙◌, subst, arith}
+use Rattle.std.specs.Fmt.{decimal}
+use Rattle.std.specs.Prelude.{Result, Ok, Err, IfOk, OnErr, is_some, true, false, unwrap_or, option_and_then}
+use Rattle.std.proofs.lemmas.List.{drop_more}
+use Rattle.jm_base.specs.Run.{Run, over, ◌>>=◌, reading}
+use Rattle.jm_base.specs.Outside.{Account, Goes, TellsNothing}
+use Rattle.jm_base.proofs.RunLaws.{goes-append, goes-bind, goes-nothing, goes-tells_nothing}
+use Rattle.template_text.specs.declared.template.Piece.{Piece}
+use Rattle.template_text.specs.declared.template.Piece.TheVariants.{Text, Var, Call}
+use Rattle.template_text.specs.Pieces.{Pieces, Arguments, variable, call, reference_spelling}
+use Rattle.template_text.specs.View.{pieces_of, arguments_of, weight}
+use Rattle.var_functions.specs.declared.error.VarError.{VarError}
+use Rattle.var_functions.specs.declared.error.VarError.TheVariants.{ValueLimit, NoMemory}
+use Rattle.var_functions.specs.declared.function.Function.{Function}
+use Rattle.var_functions.specs.Vars.{Variables, value_of}
+use Rattle.var_functions.specs.State.{Functions}
+use Rattle.var_functions.specs.Functions.{value, Answer, function_named}
+use Rattle.var_functions.specs.Came.{CameTo, LeftOf, Refused, by_limit, by_memory}
+use Rattle.var_functions.specs.Expansion.{Expanded, expanded, on_expanded, and_then, limited, behind, count, taking, function_of_name, named, referred, called, value_or_spelling, pieces_behind, texts_behind, piece_behind, Grows}
+use Rattle.var_functions.proofs.CameLaws.{refused-bind, came-bind, came-first}
+
+-- a text that grew, or did not
+pub grows-came : (a : Account) (wanted new : List ℕ) (fns : Functions) (res : Result (Unit {0}) VarError) → Grows wanted new res
+    → CameTo a (over (expanded (limited wanted) fns)) a (λ _. over (expanded (Some new) fns)) (over (expanded None fns)) res
+grows-came a wanted new fns (Ok u) h = subst (λ o. Goes a (over (expanded o fns)) [] (over (expanded (Some new) fns)) a) (sym h) (goes-nothing a _)
+grows-came a wanted new fns (Err ValueLimit) h = by_limit (subst (λ o. Goes a (over (expanded o fns)) [] (over (expanded None fns)) a) (sym h) (goes-nothing a _))
+grows-came a wanted new fns (Err NoMemory) h = by_memory (_, goes-nothing a _)
+
+piece_then : (p : Piece) (ps : List Piece) (vars : Variables) (front : List ℕ) (fns : Functions)
+    → pieces_behind (pieces_of (p ∷ ps)) vars front fns ≡ and_then (piece_behind p vars front fns) (pieces_behind (pieces_of ps) vars)
+unfolding pieces_behind
+piece_then (Text t) ps vars front fns = refl
+piece_then (Var name) ps vars front fns = refl
+piece_then (Call name args) ps vars front fns = refl
+
+-- one piece more
+pub one_piece : (a m b : Account) (run : Run (Expanded (List ℕ))) (front new : List ℕ) (vars : Variables) (pieces : List Piece) (fns fns' : Functions) (i : ℕ) (p : Piece) (res : Result (Unit {0}) VarError)
+    → i < length pieces → p ≡ get_or pieces i p
+    → Goes a run [] (pieces_behind (pieces_of (drop i pieces)) vars front fns) m
+    → CameTo m (piece_behind p vars front fns) b (λ _. over (expanded (Some new) fns')) (over (expanded None fns')) res
+    → CameTo a run b (λ _. pieces_behind (pieces_of (drop (i + 1) pieces)) vars new fns') (over (expanded None fns')) res
+one_piece a m b run front new vars pieces fns fns' i p res there is so_far came =
+    let rest : drop i pieces ≡ p ∷ drop (i + 1) pieces = drop_more pieces i p there ∙ ap (λ q. q ∷ drop (i + 1) pieces) (sym is) in
+    let next = pieces_behind (pieces_of (drop (i + 1) pieces)) vars in
+    let begun : Goes a run [] (and_then (piece_behind p vars front fns) next) m =
+    subst (λ r. Goes a run [] r m) (ap (λ l. pieces_behind (pieces_of l) vars front fns) rest ∙ piece_then p (drop (i + 1) pieces) vars front fns) so_far in
+    came-first a m b run (and_then (piece_behind p vars front fns) next) (λ _. next new fns') (over (expanded None fns')) res begun
+    (came-bind m b (piece_behind p vars front fns) (λ _. over (expanded (Some new) fns')) (over (expanded None fns')) res (on_expanded next) came)
+
+pub no_piece : (a b : Account) (run : Run (Expanded (List ℕ))) (front : List ℕ) (vars : Variables) (rest : List Piece) (fns : Functions) → rest ≡ []
+    → Goes a run [] (pieces_behind (pieces_of rest) vars front fns) b → Goes a run [] (over (expanded (Some front) fns)) b
+unfolding pieces_behind
+no_piece a b run front vars rest fns is g = rw is at g
+
+argument_then : (ps : Pieces) (args : List Pieces) (vars : Variables) (before : List (List ℕ)) (fns : Functions)
+    → texts_behind (arguments_of (ps ∷ args)) vars before fns ≡ and_then (pieces_behind ps vars [] fns) (λ t. texts_behind (arguments_of args) vars (before ++ t ∷ []))
+unfolding texts_behind
+argument_then ps args vars before fns = refl
+
+-- one argument more
+pub one_argument : (a m b : Account) (run : Run (Expanded (List (List ℕ)))) (before : List (List ℕ)) (new : List ℕ) (vars : Variables) (args : List Pieces) (fns fns' : Functions) (i : ℕ) (ps : Pieces) (res : Result (Unit {0}) VarError)
+    → i < length args → ps ≡ get_or args i ps
+    → Goes a run [] (texts_behind (arguments_of (drop i args)) vars before fns) m
+    → CameTo m (pieces_behind ps vars [] fns) b (λ _. over (expanded (Some new) fns')) (over (expanded None fns')) res
+    → CameTo a run b (λ _. texts_behind (arguments_of (drop (i + 1) args)) vars (before ++ new ∷ []) fns') (over (expanded None fns')) res
+one_argument a m b run before new vars args fns fns' i ps res there is so_far came =
+    let rest : drop i args ≡ ps ∷ drop (i + 1) args = drop_more args i ps there ∙ ap (λ q. q ∷ drop (i + 1) args) (sym is) in
+    let next = λ (t : List ℕ). texts_behind (arguments_of (drop (i + 1) args)) vars (before ++ t ∷ []) in
+    let begun : Goes a run [] (and_then (pieces_behind ps vars [] fns) next) m =
+    subst (λ r. Goes a run [] r m) (ap (λ l. texts_behind (arguments_of l) vars before fns) rest ∙ argument_then ps (drop (i + 1) args) vars before fns) so_far in
+    came-first a m b run (and_then (pieces_behind ps vars [] fns) next) (λ _. next new fns') (over (expanded None fns')) res begun
+    (came-bind m b (pieces_behind ps vars [] fns) (λ _. over (expanded (Some new) fns')) (over (expanded None fns')) res (on_expanded next) came)
+
+pub no_argument : (a b : Account) (run : Run (Expanded (List (List ℕ)))) (before : List (List ℕ)) (vars : Variables) (rest : List Pieces) (fns : Functions) → rest ≡ []
+    → Goes a run [] (texts_behind (arguments_of rest) vars before fns) b → Goes a run [] (over (expanded (Some before) fns)) b
+unfolding texts_behind
+no_argument a b run before vars rest fns is g = rw is at g
+
+pub count-arguments_of : (args : List Pieces) → count (arguments_of args) ≡ length args
+count-arguments_of [] = refl
+count-arguments_of (ps ∷ args) = ap suc (count-arguments_of args)
+
+pub referred_call : (name : List ℕ) (args : Arguments) (vars : Variables) (fns : Functions)
+    → referred (call name args) vars fns ≡ called (option_and_then (taking (count args)) (function_named name)) (texts_behind args vars []) (reference_spelling (call name args)) vars fns
+unfolding referred
+referred_call name args vars fns = refl
+
+-- the arguments of a call without any
+abbrev pub no_texts : Functions → Run (Expanded (List (List ℕ)))
+no_texts fns = over (expanded (Some []) fns)
+
+named_call : (which : Option Function) (name : List ℕ) (vars : Variables) (fns : Functions) → is_some which ≡ true
+    → named which name vars fns ≡ called (option_and_then (taking 0) which) no_texts (reference_spelling (variable name)) vars fns
+named_call None name vars fns h = cc
+named_call (Some f) name vars fns h = refl
+
+pub referred_function : (name : List ℕ) (vars : Variables) (fns : Functions) → is_some (function_of_name name) ≡ true
+    → referred (variable name) vars fns ≡ called (option_and_then (taking 0) (function_of_name name)) no_texts (reference_spelling (variable name)) vars fns
+unfolding referred
+referred_function name vars fns h = named_call (function_of_name name) name vars fns h
+
+pub referred_variable : (name : List ℕ) (vars : Variables) (fns : Functions) → is_some (function_of_name name) ≡ false
+    → referred (variable name) vars fns ≡ over (expanded (Some (unwrap_or (value_of name vars) (reference_spelling (variable name)))) fns)
+unfolding referred
+referred_variable name vars fns h = without (function_of_name name) h where
+  without : (which : Option Function) → is_some which ≡ false → named which name vars fns ≡ over (expanded (Some (unwrap_or (value_of name vars) (reference_spelling (variable name)))) fns)
+  without None h = refl
+  without (Some f) h = cc
+
+-- a text that is known, behind the text in front
+pub text_came : (a : Account) (r : Run (Expanded (List ℕ))) (t front new : List ℕ) (fns : Functions) (res : Result (Unit {0}) VarError) → r ≡ over (expanded (Some t) fns) → Grows (front ++ t) new res
+    → CameTo a (and_then r (behind front)) a (λ _. over (expanded (Some new) fns)) (over (expanded None fns)) res
+text_came a r t front new fns res is h =
+    subst (λ q. CameTo a (and_then q (behind front)) a (λ _. over (expanded (Some new) fns)) (over (expanded None fns)) res) (sym is) (grows-came a (front ++ t) new fns res h)
+
+module _ (r : Run (Expanded (List ℕ))) (args : Functions → Run (Expanded (List (List ℕ)))) (spelling front : List ℕ) (vars : Variables) (fns : Functions) (which : Option Function)
+    (is : r ≡ called which args spelling vars fns) where
+  -- a call of no function is its spelling
+  pub called_none : (a : Account) (new : List ℕ) (res : Result (Unit {0}) VarError) → which ≡ None → Grows (front ++ spelling) new res
+      → CameTo a (and_then r (behind front)) a (λ _. over (expanded (Some new) fns)) (over (expanded None fns)) res
+  called_none a new res none h = text_came a r spelling front new fns res (is ∙ ap (λ w. called w args spelling vars fns) none) h
+
+  -- the arguments were refused
+  pub called_refused : (a b : Account) (f : Function) (fns' : Functions) (e : VarError) → which ≡ Some f
+      → Refused a (args fns) b (over (expanded None fns')) e → Refused a (and_then r (behind front)) b (over (expanded None fns')) e
+  called_refused a b f fns' e some h =
+      subst (λ q. Refused a (and_then q (behind front)) b (over (expanded None fns')) e) (sym (is ∙ ap (λ w. called w args spelling vars fns) some))
+      (refused-bind (on_expanded (behind front)) (refused-bind (on_expanded (λ texts fns. value f texts vars fns >>= value_or_spelling spelling)) h))
+
+  module _ (a m : Account) (f : Function) (texts : List (List ℕ)) (fns' : Functions) (some : which ≡ Some f) (g : Goes a (args fns) [] (over (expanded (Some texts) fns')) m) where
+    begun : Goes a (and_then r (behind front)) [] (and_then (value f texts vars fns' >>= value_or_spelling spelling) (behind front)) m
+    begun = subst (λ q. Goes a (and_then q (behind front)) [] (and_then (value f texts vars fns' >>= value_or_spelling spelling) (behind front)) m) (sym (is ∙ ap (λ w. called w args spelling vars fns) some))
+        (goes-bind (on_expanded (behind front)) (goes-bind (on_expanded (λ texts fns. value f texts vars fns >>= value_or_spelling spelling)) g))
+
+    -- the value came, and stands behind the text in front, or the spelling does
+    pub called_value : (b : Account) (v : Option (List ℕ)) (fns'' : Functions) (new : List ℕ) (res : Result (Unit {0}) VarError)
+        → Goes m (value f texts vars fns') [] (over (v, fns'')) b → Grows (front ++ unwrap_or v spelling) new res
+        → CameTo a (and_then r (behind front)) b (λ _. over (expanded (Some new) fns'')) (over (expanded None fns'')) res
+    called_value b v fns'' new res h grows =
+        came-first a b b (and_then r (behind front)) (over (expanded (limited (front ++ unwrap_or v spelling)) fns'')) (λ _. over (expanded (Some new) fns'')) (over (expanded None fns'')) res
+        (goes-append begun (goes-bind (on_expanded (behind front)) (goes-bind (value_or_spelling spelling) h))) (grows-came b (front ++ unwrap_or v spelling) new fns'' res grows)
+
+    -- memory was wanting on the way to the value
+    pub called_cut : (b : Account) (limit : Run (Expanded (List ℕ))) → LeftOf m (value f texts vars fns') b → Refused a (and_then r (behind front)) b limit NoMemory
+    called_cut b limit left =
+        by_memory (_, goes-append begun (goes-bind (on_expanded (behind front)) (goes-bind (value_or_spelling spelling) left.1)))
+
+-- a value that asks nothing of the outside
+pub known : {E : Type 0} (a : Account) (run : Run Answer) (fns : Functions) (res : Result (Option (List ℕ)) E) → IfOk res (λ v. run ≡ over (v, fns)) → IfOk res (λ v. Goes a run [] (over (v, fns)) a)
+known a run fns (Ok v) h = rw h (goes-nothing a _)
+known a run fns (Err e) h = tt
+
+pub here_left : {A E T : Type 0} (a : Account) (run : Run A) (res : Result T E) → OnErr res (LeftOf a run a)
+here_left a run (Ok x) = tt
+here_left a run (Err e) = (run, goes-nothing a run)
+
+pub nothing_told : {A E T : Type 0} (a b : Account) (run : Run A) (res : Result T E) → TellsNothing a b → OnErr res (LeftOf a run b)
+nothing_told a b run (Ok x) h = tt
+nothing_told a b run (Err e) h = (run, goes-tells_nothing (goes-nothing a run) h)
+
+-- a reading of the clock
+pub read_value : (a b : Account) (run : Run Answer) (now : ℕ) (text : List ℕ) (fns : Functions) → run ≡ (reading >>= λ t. over (Some (decimal t), fns)) → Goes a reading [] (over now) b → text ≡ decimal now
+    → Goes a run [] (over (Some text, fns)) b
+read_value a b run now text fns is g same = rw (is, same) (goes-bind (λ t. over (Some (decimal t), fns)) g)
+
+pub read_left : {E T : Type 0} (a b : Account) (run : Run Answer) (now : ℕ) (fns : Functions) (res : Result T E) → run ≡ (reading >>= λ t. over (Some (decimal t), fns)) → Goes a reading [] (over now) b
+    → OnErr res (LeftOf a run b)
+read_left a b run now fns (Ok x) is g = tt
+read_left a b run now fns (Err e) is g = (over (Some (decimal now), fns), rw is (goes-bind (λ t. over (Some (decimal t), fns)) g))
+
+pub weight-positive : (ps : List Piece) → 1 ≤ weight (pieces_of ps)
+weight-positive [] = omega arith
+weight-positive (Text t ∷ ps) = omega (arith, weight-positive ps)
+weight-positive (Var n ∷ ps) = omega (arith, weight-positive ps)
+weight-positive (Call n args ∷ ps) = omega (arith, weight-positive ps)
+
+-- a piece weighs no more than all of them
+pub piece_weight : (ps : List Piece) (i : ℕ) (p : Piece) → i < length ps → get_or ps i p ≡ p → weight (pieces_of (p ∷ [])) ≤ weight (pieces_of ps)
+piece_weight [] i p h e = absurd (omega arith)
+piece_weight (q ∷ ps) zero p h e = subst (λ r. weight (pieces_of (r ∷ [])) ≤ weight (pieces_of (q ∷ ps))) e (first q) where
+  first : (q : Piece) → weight (pieces_of (q ∷ [])) ≤ weight (pieces_of (q ∷ ps))
+  first (Text t) = omega (arith, weight-positive ps)
+  first (Var n) = omega (arith, weight-positive ps)
+  first (Call n args) = omega (arith, weight-positive ps)
+piece_weight (q ∷ ps) (suc i) p h e = omega (arith, piece_weight ps i p (omega arith) e, more q) where
+  more : (q : Piece) → weight (pieces_of ps) ≤ weight (pieces_of (q ∷ ps))
+  more (Text t) = omega arith
+  more (Var n) = omega arith
+  more (Call n args) = omega arith

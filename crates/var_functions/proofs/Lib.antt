@@ -1,0 +1,5 @@
+pub mod Numerals
+pub mod VarLaws
+pub mod CameLaws
+pub mod LaterLaws
+pub mod Expanding

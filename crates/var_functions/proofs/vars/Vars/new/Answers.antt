@@ -1,0 +1,12 @@
+use Rattle.std.proofs.Common.{refl, sym, subst, arith, map, []}
+use Rattle.std.specs.List.Sorted.{IsStrictlySortedBy}
+use Rattle.var_functions.specs.Vars.{IsKept}
+use Rattle.var_functions.proofs.VarLaws.{seen}
+use Rattle.var_functions.proofs.vars.Vars.new.Goals as goal
+
+nothing : IsKept 0 []
+unfolding IsStrictlySortedBy
+nothing = record { sum = refl; limit = omega arith; ordered = tt }
+
+pub invariant_of-result : goal.invariant_of-result
+invariant_of-result c = subst (λ es. IsKept 0 (map seen es)) (sym c.new.ensures.empty) nothing

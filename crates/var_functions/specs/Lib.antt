@@ -1,0 +1,7 @@
+pub mod Vars
+pub mod Props
+pub mod Numbers
+pub mod State
+pub mod Functions
+pub mod Expansion
+pub mod Came

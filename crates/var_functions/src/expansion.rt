@@ -1,0 +1,251 @@
+// The expansion of a template.
+
+ghost use Rattle.std.specs.Prelude.{◌≡◌, ◌≤◌, ◌++◌, [], All, IfOk, OnOk, Some, None, length};
+ghost use Rattle.std.specs.Option.{option_and_then};
+ghost use Rattle.jm_base.specs.Run.{over};
+ghost use Rattle.template_text.specs.Pieces.{variable, call, reference_spelling};
+ghost use Rattle.template_text.specs.View.{arguments_of};
+ghost use Rattle.var_functions.specs.Vars.{most_text};
+ghost use Rattle.var_functions.specs.Functions.{function_named};
+ghost use Rattle.var_functions.specs.Came.{CameTo};
+ghost use Rattle.var_functions.specs.State.{IsLater};
+ghost use Rattle.var_functions.specs.Expansion.{expanded, and_then, behind, limited, taking, function_of_name, referred, piece_behind, pieces_behind, texts_behind, expansion, Grows};
+
+use crate::error::VarError;
+use crate::function::{Function, function_named};
+use crate::spelling::{write_call, write_variable};
+use crate::state::{FnState, UserState};
+use crate::value::value;
+use crate::vars::{MOST_TEXT, Vars};
+use jm_base::{Outside, Text};
+use std::alloc::Global;
+use template_text::{Piece, Template};
+
+/// Whether the text is within the limit.
+fn check_length(out: &[u8]) -> Result<(), VarError>
+    ensures grown { Grows out.now out.now result }
+    ensures short { OnOk result (length out.now ≤ most_text) }
+{
+    if out.len() > MOST_TEXT {
+        return Err(VarError::ValueLimit);
+    }
+    Ok(())
+}
+
+/// Writes a text at the end, where that is within the limit.
+fn append(bytes: &[u8], out: &mut Vec<u8>) -> Result<(), VarError>
+    ensures grown { Grows (out.old.items ++ bytes.now) out.new.items result }
+    ensures short { OnOk result (length out.new.items ≤ most_text) }
+{
+    match out.extend_from_slice(bytes) {
+        Ok(()) => check_length(out),
+        Err(_) => Err(VarError::NoMemory),
+    }
+}
+
+/// Writes the spelling of a variable reference at the end, where that is within the limit.
+fn append_variable(name: &Text, out: &mut Vec<u8>) -> Result<(), VarError>
+    ensures grown { Grows (out.old.items ++ reference_spelling (variable name.now)) out.new.items result }
+    ensures short { OnOk result (length out.new.items ≤ most_text) }
+{
+    match write_variable(name, out) {
+        Ok(()) => check_length(out),
+        Err(_) => Err(VarError::NoMemory),
+    }
+}
+
+/// Writes the spelling of a call at the end, where that is within the limit.
+fn append_call(name: &Text, args: &[Template], out: &mut Vec<u8>) -> Result<(), VarError>
+    ensures grown { Grows (out.old.items ++ reference_spelling (call name.now (arguments_of args.now))) out.new.items result }
+    ensures short { OnOk result (length out.new.items ≤ most_text) }
+{
+    match write_call(name, args, out) {
+        Ok(()) => check_length(out),
+        Err(_) => Err(VarError::NoMemory),
+    }
+}
+
+/// The function whose name stands behind `__`.
+fn function_of_name(name: &[u8]) -> Option<Function>
+    ensures { result ≡ function_of_name name.now }
+{
+    if name.starts_with(b"__") {
+        return function_named(&name[2..]);
+    }
+    None
+}
+
+/// The function of a name, where it takes so many arguments.
+fn taking(function: Option<Function>, count: usize) -> Option<Function>
+    ensures { result ≡ option_and_then (taking count) function }
+{
+    match function {
+        Some(function) if function.takes(count) => Some(function),
+        _ => None,
+    }
+}
+
+/// Writes what a variable reference stands for at the end.
+fn write_named<O: Outside>(
+    alloc: Global,
+    name: &Text,
+    vars: &Vars,
+    fns: &mut FnState,
+    outside: &mut O,
+    out: &mut Vec<u8>,
+) -> Result<(), VarError>
+    ensures came { CameTo (O.account outside.old) (and_then (referred (variable name.now) vars.now fns.old) (behind out.old.items)) (O.account outside.new)
+        (λ _. over (expanded (Some out.new.items) fns.new)) (over (expanded None fns.new)) result }
+    ensures later { IsLater fns.old fns.new }
+    ensures short { OnOk result (length out.new.items ≤ most_text) }
+{
+    let named = function_of_name(name.bytes());
+    if named.is_none() {
+        return match vars.get(name.bytes()) {
+            Some(value) => append(value.bytes(), out),
+            None => append_variable(name, out),
+        };
+    }
+    match taking(named, 0) {
+        Some(function) => match value(alloc, function, &[], vars, fns, outside) {
+            Ok(Some(text)) => append(text.bytes(), out),
+            Ok(None) => append_variable(name, out),
+            Err(_) => Err(VarError::NoMemory),
+        },
+        None => append_variable(name, out),
+    }
+}
+
+/// Writes what a call stands for at the end.
+#[cycle(expansion)]
+fn write_called<O: Outside>(
+    alloc: Global,
+    name: &Text,
+    args: &[Template],
+    vars: &Vars,
+    fns: &mut FnState,
+    outside: &mut O,
+    out: &mut Vec<u8>,
+) -> Result<(), VarError>
+    ensures came { CameTo (O.account outside.old) (and_then (referred (call name.now (arguments_of args.now)) vars.now fns.old) (behind out.old.items)) (O.account outside.new)
+        (λ _. over (expanded (Some out.new.items) fns.new)) (over (expanded None fns.new)) result }
+    ensures later { IsLater fns.old fns.new }
+    ensures short { OnOk result (length out.new.items ≤ most_text) }
+{
+    let Some(function) = taking(function_named(name.bytes()), args.len()) else {
+        return append_call(name, args, out);
+    };
+    match argument_texts(alloc, args, vars, fns, outside) {
+        Ok(texts) => match value(alloc, function, &texts, vars, fns, outside) {
+            Ok(Some(text)) => append(text.bytes(), out),
+            Ok(None) => append_call(name, args, out),
+            Err(_) => Err(VarError::NoMemory),
+        },
+        Err(error) => Err(error),
+    }
+}
+
+/// The texts of arguments, from the left.
+#[cycle(expansion)]
+fn argument_texts<O: Outside>(
+    alloc: Global,
+    args: &[Template],
+    vars: &Vars,
+    fns: &mut FnState,
+    outside: &mut O,
+) -> Result<Vec<Text>, VarError>
+    ensures came { CameTo (O.account outside.old) (texts_behind (arguments_of args.now) vars.now [] fns.old) (O.account outside.new)
+        (λ v. over (expanded (Some v.items) fns.new)) (over (expanded None fns.new)) result }
+    ensures later { IsLater fns.old fns.new }
+    ensures short { IfOk result (λ v. All (λ t. length t ≤ most_text) v.items) }
+{
+    let mut texts = Vec::new(alloc);
+    for argument in args {
+        let mut text = Vec::new(alloc);
+        if let Err(error) = write_pieces(alloc, argument, vars, fns, outside, &mut text) {
+            return Err(error);
+        }
+        let Ok(()) = texts.push(Text::of(text)) else {
+            return Err(VarError::NoMemory);
+        };
+    }
+    Ok(texts)
+}
+
+/// Writes what a piece stands for at the end.
+#[cycle(expansion)]
+fn write_piece<O: Outside>(
+    alloc: Global,
+    piece: &Piece,
+    vars: &Vars,
+    fns: &mut FnState,
+    outside: &mut O,
+    out: &mut Vec<u8>,
+) -> Result<(), VarError>
+    ensures came { CameTo (O.account outside.old) (piece_behind piece.now vars.now out.old.items fns.old) (O.account outside.new)
+        (λ _. over (expanded (Some out.new.items) fns.new)) (over (expanded None fns.new)) result }
+    ensures later { IsLater fns.old fns.new }
+    ensures short { OnOk result (length out.new.items ≤ most_text) }
+{
+    match piece {
+        Piece::Text(text) => append(text.bytes(), out),
+        Piece::Var(name) => write_named(alloc, name, vars, fns, outside, out),
+        Piece::Call { name, args } => write_called(alloc, name, args, vars, fns, outside, out),
+    }
+}
+
+/// Writes what the pieces of a template stand for at the end, from the left.
+#[cycle(expansion)]
+fn write_pieces<O: Outside>(
+    alloc: Global,
+    template: &Template,
+    vars: &Vars,
+    fns: &mut FnState,
+    outside: &mut O,
+    out: &mut Vec<u8>,
+) -> Result<(), VarError>
+    requires { length out.old.items ≤ most_text }
+    ensures came { CameTo (O.account outside.old) (pieces_behind template.now vars.now out.old.items fns.old) (O.account outside.new)
+        (λ _. over (expanded (Some out.new.items) fns.new)) (over (expanded None fns.new)) result }
+    ensures later { IsLater fns.old fns.new }
+    ensures short { OnOk result (length out.new.items ≤ most_text) }
+{
+    for piece in &template.pieces {
+        if let Err(error) = write_piece(alloc, piece, vars, fns, outside, out) {
+            return Err(error);
+        }
+    }
+    Ok(())
+}
+
+/// The text that a template stands for: plain text as it is, and each reference replaced by its value, from the left.
+/// A reference without a value stands as it is spelled.
+///
+/// `ValueLimit` comes where the whole text, or an argument of a call, would have more than 65,536 bytes.
+pub fn expand<O: Outside>(
+    alloc: Global,
+    template: &Template,
+    state: &mut UserState,
+    outside: &mut O,
+) -> Result<Text, VarError>
+    // The value, what functions keep, and the outside after it; past the limit what the evaluated part left of both;
+    // and where memory was wanting some rest of the run is left.
+    ensures came { CameTo (O.account outside.old) (expansion template.now state.old.vars state.old.fns) (O.account outside.new)
+        (λ t. over (expanded (Some t) state.new.fns)) (over (expanded None state.new.fns)) result }
+    // After every answer, want of memory included.
+    ensures later { IsLater state.old.fns state.new.fns }
+    ensures vars { state.new.vars ≡ state.old.vars }
+{
+    let mut text = Vec::new(alloc);
+    match write_pieces(
+        alloc,
+        template,
+        &state.vars,
+        &mut state.fns,
+        outside,
+        &mut text,
+    ) {
+        Ok(()) => Ok(Text::of(text)),
+        Err(error) => Err(error),
+    }
+}
