@@ -7,3 +7,10 @@ pub mod ReadsLaws
 pub mod PropsLoop
 pub mod RefusedLaws
 pub mod OwnLaws
+pub mod WrittenLaws
+pub mod TakenLaws
+pub mod FormsAgain
+pub mod EntriesAgain
+pub mod RepliesAgain
+pub mod RowAgain
+pub mod RowsAgain

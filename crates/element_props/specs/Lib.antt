@@ -11,3 +11,5 @@ pub mod Tables
 pub mod Forms
 pub mod Props
 pub mod Written
+pub mod Shown
+pub mod Again

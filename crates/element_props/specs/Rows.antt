@@ -1,5 +1,5 @@
 -- The rows of a type's table: each of its properties, with the form of its value and what stands for it where it is absent.
-use Rattle.std.specs.Prelude.{ℕ, ◌-◌, ◌^◌, ℤ, pos, Bool, true, false, ◌&&◌, nat_le, length, List, [], ◌∷◌, codes}
+use Rattle.std.specs.Prelude.{ℕ, ◌-◌, ◌^◌, ℤ, pos, Bool, true, ◌&&◌, nat_le, length, List, [], ◌∷◌, codes}
 
 -- the form of a property's value
 pub data Form : Type 0 where

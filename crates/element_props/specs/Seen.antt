@@ -1,5 +1,5 @@
 -- What contracts see of a row of the code's rows.
-use Rattle.std.specs.Prelude.{ℕ, List, map}
+use Rattle.std.specs.Prelude.{ℕ, List}
 use Rattle.element_props.specs.declared.rows.Row.{Row}
 use Rattle.element_props.specs.declared.rows.Form.{Form}
 use Rattle.element_props.specs.declared.rows.Form.TheVariants as forms

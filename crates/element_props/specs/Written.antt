@@ -1,7 +1,8 @@
 -- The properties of an element as they are written: those that are not what stands for them when absent, in the order of their rows.
-use Rattle.std.specs.Prelude.{ℕ, ℤ, pos, negsuc, Bool, true, false, not, ◌&&◌, List, [], ◌∷◌, Option, Some, None, if◌then◌else◌, nat_eq, bytes_eq, slice_get, unwrap_or, codes}
+use Rattle.std.specs.Prelude.{ℕ, ℤ, pos, negsuc, Bool, true, false, not, List, [], ◌∷◌, Option, Some, None, if◌then◌else◌, nat_eq, bytes_eq, slice_get, unwrap_or, codes}
+use Rattle.std.specs.Str.Lossy.{utf8_lossy}
 use Rattle.jm_base.specs.declared.types.ScriptReply.{ScriptReply}
-use Rattle.serde_json.specs.Data.{Data, null, boolean, number, unsigned, string, array, object, Items, no_items, item, Members, no_members, member}
+use Rattle.serde_json.specs.Data.{Data, null, boolean, number, unsigned, string, array, object, Items, no_items, item, Members, no_members, put}
 use Rattle.serde_json.specs.Find.{of_integer}
 use Rattle.template_text.specs.Pieces.{spelling}
 use Rattle.element_props.specs.declared.prop.Prop.{Prop}
@@ -9,10 +10,14 @@ use Rattle.element_props.specs.declared.prop.Prop.TheVariants.{Absent, Template,
 use Rattle.element_props.specs.declared.prop.Pair.{Pair}
 use Rattle.element_props.specs.Rows.{Form, choice, Presence, required, optional, text_default, number_default, truth_default, first_choice, no_pairs, Row}
 
--- a member, where there is a value for it
+-- A text as JSON, which is UTF-8: the text itself where it is UTF-8, and else with U+FFFD for each sequence that isn't.
+abbrev pub text_data : List ℕ → Data
+text_data s = string (utf8_lossy s)
+
+-- with a member in its place by the byte order of names, where there is a value for it
 abbrev pub with_entry : List ℕ → Option Data → Members → Members
 with_entry name None ms = ms
-with_entry name (Some d) ms = member name d ms
+with_entry name (Some d) ms = put name d ms
 
 abbrev pub unless : Bool → Data → Option Data
 unless b d = if b then None else Some d
@@ -24,45 +29,44 @@ same_truth false b = not b
 -- exactly the keys of a reply whose value differs from its default, in byte order
 abbrev pub reply_members : ScriptReply → Members
 reply_members r =
-    with_entry (codes "body") (unless (bytes_eq r.body []) (string r.body))
+    with_entry (codes "body") (unless (bytes_eq r.body []) (text_data r.body))
     (with_entry (codes "code") (unless (nat_eq r.code 200) (number (unsigned r.code)))
     (with_entry (codes "echo") (unless (not r.echo) (boolean true))
     (with_entry (codes "fault") (unless (not r.fault) (boolean true))
-    (with_entry (codes "headers") (unless (bytes_eq r.headers []) (string r.headers))
-    (with_entry (codes "message") (unless (bytes_eq r.message (codes "OK")) (string r.message))
+    (with_entry (codes "headers") (unless (bytes_eq r.headers []) (text_data r.headers))
+    (with_entry (codes "message") (unless (bytes_eq r.message (codes "OK")) (text_data r.message))
     (with_entry (codes "ms") (unless (nat_eq r.ms 0) (number (unsigned r.ms)))
     (with_entry (codes "null") (unless (not r.null) (boolean true)) no_members)))))))
 
-abbrev pub replies_data : List ScriptReply → Items
-replies_data [] = no_items
-replies_data (r ∷ rs) = item (object (reply_members r)) (replies_data rs)
-
 -- a pair is written as the list of its name and its value
-abbrev pub pairs_data : List Pair → Items
-pairs_data [] = no_items
-pairs_data (p ∷ ps) = item (array (item (string p.name) (item (string (spelling p.value)) no_items))) (pairs_data ps)
+abbrev pub pair_data : Pair → Data
+pair_data p = array (item (text_data p.name) (item (text_data (spelling p.value)) no_items))
 
-abbrev pub texts_data : List (List ℕ) → Items
-texts_data [] = no_items
-texts_data (s ∷ ss) = item (string s) (texts_data ss)
+abbrev pub reply_data : ScriptReply → Data
+reply_data r = object (reply_members r)
+
+-- a list, each value of which is written so
+abbrev pub items_by : {A : Type 0} → (A → Data) → List A → Items
+items_by f [] = no_items
+items_by f (x ∷ xs) = item (f x) (items_by f xs)
 
 abbrev pub words_of : Form → List (List ℕ)
 words_of (choice words) = words
 words_of form = []
 
--- a property's value as JSON, a template as its spelling
+-- a property's value as JSON, a template as its spelling, and a choice as its word
 abbrev pub value_data : Form → Prop → Data
 value_data form Absent = null
-value_data form (Template ps) = string (spelling ps)
-value_data form (Text s) = string s
+value_data form (Template ps) = text_data (spelling ps)
+value_data form (Text s) = text_data s
 value_data form (Number z) = number (of_integer z)
 value_data form (Truth b) = boolean b
 value_data form (Choice n) = string (unwrap_or (slice_get (words_of form) n) [])
-value_data form (Pattern s) = string s
-value_data form (Pairs ps) = array (pairs_data ps)
-value_data form (Replies rs) = array (replies_data rs)
-value_data form (Texts ss) = array (texts_data ss)
-value_data form (Patterns ss regexes whole) = array (texts_data ss)
+value_data form (Pattern s) = text_data s
+value_data form (Pairs ps) = array (items_by pair_data ps)
+value_data form (Replies rs) = array (items_by reply_data rs)
+value_data form (Texts ss) = array (items_by text_data ss)
+value_data form (Patterns ss regexes whole) = array (items_by text_data ss)
 
 abbrev pub int_eq : ℤ → ℤ → Bool
 int_eq (pos m) (pos n) = nat_eq m n

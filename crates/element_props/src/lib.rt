@@ -2,6 +2,7 @@
 //! are read by them, and how they are written.
 #![tactic(auto)]
 
+mod again;
 mod asking;
 mod conditions;
 mod error;
@@ -14,7 +15,9 @@ mod regex_patterns;
 mod replies;
 mod rows;
 mod tables;
+mod written;
 
+pub use again::written_is_read_again;
 pub use conditions::bad_condition;
 pub use error::{BuildError, PatternFault, What};
 pub use patterns::{MakeError, Pattern, Patterns};
@@ -23,6 +26,7 @@ pub use prop::{Pair, Prop};
 pub use props::own_properties;
 pub use regex_patterns::RegexPatterns;
 pub use rows::{Form, Presence, Row, Words, texts};
+pub use written::{Shown, written_members};
 
 #[cfg(test)]
 mod tests;

@@ -9,6 +9,7 @@ use crate::prop::Prop;
 use crate::props::own_properties;
 use crate::regex_patterns::RegexPatterns;
 use crate::rows::{Form, Presence, Row, Words};
+use crate::written::{Shown, written_members};
 use jm_base::{Items, Text};
 use serde_json::Value;
 use std::alloc::Global;
@@ -639,6 +640,153 @@ fn a_maker_refuses_the_calls_that_it_was_told_to(rt: HostRuntime) -> Result<(), 
         Form::Pattern,
         "{\"p\": \"a\"}",
         size,
+    );
+    Ok(())
+}
+
+/// A table in which every kind of default stands.
+fn many_forms() -> [Row; 13]
+    ensures { are_short (map row_seen result) ≡ true }
+{
+    [
+        Row {
+            name: "a",
+            form: Form::Template,
+            presence: Presence::Text("1"),
+        },
+        Row {
+            name: "b",
+            form: Form::Plain,
+            presence: Presence::Optional,
+        },
+        Row {
+            name: "c",
+            form: Form::Choice(Words::Method),
+            presence: Presence::First,
+        },
+        Row {
+            name: "d",
+            form: Form::Flag,
+            presence: Presence::Truth(false),
+        },
+        Row {
+            name: "e",
+            form: Form::Pairs,
+            presence: Presence::NoPairs,
+        },
+        Row {
+            name: "f",
+            form: Form::Replies,
+            presence: Presence::Required,
+        },
+        Row {
+            name: "maximum",
+            form: Form::Whole(0, i64::MAX),
+            presence: Presence::Number(i64::MAX),
+        },
+        Row {
+            name: "names",
+            form: Form::Texts,
+            presence: Presence::Required,
+        },
+        Row {
+            name: "pattern",
+            form: Form::Pattern,
+            presence: Presence::Required,
+        },
+        Row {
+            name: "patterns",
+            form: Form::TestPatterns,
+            presence: Presence::Required,
+        },
+        Row {
+            name: "start",
+            form: Form::UpTo("maximum"),
+            presence: Presence::Number(0),
+        },
+        Row {
+            name: "table",
+            form: Form::Csv("names"),
+            presence: Presence::Required,
+        },
+        Row {
+            name: "test",
+            form: Form::Choice(Words::Test),
+            presence: Presence::Required,
+        },
+    ]
+}
+
+fn shown(prop: &Prop) -> Shown<'_> {
+    match prop {
+        Prop::Absent => Shown::Absent,
+        Prop::Template(template) => Shown::Template(template),
+        Prop::Text(text) => Shown::Text(text),
+        Prop::Number(n) => Shown::Number(*n),
+        Prop::Truth(truth) => Shown::Truth(*truth),
+        Prop::Choice(place) => Shown::Choice(*place),
+        Prop::Pattern(pattern) => Shown::Pattern(pattern),
+        Prop::Pairs(pairs) => Shown::Pairs(pairs.as_slice()),
+        Prop::Replies(replies) => Shown::Replies(replies.as_slice()),
+        Prop::Texts(texts) => Shown::Texts(texts.as_slice()),
+        Prop::Patterns {
+            texts,
+            regexes,
+            whole_regexes,
+        } => Shown::Patterns {
+            texts: texts.as_slice(),
+            regexes: regexes.as_slice(),
+            whole_regexes: whole_regexes.as_slice(),
+        },
+    }
+}
+
+fn rewritten(alloc: Global, json: &str) -> Result<String, Fail> {
+    let value = Value::from_str(alloc, json)?;
+    let rows = many_forms();
+    let mut patterns = RegexPatterns::new(Vec::new(alloc));
+    let props = own_properties(alloc, &rows, &[], &value, &mut patterns)?;
+    let mut values = Vec::new(alloc);
+    for prop in &props {
+        values.push(shown(prop))?;
+    }
+    let members = written_members(alloc, &rows, &values)?;
+    let text = Value::Object(members).to_string(alloc)?;
+    Ok(text)
+}
+
+#[test]
+fn what_differs_from_its_default_is_written(rt: HostRuntime) -> Result<(), Fail> {
+    let alloc = rt.alloc();
+    let defaults =
+        "{\"a\":1,\"c\":\"GET\",\"d\":false,\"e\":[],\"f\":[{\"body\":\"\",\"code\":200,\"echo\":false,\"fault\":false,\"headers\":\"\",\"message\":\"OK\",\"ms\":0,\"null\":false}],\"maximum\":9223372036854775807,\"names\":[\"x\"],\"pattern\":\"a\",\"patterns\":[\"b\"],\"start\":0,\"table\":\"1\",\"test\":\"equals\"}";
+    let least =
+        "{\"f\":[{}],\"names\":[\"x\"],\"pattern\":\"a\",\"patterns\":[\"b\"],\"table\":\"1\",\"test\":\"equals\"}";
+    let others =
+        "{\"test\":\"substring\",\"table\":\"1,2\",\"start\":9,\"patterns\":[\"${\"],\"pattern\":\"a+\",\"names\":[\"x\",\"y\"],\"maximum\":9,\"f\":[{\"null\":true,\"ms\":5,\"message\":\"no\",\"headers\":\"h\",\"fault\":true,\"echo\":true,\"code\":0,\"body\":\"b\"}],\"e\":[[\"n\",7],[\"\",\"${y}\"]],\"d\":true,\"c\":\"PUT\",\"b\":\"\",\"a\":-1}";
+    let all =
+        "{\"a\":\"-1\",\"b\":\"\",\"c\":\"PUT\",\"d\":true,\"e\":[[\"n\",\"7\"],[\"\",\"${y}\"]],\"f\":[{\"body\":\"b\",\"code\":0,\"echo\":true,\"fault\":true,\"headers\":\"h\",\"message\":\"no\",\"ms\":5,\"null\":true}],\"maximum\":9,\"names\":[\"x\",\"y\"],\"pattern\":\"a+\",\"patterns\":[\"${\"],\"start\":9,\"table\":\"1,2\",\"test\":\"substring\"}";
+    for (given, wanted) in [(defaults, least), (least, least), (others, all), (all, all)] {
+        assert_eq!(rt; rewritten(alloc, given)?.as_str(), wanted);
+    }
+    Ok(())
+}
+
+#[test]
+fn a_text_that_is_not_utf8_is_written_with_replacement_characters(
+    rt: HostRuntime,
+) -> Result<(), Fail> {
+    let alloc = rt.alloc();
+    let text = Text::new(alloc, b"a\xff")?;
+    let rows = [Row {
+        name: "p",
+        form: Form::Plain,
+        presence: Presence::Required,
+    }];
+    let members = written_members(alloc, &rows, &[Shown::Text(&text)])?;
+    assert_eq!(rt;
+        Value::Object(members).to_string(alloc)?.as_str(),
+        "{\"p\":\"a\u{fffd}\"}"
     );
     Ok(())
 }

@@ -1,214 +1,283 @@
--- A plan that was read has a group, and nests as deep as its reading went.
-use Rattle.std.proofs.Common.{◌≡◌, ℕ, zero, suc, ◌+◌, ◌≤◌, Bool, true, false, List, [], ◌∷◌, ◌++◌, length, Option, Some, None, cond, nat_lt, nat_le, ◌<◌, ◌==◌, bytes_eq, is_none, codes, map, refl, sym, ap, ◌∙◌, subst, append_assoc, arith, length-append}
-use Rattle.std.specs.List.{AllByRecursion, slice_get}
-use Rattle.serde_json.specs.Data.{Data, Items, no_items, item, Members}
-use Rattle.serde_json.specs.Events.{items_len}
-use Rattle.serde_json.specs.Find.{as_str, as_array, get_member}
-use Rattle.element_tree.specs.declared.form.Place.{Place}
-use Rattle.element_tree.specs.declared.form.Place.TheVariants.{Top, BelowRoot, BelowGroup}
-use Rattle.element_tree.specs.declared.kinds.Element.{Element}
+-- What holds of every plan that was read.
+use Rattle.std.proofs.Common.{◌≡◌, ℕ, zero, suc, ◌+◌, ◌-◌, ◌<◌, ◌≤◌, Bool, true, false, not, ◌&&◌, ◌||◌, List, [], ◌∷◌, ◌++◌, length, Option, Some, None, Result, Ok, Err, refl, sym, ap, ap₂, ◌∙◌, subst, true≢false, arith, append_assoc, length-append, cond, nat_lt, nat_le, slice_get, IsTrue, is_some}
+use Rattle.std.specs.List.{AllByRecursion, list_any}
+use Rattle.std.proofs.lemmas.List.{append-nil}
+use Rattle.std.proofs.lemmas.Bool.Decides.{nat_tests}
+use Rattle.plan_json.specs.Shape.{Raw}
+use Rattle.element_props.specs.Reads.{Reads, over, ◌>>=◌, refuse_if, outcome}
 use Rattle.element_tree.specs.declared.kinds.Kind.{Kind}
-use Rattle.element_tree.specs.declared.kinds.Kind.TheVariants.{TestPlan, ThreadGroup}
+use Rattle.element_tree.specs.declared.kinds.Kind.TheVariants as kinds
+use Rattle.element_tree.specs.declared.kinds.Element.{Element}
 use Rattle.element_tree.specs.declared.kinds.Loops.{Loops}
-use Rattle.element_tree.specs.declared.kinds.Loops.TheVariants.{Times}
-use Rattle.element_tree.specs.Form.{object_of, element_keys, required, at_key, text_within, loops_in, kind_of, root_kind, group_kind, props_of, may_have, Node, node_of, place_below}
-use Rattle.element_tree.specs.Reading.{Below, below, elements_of, plan_of}
-use Rattle.element_tree.specs.declared.error.FirstError.{FirstError}
-use Rattle.element_tree.specs.declared.error.FirstError.TheVariants as errors
-use Rattle.element_tree.specs.Steps.{Refuses}
-use Rattle.element_tree.specs.Tree.{Nests, IsGroup, IsWellKept, labels_of, label_of}
-use Rattle.element_tree.proofs.WalkLaws.{bind_some, cond_some}
+use Rattle.element_tree.specs.declared.kinds.OnError.{OnError}
+use Rattle.element_tree.specs.declared.types.Class.{Class}
+use Rattle.element_tree.specs.declared.types.Class.TheVariants as classes
+use Rattle.element_tree.specs.declared.threads.Thread.{Thread}
+use Rattle.element_tree.specs.Types.{type_of, class_of, may_stand, is_root, is_group, is_section}
+use Rattle.element_tree.specs.Names.{labels_of, locks_of}
+use Rattle.element_tree.specs.Threads.{threads_in, threads_from, threads_with, group_threads, group_size, is_group_element}
+use Rattle.element_tree.specs.Forms.{HasForms}
+use Rattle.element_tree.specs.Tree.{Tree, Nests, Apart, IsBelow, IsChild, Stands, IsRoot, IsGroup, IsPlan, AreTables, IsWellKept}
+use Rattle.element_tree.specs.Walk.{root_spot, version_of, props_of, version_in, version_in_kind, walked, counted, tree_of, node, IsWalked}
+use Rattle.element_tree.proofs.Grown.{Grown, grown, Growns, size, sizes, numbers, flat, flats, Stand, stand_of, stand_below, WereRead, AllRead}
+use Rattle.element_tree.proofs.GrownLaws.{bind_ok, tree_read, flat_size}
+use Rattle.element_tree.proofs.FormsLaws.{EachHasForms, forms_one, has_thread}
+use Rattle.element_tree.proofs.StandLaws.{Good, Here, IsAmong, Inner, good_one, stands_one, nests, apart, all_map, get_mid, same_some, top, top_there, not_false, refuse_ok, at_most}
 
-cond_of : {A : Type 0} (b : Bool) (o : Option A) (y : A) → cond b o None ≡ Some y → (b ≡ true) × (o ≡ Some y)
-cond_of true o y h = (refl, h)
-cond_of false o y h = cc
+-- ---- the root
 
-some_is : {A : Type 0} (x y : A) → Some x ≡ Some y → x ≡ y
-some_is x y h = cc
+root_kind : (kind : Kind) → is_root (class_of kind) ≡ true → kind ≡ kinds.TestPlan (version_in_kind kind)
+root_kind (kinds.TestPlan version) h = refl
+root_kind kind h = absurd (true≢false (sym h))
 
-abbrev node : Node → ℕ → List ℕ → Element
-node n parent numbers = record { name = n.name; kind = n.kind; parent = parent; children = numbers }
+group_kind : (kind : Kind) → is_some (group_size kind) ≡ true → (loops : Loops) × (on_error : OnError) × (ramp_ms : ℕ) × (threads : ℕ) × (kind ≡ kinds.ThreadGroup loops on_error ramp_ms threads)
+group_kind (kinds.ThreadGroup loops on_error ramp_ms threads) h = (loops, on_error, ramp_ms, threads, refl)
+group_kind kind h = absurd (true≢false (sym h))
 
--- ---- one element
+-- ---- what was read, in one place
 
--- an element that was read, with what was read below it
-record IsRead (depth : ℕ) (place : Place) (parent number : ℕ) (d : Data) (es : List Element) : Type 0 where
-  own : Node
-  under : Below
-  here : node_of place d ≡ Some own
-  rest : below (elements_of depth (place_below place) number) (number + 1) own.children ≡ Some under
-  all : record { name = own.name; kind = own.kind; parent = parent; children = under.numbers } ∷ under.elements ≡ es
+-- the elements of a tree, each where it stands
+pub record IsRead (es : List Element) : Type 0 where
+  pub tree : Grown
+  pub stand : Stand
+  pub above : stand.above ≡ None
+  pub depth : stand.depth ≡ 1
+  pub inside : stand.inside ≡ false
+  pub flat_ : es ≡ flat 0 0 tree
+  pub read : WereRead stand tree
 
-is_read : (depth : ℕ) (place : Place) (parent number : ℕ) (d : Data) (es : List Element) → elements_of (suc depth) place parent number d ≡ Some es → IsRead depth place parent number d es
-unfolding elements_of
-is_read depth place parent number d es h =
-    let low = cond_of (nat_lt number 4096) _ es h in
-    let own = bind_some (node_of place d) _ es low.1 in
-    let under = bind_some (below (elements_of depth (place_below place) number) (number + 1) own.0.children) _ es own.2 in
-    record { own = own.0; under = under.0; here = own.1; rest = under.1; all = some_is _ es under.2 }
+pub is_read : (tree : Raw) (es : List Element) → outcome (walked tree) ≡ Ok es → IsRead es
+unfolding walked
+is_read tree es h =
+    let spot = root_spot (version_of (props_of tree)) in
+    let t = tree_read tree spot 0 es h in
+    record { tree = t.tree; stand = stand_of spot; above = refl; depth = refl; inside = refl; flat_ = t.flat_; read = t.read }
 
--- ---- nesting
+module _ (es : List Element) (r : IsRead es) where
+  whole : es ≡ [] ++ (flat 0 0 r.tree ++ [])
+  whole = r.flat_ ∙ sym (append-nil (flat 0 0 r.tree))
 
-moved : (depth : ℕ) (all : List Element) (b c : Below) (front after : List Element) → c ≡ b → front ++ (c.elements ++ after) ≡ all → AllByRecursion (Nests depth all) c.numbers → AllByRecursion (Nests depth (front ++ (b.elements ++ after))) b.numbers
-moved depth all b c front after e f h = rw (← e, f) h
+  good : Good 32 r.stand 0 es 0
+  good = good_one r.tree r.stand 0 0 32 es [] [] r.read whole refl (omega (arith, r.depth))
 
-nests_below : (depth : ℕ) (subtree : ℕ → Data → Option (List Element)) → ((n : ℕ) (d : Data) (xs front after : List Element) → subtree n d ≡ Some xs → length front ≡ n → Nests depth (front ++ (xs ++ after)) n)
-    → (ds : Items) (n : ℕ) (b : Below) (front after : List Element) → below subtree n ds ≡ Some b → length front ≡ n → AllByRecursion (Nests depth (front ++ (b.elements ++ after))) b.numbers
-nests_below depth subtree one no_items n b front after h len = moved depth _ b (record { numbers = []; elements = [] }) front after (some_is _ b h) refl tt
-nests_below depth subtree one (item d ds) n b front after h len =
-    let first = bind_some (subtree n d) _ b h in
-    let rest = bind_some (below subtree (n + length first.0) ds) _ b first.2 in
-    let longer : length (front ++ first.0) ≡ n + length first.0 = length-append front first.0 ∙ ap (λ (m : ℕ). m + length first.0) len in
-    let later = nests_below depth subtree one ds (n + length first.0) rest.0 (front ++ first.0) after rest.1 longer in
-    let all = front ++ (first.0 ++ (rest.0.elements ++ after)) in
-    let same : front ++ ((first.0 ++ rest.0.elements) ++ after) ≡ all = ap (λ (zs : List Element). front ++ zs) (append_assoc first.0 rest.0.elements after) in
-    let behind : AllByRecursion (Nests depth all) rest.0.numbers = rw (append_assoc front first.0 (rest.0.elements ++ after)) at later in
-    moved depth all b (record { numbers = n ∷ rest.0.numbers; elements = first.0 ++ rest.0.elements }) front after (some_is _ b rest.2) same
-    (one n d first.0 front (rest.0.elements ++ after) first.1 len, behind)
+  pub nests_all : Nests 32 es 0
+  nests_all = nests 32 r.stand 0 es 0 good
 
-get_middle : (front after : List Element) (e : Element) (n : ℕ) → length front ≡ n → slice_get (front ++ e ∷ after) n ≡ Some e
-get_middle [] after e n h = rw (← h) refl
-get_middle (x ∷ front) after e n h = rw (← h) (get_middle front after e (length front) refl)
+  pub apart_all : Apart 32 false es 0
+  apart_all = let P : Bool → Type 0 = λ b. Apart 32 b es 0 in subst P r.inside (apart 32 r.stand 0 es 0 good)
 
-pub nests : (depth : ℕ) (place : Place) (parent n : ℕ) (d : Data) (xs front after : List Element) → elements_of depth place parent n d ≡ Some xs → length front ≡ n → Nests depth (front ++ (xs ++ after)) n
-unfolding Nests elements_of
-nests zero place parent n d xs front after h len = cc
-nests (suc depth) place parent n d xs front after h len =
-    let r = is_read depth place parent n d xs h in
-    let first = node r.own parent r.under.numbers in
-    let longer : length (front ++ first ∷ []) ≡ n + 1 = length-append front (first ∷ []) ∙ ap (λ (m : ℕ). m + 1) len in
-    let ih = nests_below depth (elements_of depth (place_below place) n) (λ m e ys f a k l. nests depth (place_below place) n m e ys f a k l) r.own.children (n + 1) r.under (front ++ first ∷ []) after r.rest longer in
-    let there : AllByRecursion (Nests depth (front ++ first ∷ (r.under.elements ++ after))) r.under.numbers = rw (append_assoc front (first ∷ []) (r.under.elements ++ after)) at ih in
-    rw (← r.all) (first, get_middle front (r.under.elements ++ after) first n len, there)
+  within : (i : ℕ) (e : Element) → slice_get es i ≡ Some e → i < size r.tree
+  within i e h = let n = ap length r.flat_ ∙ flat_size 0 0 r.tree in let m = get_within es i e h in omega (arith, n, m) where
+    get_within : (xs : List Element) (i : ℕ) (e : Element) → slice_get xs i ≡ Some e → i < length xs
+    get_within [] i e h = cc
+    get_within (x ∷ xs) zero e h = omega arith
+    get_within (x ∷ xs) (suc i) e h = let k = get_within xs i e h in omega (arith, k)
 
--- ---- the root and the group
+  inner : (i : ℕ) (e : Element) → slice_get es i ≡ Some e → Inner es 0 i e
+  inner i e h = stands_one r.tree r.stand 0 0 32 es [] [] r.read whole refl (omega (arith, r.depth)) i e h (omega arith) (let k = within i e h in omega (arith, k)) (nat_lt 0 i) refl
 
-record Parts (place : Place) (n : Node) : Type 0 where
-  members : Members
-  type_ : List ℕ
-  kind : kind_of place type_ members ≡ Some n.kind
-  fits : may_have n.kind n.children ≡ true
+  pub stands : (i : ℕ) (e : Element) → slice_get es i ≡ Some e → Stands es i e
+  stands i e h = let s = inner i e h in record { children = s.children; parent = s.parent }
 
-parts : (place : Place) (d : Data) (n : Node) → node_of place d ≡ Some n → Parts place n
-unfolding node_of
-parts place d n h =
-    let found = bind_some (object_of element_keys d) _ n h in
-    let text = bind_some (required (codes "type") as_str found.0) _ n found.2 in
-    let name = bind_some (at_key (codes "name") (text_within 256) text.0 found.0) _ n text.2 in
-    let children = bind_some (at_key (codes "children") as_array no_items found.0) _ n name.2 in
-    let own = bind_some (kind_of place text.0 found.0) _ n children.2 in
-    let last = cond_some (may_have own.0 children.0) _ n own.2 in
+-- the root that stands at number 0
+record RootHere (es : List Element) : Type 0 where
+  element : Element
+  there : slice_get es 0 ≡ Some element
+  parent : element.parent ≡ 0
+  kind : element.kind ≡ kinds.TestPlan (version_in es)
+  below : (s : Stand) × AllByRecursion (λ c. (0 < c) × Good 31 s 0 es c) element.children
+  free : below.0.inside ≡ false
+
+first_version : (es : List Element) (e : Element) → slice_get es 0 ≡ Some e → version_in es ≡ version_in_kind e.kind
+first_version [] e h = cc
+first_version (x ∷ es) e h = let same : x ≡ e = cc in ap (λ (y : Element). version_in_kind y.kind) same
+
+no_section : (b : Bool) (kind : Kind) (version : ℕ) → b ≡ false → kind ≡ kinds.TestPlan version → (b || is_section kind) ≡ false
+no_section b kind version h k = rw (h, k) refl
+
+root_here : (es : List Element) (r : IsRead es) → RootHere es
+unfolding Good
+root_here es r =
+    let g = good es r in
+    let e = g.0 in
+    let place : is_root (class_of e.kind) ≡ true = (let P : Option Class → Type 0 = λ o. may_stand o (class_of e.kind) ≡ true in subst P r.above g.1.place) in
+    let kind = root_kind e.kind place in
+    let same = first_version es e g.1.there in
     record {
-      members = found.0;
-      type_ = text.0;
-      kind = own.1 ∙ ap (λ (m : Node). Some m.kind) last.1;
-      fits = ap (λ (m : Node). may_have m.kind m.children) (sym last.1) ∙ last.0;
+      element = e;
+      there = g.1.there;
+      parent = g.1.parent_;
+      kind = kind ∙ ap kinds.TestPlan (sym same);
+      below = (stand_below r.stand e.kind, g.2);
+      free = no_section r.stand.inside e.kind _ r.inside kind;
     }
 
-top_kind : (text : List ℕ) (ms : Members) (k : Kind) → kind_of Top text ms ≡ Some k → k ≡ TestPlan
-top_kind text ms k h =
-    let a = cond_of (bytes_eq text (codes "TestPlan")) (root_kind ms) k h in
-    let b = cond_some (is_none (get_member (codes "props") ms)) TestPlan k a.1 in
-    sym b.1
+-- ---- groups
 
-group_loops : (text : List ℕ) (ms : Members) (k : Kind) → kind_of BelowRoot text ms ≡ Some k → (l : Loops) × (k ≡ ThreadGroup l)
-group_loops text ms k h =
-    let a = cond_of (bytes_eq text (codes "ThreadGroup")) (group_kind ms) k h in
-    let props = bind_some (props_of (codes "loops" ∷ []) ms) _ k a.1 in
-    let loops = bind_some (at_key (codes "loops") loops_in (Times 1) props.0) _ k props.2 in
-    (loops.0, sym (some_is _ k loops.2))
+-- the element of this number is a thread group
+abbrev pub IsGroupAt : List Element → ℕ → Type 0
+IsGroupAt es n = (e : Element) × (slice_get es n ≡ Some e) × (is_group_element e ≡ true)
 
-first_child : (ds : Items) → (items_len ds == 1) ≡ true → (d : Data) × (rest : Items) × (ds ≡ item d rest)
-first_child no_items h = cc
-first_child (item d ds) h = (d, ds, refl)
+all_append : {A : Type 0} (P : A → Type 0) (xs ys : List A) → AllByRecursion P xs → AllByRecursion P ys → AllByRecursion P (xs ++ ys)
+all_append P [] ys h k = k
+all_append P (x ∷ xs) ys h k = (h.0, all_append P xs ys h.1 k)
 
--- the group below a root, whose children nest at most this deep
-pub record Group (depth : ℕ) (es : List Element) : Type 0 where
-  pub element : Element
-  pub loops : Loops
-  pub there : slice_get es 1 ≡ Some element
-  pub kind : element.kind ≡ ThreadGroup loops
-  pub nests : AllByRecursion (Nests depth es) element.children
+all_get : {A : Type 0} (P : A → Type 0) (xs : List A) (i : ℕ) (x : A) → AllByRecursion P xs → slice_get xs i ≡ Some x → P x
+all_get P [] i x h k = cc
+all_get P (y ∷ xs) zero x h k = let same : y ≡ x = cc in subst P same h.0
+all_get P (y ∷ xs) (suc i) x h k = all_get P xs i x h.1 k
 
--- a root, its first child, and what comes behind that child
-record Root (depth : ℕ) (es : List Element) : Type 0 where
-  root : Element
-  child : Data
-  first : List Element
-  rest : List Element
-  below : elements_of (suc depth) BelowRoot 0 1 child ≡ Some first
-  all : root ∷ (first ++ rest) ≡ es
+group_threads_all : (P : ℕ → Type 0) (element group n : ℕ) → P element → AllByRecursion (λ (t : Thread). P t.element) (group_threads element group n)
+group_threads_all P element group zero h = tt
+group_threads_all P element group (suc n) h = all_append (λ (t : Thread). P t.element) (group_threads element group n) _ (group_threads_all P element group n h) (h, tt)
 
-opened_root : (depth : ℕ) (own : Node) (under : Below) (ds : Items) (d : Data) (es : List Element) → below (elements_of (suc depth) BelowRoot 0) 1 (item d ds) ≡ Some under → node own 0 under.numbers ∷ under.elements ≡ es → Root depth es
-opened_root depth own under ds d es h all =
-    let first = bind_some (elements_of (suc depth) BelowRoot 0 1 d) _ under h in
-    let rest = bind_some (below (elements_of (suc depth) BelowRoot 0) (1 + length first.0) ds) _ under first.2 in
-    let same : first.0 ++ rest.0.elements ≡ under.elements = ap (λ (b : Below). b.elements) (some_is _ under rest.2) in
-    record { root = node own 0 under.numbers; child = d; first = first.0; rest = rest.0.elements; below = first.1; all = ap (λ (ys : List Element). node own 0 under.numbers ∷ ys) same ∙ all }
+threads_step : (P : ℕ → Type 0) (base g : ℕ) (o : Option ℕ) (later : ℕ → List Thread) → (is_some o ≡ true → P base) → ((h : ℕ) → AllByRecursion (λ (t : Thread). P t.element) (later h))
+    → AllByRecursion (λ (t : Thread). P t.element) (threads_with base g o later)
+threads_step P base g None later here rest = rest g
+threads_step P base g (Some n) later here rest = all_append (λ (t : Thread). P t.element) (group_threads base g n) (later (g + 1)) (group_threads_all P base g n (here refl)) (rest (g + 1))
 
-is_root : (depth : ℕ) (d : Data) (es : List Element) → elements_of (suc (suc depth)) Top 0 0 d ≡ Some es → Root depth es
-is_root depth d es h =
-    let top = is_read (suc depth) Top 0 0 d es h in
-    let p = parts Top d top.own top.here in
-    let only = ap (λ (k : Kind). may_have k top.own.children) (sym (top_kind p.type_ p.members top.own.kind p.kind)) ∙ p.fits in
-    let child = first_child top.own.children only in
-    opened_root depth top.own top.under child.1 child.0 es (ap (below (elements_of (suc depth) BelowRoot 0) 1) (sym child.2) ∙ top.rest) top.all
+threads_all : (es all front : List Element) (base g : ℕ) → all ≡ front ++ es → length front ≡ base → AllByRecursion (λ (t : Thread). IsGroupAt all t.element) (threads_from base g es)
+threads_all [] all front base g is len = tt
+threads_all (e ∷ es) all front base g is len =
+    threads_step (IsGroupAt all) base g (group_size e.kind) (λ h. threads_from (base + 1) h es) (λ some. (e, rw is (let k = get_mid front e es in rw len at k), some))
+    (λ h. threads_all es all (front ++ e ∷ []) (base + 1) h (is ∙ sym (append_assoc front (e ∷ []) es)) (length-append front (e ∷ []) ∙ ap (λ (m : ℕ). m + 1) len))
 
-group_below : (depth : ℕ) (d : Data) (root : Element) (first rest : List Element) → elements_of (suc depth) BelowRoot 0 1 d ≡ Some first → Group depth (root ∷ (first ++ rest))
-group_below depth d root first rest h =
-    let group = is_read depth BelowRoot 0 1 d first h in
-    let p = parts BelowRoot d group.own group.here in
-    let kind = group_loops p.type_ p.members group.own.kind p.kind in
-    let own = node group.own 0 group.under.numbers in
-    let inner = nests_below depth (elements_of depth BelowGroup 1) (λ m e ys f a k l. nests depth BelowGroup 1 m e ys f a k l) group.own.children 2 group.under (root ∷ own ∷ []) rest group.rest refl in
-    let P : List Element → Type 0 = λ ys. Group depth (root ∷ (ys ++ rest)) in
-    subst P group.all (record { element = own; loops = kind.0; there = refl; kind = kind.1; nests = inner })
+pub thread_group : (es : List Element) (thread : ℕ) (t : Thread) → slice_get (threads_in es) thread ≡ Some t → IsGroupAt es t.element
+unfolding threads_in
+thread_group es thread t h = all_get (λ (t : Thread). IsGroupAt es t.element) (threads_from 0 1 es) thread t (threads_all es es [] 0 1 refl refl) h
 
-pub has_group : (depth : ℕ) (d : Data) (es : List Element) → elements_of (suc (suc depth)) Top 0 0 d ≡ Some es → Group depth es
-has_group depth d es h =
-    let r = is_root depth d es h in
-    let P : List Element → Type 0 = λ xs. Group depth xs in
-    subst P r.all (group_below depth r.child r.root r.first r.rest r.below)
+group_above : (above : Class) (kind : Kind) → IsTrue (may_stand (Some above) (class_of kind)) → is_some (group_size kind) ≡ true → is_root above ≡ true
+group_above above (kinds.ThreadGroup loops on_error ramp_ms threads) h some = h
+group_above above kind h some = absurd (true≢false (sym some))
+
+no_root_below : (above : Class) (kind : Kind) → IsTrue (may_stand (Some above) (class_of kind)) → is_root (class_of kind) ≡ true → ⊥
+no_root_below above kind h k = let f : false ≡ true = rw k at h in true≢false (sym f)
+
+is_first : (n : ℕ) → nat_lt 0 n ≡ false → n ≡ 0
+is_first n h = grind (arith, nat_tests)
+
+is_later : (n : ℕ) → nat_lt 0 n ≡ true → 0 < n
+is_later n h = grind (arith, nat_tests)
+
+module _ (es : List Element) (r : IsRead es) where
+  -- an element that isn't the root stands right below its parent
+  below_parent : (n : ℕ) (e : Element) → slice_get es n ≡ Some e → (c : IsChild es n e.parent) → IsTrue (may_stand (Some (class_of c.above.kind)) (class_of e.kind))
+  below_parent n e h c =
+      let b = all_get (IsBelow es e.parent c.above) c.above.children c.place n (stands es r e.parent c.above c.there).children c.among in
+      let same = same_some (slice_get es n) b.element e b.there h in
+      let P : Element → Type 0 = λ x. IsTrue (may_stand (Some (class_of c.above.kind)) (class_of x.kind)) in
+      subst P same b.place
+
+  not_root : (n : ℕ) (e : Element) → slice_get es n ≡ Some e → is_some (group_size e.kind) ≡ true → (t : Bool) → nat_lt 0 n ≡ t → 0 < n
+  not_root n e h some true later = is_later n later
+  not_root n e h some false first =
+      let root = root_here es r in
+      let same = same_some (slice_get es 0) e root.element (ap (slice_get es) (sym (is_first n first)) ∙ h) root.there in
+      let kind = ap (λ (x : Element). x.kind) same ∙ root.kind in
+      absurd (true≢false (sym some ∙ ap (λ (k : Kind). is_some (group_size k)) kind))
+
+  parent_zero : (p : ℕ) (above : Element) → slice_get es p ≡ Some above → is_root (class_of above.kind) ≡ true → (t : Bool) → nat_lt 0 p ≡ t → p ≡ 0
+  parent_zero p above h root false first = is_first p first
+  parent_zero p above h root true later =
+      let c = (stands es r p above h).parent (is_later p later) in
+      absurd (no_root_below (class_of c.above.kind) above.kind (below_parent p above h c) root)
+
+abbrev Parts : List Element → ℕ → Element → Type 0
+Parts es d e = AllByRecursion (Nests d es) e.children × AllByRecursion (Apart d false es) e.children
+
+group_parts : (es : List Element) (d : ℕ) (s : Stand) (p n : ℕ) (e : Element) → slice_get es n ≡ Some e → s.inside ≡ false → is_section e.kind ≡ false → Good (suc d) s p es n → Parts es d e
+unfolding Good
+group_parts es d s p n e h outside plain g =
+    let same = same_some (slice_get es n) g.0 e g.1.there h in
+    let free : (s.inside || is_section g.0.kind) ≡ false = rw outside (ap (λ (x : Element). is_section x.kind) same ∙ plain) in
+    let P : Element → Type 0 = λ x. Parts es d x in
+    let Q : Bool → Type 0 = λ b. AllByRecursion (Apart d b es) g.0.children in
+    subst P same (all_map (λ c k. nests d (stand_below s g.0.kind) n es c k.1) g.0.children g.2, subst Q free (all_map (λ c k. apart d (stand_below s g.0.kind) n es c k.1) g.0.children g.2))
+
+section_of : (kind : Kind) (loops : Loops) (on_error : OnError) (ramp_ms threads : ℕ) → kind ≡ kinds.ThreadGroup loops on_error ramp_ms threads → is_section kind ≡ false
+section_of kind loops on_error ramp_ms threads h = rw h refl
+
+pub group_is : (es : List Element) → IsRead es → (n : ℕ) → IsGroupAt es n → IsGroup es n
+group_is es r n g =
+    let e = g.0 in
+    let k = group_kind e.kind g.2 in
+    let later = not_root es r n e g.1 g.2 (nat_lt 0 n) refl in
+    let c = (stands es r n e g.1).parent later in
+    let above_root = group_above (class_of c.above.kind) e.kind (below_parent es r n e g.1 c) g.2 in
+    let zero_parent = parent_zero es r e.parent c.above c.there above_root (nat_lt 0 e.parent) refl in
+    let root = root_here es r in
+    let same = same_some (slice_get es 0) c.above root.element (ap (slice_get es) (sym zero_parent) ∙ c.there) root.there in
+    let among = ap (λ (x : Element). slice_get x.children c.place) (sym same) ∙ c.among in
+    let q = all_get (λ (m : ℕ). (0 < m) × Good 31 root.below.0 0 es m) root.element.children c.place n root.below.1 among in
+    let parts = group_parts es 30 root.below.0 0 n e g.1 root.free (section_of e.kind k.0 k.1 k.2 k.3 k.4) q.1 in
+    record {
+      element = e;
+      loops = k.0;
+      on_error = k.1;
+      ramp_ms = k.2;
+      threads = k.3;
+      there = g.1;
+      kind = k.4;
+      parent = zero_parent;
+      nests = parts.0;
+      apart = parts.1;
+    }
+
+each_has_forms : (es : List Element) → IsRead es → EachHasForms es
+each_has_forms es r = let P : List Element → Type 0 = λ xs. EachHasForms xs in subst P (sym r.flat_) (forms_one r.tree r.stand 0 0 r.read)
+
+pub plan_is : (es : List Element) → IsRead es → length es ≤ 4096 → length (labels_of es) ≤ 256 → length (locks_of es) ≤ 256 → 1 ≤ length (threads_in es) → length (threads_in es) ≤ 64 → IsPlan (tree_of es)
+plan_is es r few labels locks some_thread few_threads =
+    let root = root_here es r in
+    record {
+      count = few;
+      labels = labels;
+      locks = locks;
+      some_thread = some_thread;
+      few_threads = few_threads;
+      root = record { element = root.element; there = root.there; kind = root.kind; parent = root.parent };
+      nests = nests_all es r;
+      apart = apart_all es r;
+      stands = stands es r;
+      forms = λ n e h. all_get (λ (x : Element). HasForms x.kind) es n e (each_has_forms es r) h;
+      groups = λ thread t h. group_is es r t.element (thread_group es thread t h);
+    }
 
 -- ---- the plan
 
-pub read_all : (depth : ℕ) (d : Data) (old new xs : List Element) → old ≡ [] → new ≡ old ++ xs → elements_of depth Top 0 (length old) d ≡ Some xs → elements_of depth Top 0 0 d ≡ Some new
-read_all depth d old new xs none is h = rw (is, none) (rw none at h)
+-- what was counted of a plan that is read
+record Counts (es : List Element) : Type 0 where
+  group : list_any is_group_element es ≡ true
+  threads : length (threads_in es) ≤ 64
+  labels : length (labels_of es) ≤ 256
+  locks : length (locks_of es) ≤ 256
 
-pub read_none : (depth : ℕ) (d : Data) (old : List Element) → old ≡ [] → elements_of depth Top 0 (length old) d ≡ None → elements_of depth Top 0 0 d ≡ None
-read_none depth d old none h = rw none at h
+counts : (es : List Element) → counted es ≡ over (tree_of es) → Counts es
+unfolding counted
+counts es h =
+    let ok : outcome (counted es) ≡ Ok (tree_of es) = rw h refl in
+    let a = bind_ok (refuse_if (not (list_any is_group_element es)) _) _ (tree_of es) ok in
+    let b = bind_ok (refuse_if (nat_lt 64 (length (threads_in es))) _) _ (tree_of es) a.2 in
+    let c = bind_ok (refuse_if (nat_lt 256 (length (labels_of es))) _) _ (tree_of es) b.2 in
+    let d = bind_ok (refuse_if (nat_lt 256 (length (locks_of es))) _) _ (tree_of es) c.2 in
+    record {
+      group = not_false _ (refuse_ok _ _ a.0 a.1);
+      threads = at_most 64 _ (refuse_ok _ _ b.0 b.1);
+      labels = at_most 256 _ (refuse_ok _ _ c.0 c.1);
+      locks = at_most 256 _ (refuse_ok _ _ d.0 d.1);
+    }
 
-pub plan_refused : (d : Data) → elements_of 32 Top 0 0 d ≡ None → plan_of d ≡ None
-unfolding plan_of
-plan_refused d h = rw h refl
+pub has_threads : (tree : Raw) (es : List Element) → outcome (walked tree) ≡ Ok es → list_any is_group_element es ≡ true → 1 ≤ length (threads_in es)
+unfolding threads_in
+has_threads tree es h some =
+    has_thread es 0 1 (each_has_forms es (is_read tree es h)) some
 
-pub refused : (e : FirstError) (d : Data) (old : List Element) → old ≡ [] → Refuses e (elements_of 32 Top 0 (length old) d) → Refuses e (plan_of d)
-refused errors.NotUtf8 d old none h = h
-refused errors.NotJson d old none h = h
-refused errors.NotBuilt d old none h = plan_refused d (read_none 32 d old none h)
-refused errors.NoMemory d old none h = tt
-
-few : (n : ℕ) → n ≤ 256 → nat_le n 256 ≡ true
-few n h = grind arith
-
-many : (n : ℕ) → 256 < n → nat_le n 256 ≡ false
-many n h = grind arith
-
-pub plan_labels : (d : Data) (es : List Element) → elements_of 32 Top 0 0 d ≡ Some es → 256 < length (labels_of es) → plan_of d ≡ None
-unfolding plan_of
-plan_labels d es h over = rw (h, many _ over) refl
-
-pub plan_is : (d : Data) (es : List Element) → elements_of 32 Top 0 0 d ≡ Some es → length (labels_of es) ≤ 256 → plan_of d ≡ Some (record { version = 1; elements = es })
-unfolding plan_of
-plan_is d es h under = rw (h, few _ under) refl
-
-pub group_is : (es : List Element) → Group 30 es → IsGroup es 1
-group_is es g = record { element = g.element; loops = g.loops; there = g.there; kind = g.kind; nests = g.nests }
-
-pub well_kept : (d : Data) (es : List Element) (labels : List (List ℕ)) (numbers : List ℕ) → elements_of 32 Top 0 0 d ≡ Some es → length es ≤ 4096 → labels ≡ labels_of es → length labels ≤ 256
-    → numbers ≡ map (λ e. label_of es e.name) es → IsWellKept (record { version = 1; elements = es }) labels numbers
-well_kept d es labels numbers h count are under kept = record {
-  plan_ = record { count = count; labels = rw are at under; group = group_is es (has_group 30 d es h) };
-  labels_ = are;
-  numbers_ = kept;
-}
+pub well_kept : (es : List Element) (version : ℕ) (labels : List (List ℕ)) (label_numbers : List ℕ) (locks : List (List ℕ)) (lock_numbers : List ℕ) (threads : List Thread) → IsWalked es → length es ≤ 4096 → version ≡ version_in es
+    → counted es ≡ over (tree_of es) → AreTables es labels label_numbers locks lock_numbers threads
+    → IsWellKept (record { version = version; elements = es }) labels label_numbers locks lock_numbers threads
+well_kept es version labels label_numbers locks lock_numbers threads w few is counted_ tables =
+    let n = counts es counted_ in
+    rw is (record {
+      plan_ = plan_is es (is_read w.0 es w.1) few n.labels n.locks (has_threads w.0 es w.1 n.group) n.threads;
+      tables_ = tables;
+    })

@@ -1,136 +1,143 @@
--- The walk over a JSON value, one element and one child after another.
+-- The walk over a tree, one element and one child after another.
 use Rattle.std.proofs.lemmas.List.{append-nil, drop_all}
-use Rattle.std.proofs.Common.{◌≡◌, ℕ, zero, suc, ◌+◌, ◌-◌, ◌<◌, ◌≤◌, Bool, true, false, List, [], ◌∷◌, ◌++◌, length, get_or, set, drop, Option, Some, None, cond, nat_lt, option_and_then, unwrap_or, codes, refl, sym, ap, ap₂, ◌∙◌, append_assoc, arith}
-use Rattle.std.specs.Option.{option_map_or}
-use Rattle.serde_json.specs.Data.{Data, null, boolean, number, string, array, object, Items, no_items, item, Members}
-use Rattle.serde_json.specs.Find.{get_member, as_str, as_array}
-use Rattle.serde_json.specs.View.{view, items_view}
-use Rattle.serde_json.specs.declared.value.Value.{Value}
-use Rattle.element_tree.specs.declared.form.Place.{Place}
+use Rattle.std.proofs.Common.{◌≡◌, ℕ, zero, suc, ◌+◌, ◌<◌, ◌≤◌, Bool, true, false, List, [], ◌∷◌, ◌++◌, ◌||◌, length, get_or, set, drop, map, Option, Some, None, Result, Ok, Err, refl, sym, ap, ◌∙◌, subst, append_assoc, add-one, drop-cons, arith, rules, length-append, ap₂}
+use Rattle.serde_json.specs.Data.{Members}
+use Rattle.serde_json.specs.View.{view}
+use Rattle.plan_json.specs.Shape.{Raw, raw, Raws, no_raws, raw_then, members_in}
+use Rattle.plan_json.specs.Place.{Place, at}
+use Rattle.plan_json.specs.Seen.{raw_view, raws_of}
+use Rattle.plan_json.specs.declared.raw.RawElement.{RawElement, out-RawElement, the_lemmas}
+use Rattle.element_props.specs.declared.error.BuildError.{BuildError}
+use Rattle.element_props.specs.declared.error.BuildError.TheVariants as errors
+use Rattle.element_tree.specs.declared.kinds.Kind.{Kind}
+use Rattle.element_props.specs.declared.prop.Prop.{Prop}
 use Rattle.element_tree.specs.declared.kinds.Element.{Element}
-use Rattle.element_tree.specs.Form.{◌>>=◌, object_of, element_keys, has_only, required, at_key, text_within, kind_of, may_have, Node, node_of, place_below}
-use Rattle.element_tree.specs.Reading.{Below, below, elements_of}
-use Rattle.element_tree.specs.Steps.{children_in, own_element, with_children}
-use Rattle.element_tree.proofs.ItemLaws.{items_step}
+use Rattle.element_tree.specs.declared.types.ElementType.{ElementType}
+use Rattle.element_tree.specs.declared.tree_walk.Spot.{Spot as CodeSpot}
+use Rattle.element_props.specs.Rows as table
+use Rattle.element_tree.specs.Table.{rows}
+use Rattle.element_tree.specs.Types.{class_of_type, is_section_type}
+use Rattle.element_tree.specs.Kinds.{kind_of}
+use Rattle.element_props.specs.Patterns.{Asked}
+use Rattle.element_props.specs.Props.{own_properties}
+use Rattle.element_props.specs.Reads.{Reads, over, refuse, ask, ◌>>=◌, Goes, Stops, Gives}
+use Rattle.element_tree.specs.Walk.{Spot, placed, own, own_of, child_spot, spot_of, at_place, node, elements, below, is_enabled, with_children}
+use Rattle.element_props.proofs.ReadsLaws.{goes_nothing, goes_append, goes_bind, stops_after, stops_bind, stops_refuse}
 
--- ---- the parts of a reading that gave something
+-- an element is its fields
+pub raw_seen : (r : RawElement) → raw_view r ≡ raw (out-RawElement r).kind (out-RawElement r).name (out-RawElement r).enabled (members_in (view (out-RawElement r).props)) (raws_of (map raw_view (out-RawElement r).children.items))
+raw_seen r = search (rules, the_lemmas)
 
-pub bind_some : {A B : Type 0} (o : Option A) (f : A → Option B) (y : B) → (o >>= f) ≡ Some y → (x : A) × (o ≡ Some x) × (f x ≡ Some y)
-bind_some None f y h = cc
-bind_some (Some x) f y h = (x, refl, h)
+module _ (spot : Spot) (number : ℕ) (kind name : List ℕ) (enabled : Bool) (ms : Members) (cs : Raws) (a b : Asked) where
+  pub own_unplaced : (e : BuildError) → placed spot number kind name enabled cs ≡ refuse e → Stops a (own spot number kind name enabled ms cs) e a
+  unfolding own
+  own_unplaced e h = rw h (stops_refuse a e)
 
-pub cond_some : {A : Type 0} (b : Bool) (x y : A) → cond b (Some x) None ≡ Some y → (b ≡ true) × (x ≡ y)
-cond_some true x y h = (refl, cc)
-cond_some false x y h = cc
+  pub own_no_props : (t : ElementType) (rs : List table.Row) (e : BuildError) → placed spot number kind name enabled cs ≡ over t → rs ≡ rows spot.version t → Stops a (own_properties spot.places ms rs) e b
+      → Stops a (own spot number kind name enabled ms cs) e b
+  unfolding own
+  own_no_props t rs e h k s = rw (h, ← k) (stops_bind _ s)
 
--- ---- the children of an element
+  pub own_no_kind : (t : ElementType) (rs : List table.Row) (ps : List Prop) → placed spot number kind name enabled cs ≡ over t → rs ≡ rows spot.version t → Goes a (own_properties spot.places ms rs) (over ps) b
+      → kind_of t ps ≡ None → Stops a (own spot number kind name enabled ms cs) (errors.BadProp (at spot.places)) b
+  unfolding own
+  own_no_kind t rs ps h k g none = rw (h, ← k) (stops_after (goes_bind _ g) (rw none (stops_refuse b _)))
 
-list_at : (o : Option Data) (ds : Items) → option_map_or as_array o (Some no_items) ≡ Some ds → ds ≡ unwrap_or (option_and_then as_array o) no_items
-list_at None ds h = cc
-list_at (Some d) ds h = rw h refl
-
-node_children : (place : Place) (ms : Members) (n : Node) → node_of place (object ms) ≡ Some n → n.children ≡ children_in (object ms)
-unfolding node_of
-node_children place ms n h =
-    let found = bind_some (object_of element_keys (object ms)) _ n h in
-    let same = cond_some (has_only element_keys ms) ms found.0 found.1 in
-    let kind = bind_some (required (codes "type") as_str found.0) _ n found.2 in
-    let name = bind_some (at_key (codes "name") (text_within 256) kind.0 found.0) _ n kind.2 in
-    let children = bind_some (at_key (codes "children") as_array no_items found.0) _ n name.2 in
-    let own = bind_some (kind_of place kind.0 found.0) _ n children.2 in
-    let last = cond_some (may_have own.0 children.0) _ n own.2 in
-    let listed : children.0 ≡ n.children = ap (λ (m : Node). m.children) last.1 in
-    sym listed ∙ list_at (get_member (codes "children") found.0) children.0 children.1 ∙ ap (λ (os : Members). children_in (object os)) (sym same.1)
-
-pub children_are : (place : Place) (d : Data) (n : Node) → node_of place d ≡ Some n → n.children ≡ children_in d
-unfolding node_of
-children_are place (object ms) n h = node_children place ms n h
-children_are place null n h = cc
-children_are place (boolean b) n h = cc
-children_are place (number x) n h = cc
-children_are place (string s) n h = cc
-children_are place (array ds) n h = cc
+  pub own_done : (t : ElementType) (rs : List table.Row) (ps : List Prop) (made : Kind) → placed spot number kind name enabled cs ≡ over t → rs ≡ rows spot.version t → Goes a (own_properties spot.places ms rs) (over ps) b
+      → kind_of t ps ≡ Some made → Goes a (own spot number kind name enabled ms cs) (over (t, made)) b
+  unfolding own
+  own_done t rs ps made h k g some = rw (h, ← k) (goes_append (goes_bind _ g) (rw some (goes_nothing b _)))
 
 -- ---- the elements below one
 
 -- what was read of an element and its children, before what is left of them
-abbrev pub walk_before : Element → List ℕ → List Element → Option Below → Option (List Element)
-walk_before own numbers xs rest = rest >>= (λ b. Some (record own { children = numbers ++ b.numbers } ∷ (xs ++ b.elements)))
+abbrev pub walk_before : List ℕ → Kind → ℕ → List ℕ → List Element → Reads (List ℕ × List Element) → Reads (List Element)
+walk_before name made parent numbers xs r = r >>= (λ b. over (node name made parent (numbers ++ b.0) ∷ (xs ++ b.1)))
 
-shift : (own : Element) (numbers : List ℕ) (xs ys : List Element) (n : ℕ) (rest : Option Below)
-    → walk_before own numbers xs (rest >>= (λ b. Some (record { numbers = n ∷ b.numbers; elements = ys ++ b.elements }))) ≡ walk_before own (numbers ++ n ∷ []) (xs ++ ys) rest
-shift own numbers xs ys n None = refl
-shift own numbers xs ys n (Some b) = ap₂ (λ (ms : List ℕ) (zs : List Element). Some (record own { children = ms } ∷ zs)) (sym (append_assoc numbers (n ∷ []) b.numbers)) (sym (append_assoc xs ys b.elements))
+shift : (name : List ℕ) (made : Kind) (parent : ℕ) (numbers : List ℕ) (xs ys : List Element) (n : ℕ) (r : Reads (List ℕ × List Element))
+    → walk_before name made parent numbers xs (r >>= (λ b. over (n ∷ b.0, ys ++ b.1))) ≡ walk_before name made parent (numbers ++ n ∷ []) (xs ++ ys) r
+shift name made parent numbers xs ys n (over b) = ap₂ (λ (ms : List ℕ) (zs : List Element). over (node name made parent ms ∷ zs)) (sym (append_assoc numbers (n ∷ []) b.0)) (sym (append_assoc xs ys b.1))
+shift name made parent numbers xs ys n (refuse e) = refl
+shift name made parent numbers xs ys n (ask p t r) = ap (ask p t) (shift name made parent numbers xs ys n r)
 
-module _ (whole : Option (List Element)) (subtree : ℕ → Data → Option (List Element)) (own : Element) (numbers : List ℕ) (xs : List Element) (vs : List Value) (i n : ℕ) (v : Value)
-    (h : i < length vs) (is : v ≡ get_or vs i v)
-    (kept : whole ≡ walk_before own numbers xs (below subtree n (items_view (drop i vs)))) where
-  here : whole ≡ walk_before own numbers xs (below subtree n (item (view v) (items_view (drop (i + 1) vs))))
-  here = kept ∙ ap (λ ds. walk_before own numbers xs (below subtree n ds)) (items_step vs i v h is)
+raws_step : (cs : List RawElement) (i : ℕ) (v : RawElement) → i < length cs → v ≡ get_or cs i v → raws_of (map raw_view (drop i cs)) ≡ raw_then (raw_view v) (raws_of (map raw_view (drop (i + 1) cs)))
+raws_step cs i v h is = rw add-one (ap (λ (vs : List RawElement). raws_of (map raw_view vs)) (drop-cons cs i v h) ∙ ap (λ w. raw_then (raw_view w) (raws_of (map raw_view (drop (suc i) cs)))) (sym is))
 
-  pub child_fails : subtree n (view v) ≡ None → whole ≡ None
-  child_fails none = rw none at here
+is_enabled_seen : (r : RawElement) → is_enabled (raw_view r) ≡ (out-RawElement r).enabled
+is_enabled_seen r = ap is_enabled (raw_seen r)
 
-  pub child_done : (ys : List Element) → subtree n (view v) ≡ Some ys → whole ≡ walk_before own (numbers ++ n ∷ []) (xs ++ ys) (below subtree (n + length ys) (items_view (drop (i + 1) vs)))
-  child_done ys some =
-      let opened : whole ≡ walk_before own numbers xs (below subtree (n + length ys) (items_view (drop (i + 1) vs)) >>= (λ b. Some (record { numbers = n ∷ b.numbers; elements = ys ++ b.elements }))) = rw some at here in
-      opened ∙ shift own numbers xs ys n (below subtree (n + length ys) (items_view (drop (i + 1) vs)))
+module _ (whole : Reads (List Element)) (spot : Spot) (name : List ℕ) (made : Kind) (parent : ℕ) (numbers : List ℕ) (xs : List Element) (cs : List RawElement) (i n : ℕ) (v : RawElement) (a b : Asked)
+    (h : i < length cs) (is : v ≡ get_or cs i v)
+    (kept : Goes a whole (walk_before name made parent numbers xs (below spot i n (raws_of (map raw_view (drop i cs))))) b) where
+  here : Goes a whole (walk_before name made parent numbers xs (below spot i n (raw_then (raw_view v) (raws_of (map raw_view (drop (i + 1) cs)))))) b
+  here = let P : Raws → Type 0 = λ rs. Goes a whole (walk_before name made parent numbers xs (below spot i n rs)) b in subst P (raws_step cs i v h is) kept
 
-  pub child_added : (ys : List Element) (more : List ℕ) (k m : ℕ) → k ≡ n → more ≡ numbers ++ k ∷ [] → m ≡ n + length ys → subtree n (view v) ≡ Some ys
-      → whole ≡ walk_before own more (xs ++ ys) (below subtree m (items_view (drop (i + 1) vs)))
-  child_added ys more k m is_n is_more is_m some = rw (is_more, is_n, is_m) (child_done ys some)
+  pub child_skipped : (out-RawElement v).enabled ≡ false → Goes a whole (walk_before name made parent numbers xs (below spot (i + 1) n (raws_of (map raw_view (drop (i + 1) cs))))) b
+  unfolding elements
+  child_skipped off = let e = is_enabled_seen v ∙ off in rw e at here
 
-pub walk_end : (whole : Option (List Element)) (subtree : ℕ → Data → Option (List Element)) (own : Element) (numbers : List ℕ) (xs : List Element) (vs : List Value) (i n : ℕ) → length vs ≤ i
-    → whole ≡ walk_before own numbers xs (below subtree n (items_view (drop i vs))) → whole ≡ Some (record own { children = numbers } ∷ xs)
-walk_end whole subtree own numbers xs vs i n h kept =
-    kept ∙ ap (λ (ws : List Value). walk_before own numbers xs (below subtree n (items_view ws))) (drop_all i vs h)
-    ∙ ap₂ (λ (ms : List ℕ) (zs : List Element). Some (record own { children = ms } ∷ zs)) (append-nil numbers) (append-nil xs)
+  pub child_done : (c : Asked) (ys : List Element) → (out-RawElement v).enabled ≡ true → Goes b (elements (at_place spot i) n (raw_view v)) (over ys) c
+      → Goes a whole (walk_before name made parent (numbers ++ n ∷ []) (xs ++ ys) (below spot (i + 1) (n + length ys) (raws_of (map raw_view (drop (i + 1) cs))))) c
+  unfolding elements
+  child_done c ys on g =
+      let left = raws_of (map raw_view (drop (i + 1) cs)) in
+      let e = is_enabled_seen v ∙ on in
+      let first = goes_bind (λ (zs : List Element). below spot (i + 1) (n + length zs) left >>= (λ b. over (n ∷ b.0, zs ++ b.1))) g in
+      let second = goes_bind (λ (b : List ℕ × List Element). over (node name made parent (numbers ++ b.0) ∷ (xs ++ b.1))) first in
+      let P : Reads (List Element) → Type 0 = λ r. Goes b (walk_before name made parent numbers xs (elements (at_place spot i) n (raw_view v) >>= (λ zs. below spot (i + 1) (n + length zs) left >>= (λ b. over (n ∷ b.0, zs ++ b.1))))) r c in
+      let opened : Goes a whole (walk_before name made parent numbers xs (elements (at_place spot i) n (raw_view v) >>= (λ zs. below spot (i + 1) (n + length zs) left >>= (λ b. over (n ∷ b.0, zs ++ b.1))))) b = rw e at here in
+      goes_append opened (subst P (shift name made parent numbers xs ys n (below spot (i + 1) (n + length ys) left)) second)
+
+  pub child_fails : (c : Asked) (e : BuildError) → (out-RawElement v).enabled ≡ true → Stops b (elements (at_place spot i) n (raw_view v)) e c → Stops a whole e c
+  unfolding elements
+  child_fails c e on s =
+      let left = raws_of (map raw_view (drop (i + 1) cs)) in
+      let t = is_enabled_seen v ∙ on in
+      let opened : Goes a whole (walk_before name made parent numbers xs (elements (at_place spot i) n (raw_view v) >>= (λ zs. below spot (i + 1) (n + length zs) left >>= (λ b. over (n ∷ b.0, zs ++ b.1))))) b = rw t at here in
+      stops_after opened (stops_bind _ (stops_bind _ s))
+
+  pub child_added : (c : Asked) (ys : List Element) (now more : List ℕ) (k m : ℕ) → (out-RawElement v).enabled ≡ true → now ≡ spot.places ++ i ∷ [] → k ≡ n → more ≡ numbers ++ k ∷ [] → m ≡ n + length ys
+      → Goes b (elements (record spot { places = now }) n (raw_view v)) (over ys) c
+      → Goes a whole (walk_before name made parent more (xs ++ ys) (below spot (i + 1) m (raws_of (map raw_view (drop (i + 1) cs))))) c
+  child_added c ys now more k m on at_now is_n is_more is_m g = rw (is_more, is_n, is_m) (child_done c ys on (rw at_now at g))
+
+  pub child_stops : (c : Asked) (e : BuildError) (now : List ℕ) → (out-RawElement v).enabled ≡ true → now ≡ spot.places ++ i ∷ [] → Stops b (elements (record spot { places = now }) n (raw_view v)) e c → Stops a whole e c
+  child_stops c e now on at_now s = child_fails c e on (rw at_now at s)
+
+pub walk_end : (whole : Reads (List Element)) (spot : Spot) (name : List ℕ) (made : Kind) (parent : ℕ) (numbers : List ℕ) (xs : List Element) (cs : List RawElement) (i n : ℕ) (a b : Asked) → length cs ≤ i
+    → Goes a whole (walk_before name made parent numbers xs (below spot i n (raws_of (map raw_view (drop i cs))))) b → Goes a whole (over (node name made parent numbers ∷ xs)) b
+unfolding elements
+walk_end whole spot name made parent numbers xs cs i n a b h kept =
+    let e : walk_before name made parent numbers xs (below spot i n (raws_of (map raw_view (drop i cs)))) ≡ over (node name made parent numbers ∷ xs) =
+    ap (λ (vs : List RawElement). walk_before name made parent numbers xs (below spot i n (raws_of (map raw_view vs)))) (drop_all i cs h)
+    ∙ ap₂ (λ (ms : List ℕ) (zs : List Element). over (node name made parent ms ∷ zs)) (append-nil numbers) (append-nil xs) in
+    let P : Reads (List Element) → Type 0 = λ r. Goes a whole r b in
+    subst P e kept
 
 -- ---- the first of them
 
-own_node : (parent : ℕ) (node : Option Node) (own : Element) → Some own ≡ own_element parent node → (n : Node) × (node ≡ Some n) × (own ≡ record { name = n.name; kind = n.kind; parent = parent; children = [] })
-own_node parent None own h = cc
-own_node parent (Some n) own h = (n, refl, cc)
+start_raw : (spot : Spot) (number : ℕ) (kind name : List ℕ) (enabled : Bool) (ms : Members) (cs : Raws) (t : ElementType) (made : Kind) (a b : Asked) → Goes a (own spot number kind name enabled ms cs) (over (t, made)) b
+    → Goes a (elements spot number (raw kind name enabled ms cs)) (walk_before name made spot.parent [] [] (below (child_spot spot t number) 0 (number + 1) cs)) b
+unfolding elements
+start_raw spot number kind name enabled ms cs t made a b g = goes_bind _ g
 
-no_node : (parent : ℕ) (node : Option Node) → None ≡ own_element parent node → node ≡ None
-no_node parent None h = refl
-no_node parent (Some n) h = cc
+fails_raw : (spot : Spot) (number : ℕ) (kind name : List ℕ) (enabled : Bool) (ms : Members) (cs : Raws) (a b : Asked) (e : BuildError) → Stops a (own spot number kind name enabled ms cs) e b
+    → Stops a (elements spot number (raw kind name enabled ms cs)) e b
+unfolding elements
+fails_raw spot number kind name enabled ms cs a b e s = stops_bind _ s
 
-module _ (depth less parent number : ℕ) (place : Place) (d : Data) (is : depth ≡ suc less) (low : nat_lt number 4096 ≡ true) where
-  pub walk_refuses : None ≡ own_element parent (node_of place d) → elements_of depth place parent number d ≡ None
-  unfolding elements_of
-  walk_refuses none = rw (is, low, no_node parent (node_of place d) none) refl
+pub walk_start : (spot : Spot) (number : ℕ) (r : RawElement) (t : ElementType) (made : Kind) (a b : Asked) → Goes a (own_of spot number (raw_view r)) (over (t, made)) b
+    → Goes a (elements spot number (raw_view r)) (walk_before (out-RawElement r).name made spot.parent [] [] (below (child_spot spot t number) 0 (number + 1) (raws_of (map raw_view (out-RawElement r).children.items)))) b
+walk_start spot number r t made a b g = rw (raw_seen r) (start_raw spot number _ _ _ _ _ t made a b (rw (raw_seen r) at g))
 
-  started : (own : Element) (n : Node) → node_of place d ≡ Some n → own ≡ record { name = n.name; kind = n.kind; parent = parent; children = [] } → n.children ≡ children_in d
-      → elements_of depth place parent number d ≡ walk_before own [] [] (below (elements_of less (place_below place) number) (number + 1) (children_in d))
-  unfolding elements_of
-  started own n node same children = rw (is, low, node, same, children) refl
+pub walk_fails : (spot : Spot) (number : ℕ) (r : RawElement) (a b : Asked) (e : BuildError) → Stops a (own_of spot number (raw_view r)) e b → Stops a (elements spot number (raw_view r)) e b
+walk_fails spot number r a b e s = rw (raw_seen r) (fails_raw spot number _ _ _ _ _ a b e (rw (raw_seen r) at s))
 
-  pub walk_start : (own : Element) → Some own ≡ own_element parent (node_of place d)
-      → elements_of depth place parent number d ≡ walk_before own [] [] (below (elements_of less (place_below place) number) (number + 1) (children_in d))
-  walk_start own some = let n = own_node parent (node_of place d) own some in started own n.0 n.1 n.2 (children_are place d n.0 n.1)
-
-  pub walk_init : (own : Element) (numbers : List ℕ) (vs : List Value) (m : ℕ) → Some own ≡ own_element parent (node_of place d) → numbers ≡ [] → items_view vs ≡ children_in d → m ≡ number + 1
-      → elements_of depth place parent number d ≡ walk_before own numbers [] (below (elements_of less (place_below place) number) m (items_view vs))
-  walk_init own numbers vs m some none children is_m = rw (none, children, is_m) (walk_start own some)
-
-pub too_deep : (place : Place) (parent n : ℕ) (d : Data) → elements_of 0 place parent n d ≡ None
-unfolding elements_of
-too_deep place parent n d = refl
-
-pub too_far : (depth parent n : ℕ) (place : Place) (d : Data) → nat_lt n 4096 ≡ false → elements_of depth place parent n d ≡ None
-unfolding elements_of
-too_far zero parent n place d h = refl
-too_far (suc depth) parent n place d h = rw h refl
-
-pub is_below : (n m : ℕ) → n < m → nat_lt n m ≡ true
-is_below n m h = grind arith
-
-pub is_past : (n m : ℕ) → m ≤ n → nat_lt n m ≡ false
-is_past n m h = grind arith
-
-pub not_zero : (n : ℕ) → (n ≡ 0 → ⊥) → n ≡ suc (n - 1)
-not_zero n h = omega arith
+pub walk_init : (spot : Spot) (n m : ℕ) (r : RawElement) (t : ElementType) (code : CodeSpot) (made : Kind) (a b : Asked) (numbers : List ℕ) (cs : List RawElement) → numbers ≡ []
+    → code ≡ record { above = Some (class_of_type t); depth = spot.depth + 1; inside = spot.inside || is_section_type t; parent = n; version = spot.version } → cs ≡ (out-RawElement r).children.items → m ≡ n + 1
+    → Goes a (own_of spot n (raw_view r)) (over (t, made)) b
+    → Goes a (elements spot n (raw_view r)) (walk_before (out-RawElement r).name made spot.parent numbers [] (below (spot_of code spot.places) 0 m (raws_of (map raw_view cs)))) b
+walk_init spot n m r t code made a b numbers cs is_empty is_code is_children is_m g = rw (is_empty, is_code, is_children, is_m) (walk_start spot n r t made a b g)
 
 -- ---- the list that is filled
 

@@ -1,19 +1,33 @@
 //! The typed plan: its elements by number, in tree order.
 #![tactic(auto)]
 
-pub mod build;
-pub mod error;
-pub mod form;
+mod again;
 pub mod kinds;
-mod labels;
+mod make;
+pub mod names;
+pub mod package;
 pub mod plan;
-mod replies;
+pub mod table;
+pub mod threads;
+mod tree_walk;
+pub mod types;
 mod values;
+mod write;
 
-pub use build::build_first;
-pub use error::FirstError;
-pub use kinds::{Element, Kind, Loops};
+pub use again::written_is_built_again;
+pub use element_props::{
+    BuildError, MakeError, Pair, Pattern, PatternFault, Patterns, RegexPatterns, What,
+};
+pub use kinds::{
+    Assertion, AtEnd, BoundaryExtractor, Comparison, Element, Field, JsonExtractor, Kind, Loops,
+    OnError, RegexExtractor, Share, TestKind,
+};
+pub use package::{Package, Turn};
 pub use plan::Plan;
+pub use threads::Thread;
+pub use tree_walk::build;
+pub use types::{Class, ElementType};
+pub use write::write_plan;
 
 #[cfg(test)]
 mod tests;

@@ -1,122 +1,371 @@
-// JSON objects and their members, and values by their form.
+// The values of a kind's properties, where they are kept.
 
-ghost use Rattle.std.specs.Prelude.{◌≡◌, ◌≤◌, map, option_map, bytes_eq, IfSome};
-ghost use Rattle.std.specs.List.{list_any};
-ghost use Rattle.serde_json.specs.View.{view, members_view};
-ghost use Rattle.serde_json.specs.Find.{get_member};
-ghost use Rattle.element_tree.specs.Form.{has_only, object_of, at_key, text_within, whole_within, loops_in, rounds};
+ghost use Rattle.std.specs.Prelude.{◌≡◌, ◌^◌, ◌<◌, map, IfOk};
+ghost use Rattle.element_props.specs.Shown.{shown_seen};
+ghost use Rattle.element_tree.specs.Forms.{HasForms};
+ghost use Rattle.element_tree.specs.Values.{maybe, maybe_replies, loops_number, on_error_place, field_place, method_place, at_end_place, share_place, test_place, comparison_place, values_of};
 
-use crate::kinds::Loops;
-use serde_json::{Map, Value};
+use crate::kinds::{
+    Assertion, AtEnd, BoundaryExtractor, Comparison, Field, JsonExtractor, Kind, Loops, OnError,
+    RegexExtractor, Share, TestKind,
+};
+use element_props::Shown;
+use jm_base::{Items, M, Method, ScriptReply, Text};
+use std::alloc::Global;
 
-// The value at a key.
-pub(crate) fn member<'a>(members: &'a Map<String, Value>, key: &str) -> Option<&'a Value>
-    ensures { option_map (λ x. view x.now) result ≡ get_member key.now (members_view members.now.entries) }
+fn on_error_place(on_error: OnError) -> usize
+    ensures { result ≡ on_error_place on_error }
 {
-    members.get(key)
+    match on_error {
+        OnError::Continue => 0,
+        OnError::NextLoop => 1,
+        OnError::StopThread => 2,
+        OnError::StopTest => 3,
+    }
 }
 
-fn is_among(keys: &[&str], key: &str) -> bool
-    ensures { result ≡ list_any (λ k. bytes_eq key.now k.now) keys.now }
+fn field_place(field: Field) -> usize
+    ensures { result ≡ field_place field }
 {
-    keys.iter().any(|known| key == *known)
+    match field {
+        Field::Body => 0,
+        Field::Headers => 1,
+        Field::Code => 2,
+        Field::Message => 3,
+    }
 }
 
-// Whether each key is one of these.
-#[tactic(auto, using(crate::proofs::ItemLaws::keys_seen))]
-pub(crate) fn has_only(keys: &[&str], members: &Map<String, Value>) -> bool
-    ensures { result ≡ has_only (map (λ k. k.now) keys.now) (members_view members.now.entries) }
+fn method_place(method: Method) -> usize
+    ensures { result ≡ method_place method }
 {
-    for (key, _) in members {
-        if !is_among(keys, key.as_str()) {
-            return false;
+    match method {
+        Method::Get => 0,
+        Method::Post => 1,
+        Method::Put => 2,
+        Method::Delete => 3,
+        Method::Head => 4,
+    }
+}
+
+fn at_end_place(at_end: AtEnd) -> usize
+    ensures { result ≡ at_end_place at_end }
+{
+    match at_end {
+        AtEnd::Recycle => 0,
+        AtEnd::Stop => 1,
+        AtEnd::Eof => 2,
+    }
+}
+
+fn share_place(share: Share) -> usize
+    ensures { result ≡ share_place share }
+{
+    match share {
+        Share::Thread => 0,
+    }
+}
+
+fn test_place(test: TestKind) -> usize
+    ensures { result ≡ test_place test }
+{
+    match test {
+        TestKind::Contains => 0,
+        TestKind::Matches => 1,
+        TestKind::Equals => 2,
+        TestKind::Substring => 3,
+    }
+}
+
+fn comparison_place(comparison: Comparison) -> usize
+    ensures { result ≡ comparison_place comparison }
+{
+    match comparison {
+        Comparison::Equal => 0,
+        Comparison::NotEqual => 1,
+        Comparison::Above => 2,
+        Comparison::Below => 3,
+        Comparison::AtLeast => 4,
+        Comparison::AtMost => 5,
+    }
+}
+
+fn loops_number(loops: Loops) -> i64
+    ensures { result ≡ loops_number loops }
+{
+    match loops {
+        Loops::Forever => -1,
+        Loops::Times(n) => i64::from(n),
+    }
+}
+
+fn maybe(text: &Option<Text>) -> Shown<'_>
+    ensures { shown_seen result ≡ maybe text.now }
+{
+    match text {
+        Some(text) => Shown::Text(text),
+        None => Shown::Absent,
+    }
+}
+
+fn maybe_replies(replies: &Option<Items<ScriptReply>>) -> Shown<'_>
+    ensures { shown_seen result ≡ maybe_replies replies.now }
+{
+    match replies {
+        Some(replies) => Shown::Replies(replies.as_slice()),
+        None => Shown::Absent,
+    }
+}
+
+fn list<'a>(alloc: Global, values: &[Shown<'a>]) -> M<Vec<Shown<'a>>>
+    ensures { IfOk result (λ v. map shown_seen v.items ≡ map shown_seen values.now) }
+{
+    let list = Vec::from_slice(alloc, values)?;
+    Ok(list)
+}
+
+fn counter_values<'a>(
+    alloc: Global,
+    increment: u64,
+    maximum: u64,
+    start: u64,
+    var: &'a Text,
+) -> M<Vec<Shown<'a>>>
+    requires increment { increment < 2 ^ 63 }
+    requires maximum { maximum < 2 ^ 63 }
+    requires start { start < 2 ^ 63 }
+    ensures { IfOk result (λ v. map shown_seen v.items ≡ values_of (Kind.Counter increment maximum start var.now)) }
+{
+    list(
+        alloc,
+        &[
+            Shown::Number(increment as i64),
+            Shown::Number(maximum as i64),
+            Shown::Number(start as i64),
+            Shown::Text(var),
+        ],
+    )
+}
+
+fn regex_extractor_values(alloc: Global, x: &RegexExtractor) -> M<Vec<Shown<'_>>>
+    ensures { IfOk result (λ v. map shown_seen v.items ≡ values_of (Kind.RegexExtractor x.now)) }
+{
+    list(
+        alloc,
+        &[
+            maybe(&x.default),
+            Shown::Choice(field_place(x.field)),
+            Shown::Number(i64::from(x.match_)),
+            Shown::Pattern(&x.pattern),
+            Shown::Text(&x.ref_),
+            Shown::Text(&x.template),
+        ],
+    )
+}
+
+fn json_extractor_values(alloc: Global, x: &JsonExtractor) -> M<Vec<Shown<'_>>>
+    ensures { IfOk result (λ v. map shown_seen v.items ≡ values_of (Kind.JsonExtractor x.now)) }
+{
+    list(
+        alloc,
+        &[
+            maybe(&x.default),
+            Shown::Number(i64::from(x.match_)),
+            Shown::Text(&x.path),
+            Shown::Text(&x.ref_),
+        ],
+    )
+}
+
+fn boundary_extractor_values(alloc: Global, x: &BoundaryExtractor) -> M<Vec<Shown<'_>>>
+    ensures { IfOk result (λ v. map shown_seen v.items ≡ values_of (Kind.BoundaryExtractor x.now)) }
+{
+    list(
+        alloc,
+        &[
+            maybe(&x.default),
+            Shown::Choice(field_place(x.field)),
+            Shown::Text(&x.left),
+            Shown::Number(i64::from(x.match_)),
+            Shown::Text(&x.ref_),
+            Shown::Text(&x.right),
+        ],
+    )
+}
+
+fn response_values(alloc: Global, assertion: &Assertion) -> M<Vec<Shown<'_>>>
+    ensures { IfOk result (λ v. map shown_seen v.items ≡ values_of (Kind.ResponseAssertion assertion.now)) }
+{
+    match assertion {
+        Assertion::Response {
+            field,
+            ignore_status,
+            not,
+            or,
+            patterns,
+            regexes,
+            test,
+            whole_regexes,
+        } => list(
+            alloc,
+            &[
+                Shown::Choice(field_place(*field)),
+                Shown::Truth(*ignore_status),
+                Shown::Truth(*not),
+                Shown::Truth(*or),
+                Shown::Patterns {
+                    texts: patterns.as_slice(),
+                    regexes: regexes.as_slice(),
+                    whole_regexes: whole_regexes.as_slice(),
+                },
+                Shown::Choice(test_place(*test)),
+            ],
+        ),
+        Assertion::Duration { .. } => list(alloc, &[]),
+        Assertion::Size { .. } => list(alloc, &[]),
+    }
+}
+
+fn duration_values(alloc: Global, assertion: &Assertion) -> M<Vec<Shown<'_>>>
+    ensures { IfOk result (λ v. map shown_seen v.items ≡ values_of (Kind.DurationAssertion assertion.now)) }
+{
+    match assertion {
+        Assertion::Duration { ms } => list(alloc, &[Shown::Number(i64::from(*ms))]),
+        Assertion::Response { .. } => list(alloc, &[]),
+        Assertion::Size { .. } => list(alloc, &[]),
+    }
+}
+
+fn size_values(alloc: Global, assertion: &Assertion) -> M<Vec<Shown<'_>>>
+    ensures { IfOk result (λ v. map shown_seen v.items ≡ values_of (Kind.SizeAssertion assertion.now)) }
+{
+    match assertion {
+        Assertion::Size { op, size } => list(
+            alloc,
+            &[
+                Shown::Choice(comparison_place(*op)),
+                Shown::Number(i64::from(*size)),
+            ],
+        ),
+        Assertion::Response { .. } => list(alloc, &[]),
+        Assertion::Duration { .. } => list(alloc, &[]),
+    }
+}
+
+/// The values of a kind's properties, in byte order of their names.
+pub(crate) fn values_of(alloc: Global, kind: &Kind) -> M<Vec<Shown<'_>>>
+    requires { HasForms kind.now }
+    ensures { IfOk result (λ v. map shown_seen v.items ≡ values_of kind.now) }
+{
+    match kind {
+        Kind::TestPlan { version } => list(alloc, &[Shown::Number(i64::from(*version))]),
+        Kind::ThreadGroup {
+            loops,
+            on_error,
+            ramp_ms,
+            threads,
+        } => list(
+            alloc,
+            &[
+                Shown::Number(loops_number(*loops)),
+                Shown::Choice(on_error_place(*on_error)),
+                Shown::Number(i64::from(*ramp_ms)),
+                Shown::Number(i64::from(*threads)),
+            ],
+        ),
+        Kind::Simple => list(alloc, &[]),
+        Kind::OnceOnly => list(alloc, &[]),
+        Kind::Interleave => list(alloc, &[]),
+        Kind::Random => list(alloc, &[]),
+        Kind::RandomOrder => list(alloc, &[]),
+        Kind::Transaction => list(alloc, &[]),
+        Kind::Loop { loops } => list(alloc, &[Shown::Template(loops)]),
+        Kind::If { all, condition } => {
+            list(alloc, &[Shown::Truth(*all), Shown::Template(condition)])
         }
-    }
-    true
-}
-
-// The members of an object that has no keys but these.
-pub(crate) fn object_of<'a>(keys: &[&str], value: &'a Value) -> Option<&'a Map<String, Value>>
-    ensures { option_map (λ m. members_view m.now.entries) result ≡ object_of (map (λ k. k.now) keys.now) (view value.now) }
-{
-    let members = value.as_object()?;
-    if has_only(keys, members) {
-        Some(members)
-    } else {
-        None
-    }
-}
-
-// A text of at most so many bytes.
-pub(crate) fn text_within(limit: usize, value: &Value) -> Option<&str>
-    ensures { option_map (λ s. s.now) result ≡ text_within limit (view value.now) }
-{
-    let text = value.as_str()?;
-    if text.len() <= limit {
-        Some(text)
-    } else {
-        None
-    }
-}
-
-// A whole number from 0 to the limit.
-pub(crate) fn whole_within(limit: u32, value: &Value) -> Option<u32>
-    ensures value { result ≡ whole_within limit (view value.now) }
-    ensures bound { IfSome result (λ n. n ≤ limit) }
-{
-    let number = value.as_u64()?;
-    if number <= u64::from(limit) {
-        Some(number as u32)
-    } else {
-        None
-    }
-}
-
-fn rounds(number: i64) -> Option<Loops>
-    ensures { result ≡ rounds number }
-{
-    match number {
-        -1 => Some(Loops::Forever),
-        0..=2_147_483_647 => Some(Loops::Times(number as u32)),
-        _ => None,
-    }
-}
-
-// How many rounds: a whole number from 0 to 2,147,483,647, or -1 for rounds without an end.
-pub(crate) fn loops_in(value: &Value) -> Option<Loops>
-    ensures { result ≡ loops_in (view value.now) }
-{
-    rounds(value.as_i64()?)
-}
-
-// The text at a key, of at most so many bytes.
-pub(crate) fn text_at<'a>(
-    members: &'a Map<String, Value>,
-    key: &str,
-    limit: usize,
-    default: &'a str,
-) -> Option<&'a str>
-    ensures { option_map (λ s. s.now) result ≡ at_key key.now (text_within limit) default.now (members_view members.now.entries) }
-{
-    match member(members, key) {
-        Some(value) => text_within(limit, value),
-        None => Some(default),
-    }
-}
-
-// The whole number at a key, from 0 to the limit.
-pub(crate) fn whole_at(
-    members: &Map<String, Value>,
-    key: &str,
-    limit: u32,
-    default: u32,
-) -> Option<u32>
-    requires { default ≤ limit }
-    ensures value { result ≡ at_key key.now (whole_within limit) default (members_view members.now.entries) }
-    ensures bound { IfSome result (λ n. n ≤ limit) }
-{
-    match member(members, key) {
-        Some(value) => whole_within(limit, value),
-        None => Some(default),
+        Kind::While { condition } => list(alloc, &[Shown::Template(condition)]),
+        Kind::Switch { value } => list(alloc, &[Shown::Template(value)]),
+        Kind::ForEach {
+            end,
+            input,
+            output,
+            separator,
+            start,
+        } => list(
+            alloc,
+            &[
+                Shown::Number(i64::from(*end)),
+                Shown::Text(input),
+                Shown::Text(output),
+                Shown::Truth(*separator),
+                Shown::Number(i64::from(*start)),
+            ],
+        ),
+        Kind::CriticalSection { lock } => list(alloc, &[Shown::Text(lock)]),
+        Kind::Script { replies, request } => list(
+            alloc,
+            &[Shown::Replies(replies.as_slice()), Shown::Template(request)],
+        ),
+        Kind::Http {
+            body,
+            host,
+            method,
+            params,
+            path,
+            port,
+            replies,
+        } => list(
+            alloc,
+            &[
+                Shown::Template(body),
+                Shown::Template(host),
+                Shown::Choice(method_place(*method)),
+                Shown::Pairs(params.as_slice()),
+                Shown::Template(path),
+                Shown::Template(port),
+                maybe_replies(replies),
+            ],
+        ),
+        Kind::UserVariables { vars } => list(alloc, &[Shown::Pairs(vars.as_slice())]),
+        Kind::HttpDefaults { host, path, port } => list(
+            alloc,
+            &[
+                Shown::Template(host),
+                Shown::Template(path),
+                Shown::Template(port),
+            ],
+        ),
+        Kind::HeaderManager { headers } => list(alloc, &[Shown::Pairs(headers.as_slice())]),
+        Kind::Counter {
+            increment,
+            maximum,
+            start,
+            var,
+        } => counter_values(alloc, *increment, *maximum, *start, var),
+        Kind::DataSet {
+            at_end,
+            names,
+            share,
+            text,
+        } => list(
+            alloc,
+            &[
+                Shown::Choice(at_end_place(*at_end)),
+                Shown::Texts(names.as_slice()),
+                Shown::Choice(share_place(*share)),
+                Shown::Text(text),
+            ],
+        ),
+        Kind::UserParameters { vars } => list(alloc, &[Shown::Pairs(vars.as_slice())]),
+        Kind::ConstantTimer { delay } => list(alloc, &[Shown::Template(delay)]),
+        Kind::UniformTimer { offset, range } => {
+            list(alloc, &[Shown::Template(offset), Shown::Template(range)])
+        }
+        Kind::RegexExtractor(x) => regex_extractor_values(alloc, x),
+        Kind::JsonExtractor(x) => json_extractor_values(alloc, x),
+        Kind::BoundaryExtractor(x) => boundary_extractor_values(alloc, x),
+        Kind::ResponseAssertion(assertion) => response_values(alloc, assertion),
+        Kind::DurationAssertion(assertion) => duration_values(alloc, assertion),
+        Kind::SizeAssertion(assertion) => size_values(alloc, assertion),
+        Kind::Listener => list(alloc, &[]),
     }
 }

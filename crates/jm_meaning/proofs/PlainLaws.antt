@@ -3,11 +3,11 @@ use Rattle.std.proofs.Common.{◌≡◌, ℕ, zero, suc, ◌+◌, ◌-◌, drop,
 use Rattle.std.specs.Prelude.{map}
 use Rattle.std.proofs.lemmas.List.{map-append, append-nil}
 use Rattle.jm_base.specs.declared.types.Sample.{Sample}
-use Rattle.jm_base.specs.Run.{Run, over, give, read, wait, ask, ◌>>=◌, Event, Sampled, Nothing, Ended, Sampler}
+use Rattle.jm_base.specs.Run.{Run, over, give, read, wait, ask, ◌>>=◌, Event, Waited, Sampled, Nothing, Ended, Sampler}
 use Rattle.jm_base.specs.Outside.{Account, Goes}
 use Rattle.jm_base.proofs.RunLaws.{goes-append, goes-bind, goes-give, goes-nothing}
 use Rattle.jm_meaning.specs.declared.item.Item.{Item}
-use Rattle.jm_meaning.specs.declared.item.Item.TheVariants.{Null, Sampled as SampledItem, Ended as EndedItem}
+use Rattle.jm_meaning.specs.declared.item.Item.TheVariants.{Paused, Null, Sampled as SampledItem, Ended as EndedItem}
 use Rattle.jm_meaning.specs.declared.signal.Signal.{Signal}
 use Rattle.jm_meaning.specs.declared.signal.Signal.TheVariants.{Normal, NextLoop, Stop}
 use Rattle.jm_base.specs.declared.types.End.TheVariants.{SampleLimit, RoundLimit}
@@ -16,11 +16,15 @@ use Rattle.jm_meaning.specs.State.{State, Ending, Part, normal, stopped, on_norm
 use Rattle.jm_meaning.specs.Sampling.{sampled, sampling, given_sample, after_sample}
 use mathlib.Core.Path.{fun_ext}
 use Rattle.element_tree.specs.declared.kinds.Loops.{Loops}
-use Rattle.element_tree.specs.declared.kinds.Kind.{Kind}
 use Rattle.jm_meaning.specs.Plain.{round_part, caught_signal}
 use Rattle.std.specs.Prelude.{slice_get, IfSome}
 use Rattle.element_tree.specs.Tree.{Tree, group_of}
-use Rattle.jm_meaning.specs.Meaning.{Here, meaning, kind_meaning, Below, in_order, rounds, counted, begins, caught, here_of, events, end_of, max_rounds}
+use Rattle.jm_meaning.specs.Meaning.{Here, meaning, kind_meaning, Below, in_order, rounds, counted, begins, caught, here_of, events, end_of, and_end, behind_pause, max_rounds}
+use Rattle.jm_meaning.specs.RampUp.{pause_of}
+use Rattle.jm_meaning.specs.declared.running.Role.{Role}
+use Rattle.jm_meaning.specs.Runs.{role_of, request_of}
+use Rattle.jm_meaning.specs.Roles.{role_meaning}
+use Rattle.jm_meaning.proofs.RoleLaws.{by_role}
 use Rattle.jm_meaning.specs.Shown.{shown, Shows}
 
 pub shows-append : {A : Type 0} {a b c : Account} {xs ys zs : List Item} {r s t : Run A} → Shows a xs r s ys b → Shows b ys s t zs c → Shows a xs r t zs c
@@ -68,19 +72,19 @@ module _ (a b : Account) (xs ys : List Item) where
   always true = refl
   always false = refl
 
-  pub one_null : (e : ℕ) (number u r : ℕ) (o : Option Sample) → (u ≡ 0 → ⊥) → Goes a (sampled e number) [] (over o) b → o ≡ None → ys ≡ xs ++ Null number ∷ []
-      → Shows a xs (with_unit (at u r) (sampling e number Normal)) (over (normal (at (u - 1) r))) ys b
-  one_null e number u r o some g none items =
-      rw (unit_some u r (sampling e number Normal) some, items)
+  pub one_null : (e : ℕ) (number : ℕ) (q : List ℕ) (u r : ℕ) (o : Option Sample) → (u ≡ 0 → ⊥) → Goes a (sampled e number q) [] (over o) b → o ≡ None → ys ≡ xs ++ Null number ∷ []
+      → Shows a xs (with_unit (at u r) (sampling e number q Normal)) (over (normal (at (u - 1) r))) ys b
+  one_null e number q u r o some g none items =
+      rw (unit_some u r (sampling e number q Normal) some, items)
       (shows-append (shows-quiet xs (goes-bind (given_sample number Normal (at (u - 1) r)) g)) (rw none (shows-give b xs (Nothing number) _)))
 
-  pub one_sample : (e : ℕ) (number u r : ℕ) (o : Option Sample) (sample : Sample) → (u ≡ 0 → ⊥) → Goes a (sampled e number) [] (over o) b → o ≡ Some sample → ys ≡ xs ++ SampledItem sample ∷ []
-      → Shows a xs (with_unit (at u r) (sampling e number Normal)) (over (normal (at (u - 1) r))) ys b
-  one_sample e number u r o sample some g is items =
+  pub one_sample : (e : ℕ) (number : ℕ) (q : List ℕ) (u r : ℕ) (o : Option Sample) (sample : Sample) → (u ≡ 0 → ⊥) → Goes a (sampled e number q) [] (over o) b → o ≡ Some sample → ys ≡ xs ++ SampledItem sample ∷ []
+      → Shows a xs (with_unit (at u r) (sampling e number q Normal)) (over (normal (at (u - 1) r))) ys b
+  one_sample e number q u r o sample some g is items =
       let given : Shows b xs (give (Sampled Sampler sample) (over (record { state = at (u - 1) r; signal = after_sample sample.ok Normal }))) (over (normal (at (u - 1) r))) (xs ++ SampledItem sample ∷ []) b =
       subst (λ signal. Shows b xs (give (Sampled Sampler sample) (over (record { state = at (u - 1) r; signal = signal }))) (over (normal (at (u - 1) r))) (xs ++ SampledItem sample ∷ []) b)
       (sym (always sample.ok)) (shows-give b xs (Sampled Sampler sample) (over (normal (at (u - 1) r)))) in
-      rw (unit_some u r (sampling e number Normal) some, items)
+      rw (unit_some u r (sampling e number q Normal) some, items)
       (shows-append (shows-quiet xs (goes-bind (given_sample number Normal (at (u - 1) r)) g)) (rw is given))
 
 -- an ending that isn't Normal is passed on
@@ -193,21 +197,42 @@ pub meaning_flat : (here : Here) (depth number round : ℕ) (s : State) → dept
 unfolding meaning
 meaning_flat here depth number round s is = rw is refl
 
-pub meaning_kind : (here : Here) (depth number round : ℕ) (s : State) (e : Element) → (depth ≡ 0 → ⊥) → slice_get here.plan.elements number ≡ Some e → (k : Kind) → e.kind ≡ k
-    → meaning here depth number round s ≡ kind_meaning here (meaning here (depth - 1)) number e k round s
-meaning_kind here depth number round s e some is k kind = meaning_at here depth number round s e some is ∙ ap (λ k. kind_meaning here (meaning here (depth - 1)) number e k round s) kind
+pub meaning_role : (here : Here) → here.limit ≤ max_rounds → (depth number round : ℕ) (s : State) (e : Element) → (depth ≡ 0 → ⊥) → slice_get here.plan.elements number ≡ Some e → (role : Role) → role_of e.kind ≡ role
+    → meaning here depth number round s ≡ role_meaning here (meaning here (depth - 1)) number e (request_of e.kind) role round s
+meaning_role here few depth number round s e some is role role_is = meaning_at here depth number round s e some is
+    ∙ by_role here few (meaning here (depth - 1)) number e round s e.kind
+    ∙ ap (λ r. role_meaning here (meaning here (depth - 1)) number e (request_of e.kind) r round s) role_is
 
 -- what is there has the fact
 pub some_at : {A : Type 0} (o : Option A) (x : A) (P : A → Type 0) → Some x ≡ o → IfSome o P → P x
 some_at o x P e h = rw (← e) at h
 
--- behind the rounds of the group the thread ends
-pub thread_shows : (plan : Tree) (thread group budget : ℕ) (a b : Account) (xs ys : List Item) (s : State) (signal : Signal)
-    → xs ≡ [] → group ≡ group_of plan thread
-    → Shows a xs (meaning (here_of plan thread) 31 group 0 (at budget max_rounds)) (over (record { state = s; signal = signal })) ys b
-    → Shows a [] (events plan thread budget) (over tt) (ys ++ EndedItem (end_of signal) ∷ []) b
+-- a sampler by its label and the text that it asks for
+pub sampler_shows : (a b : Account) (xs ys : List Item) (label label' number : ℕ) (q q' : List ℕ) (s : State) (run rest : Run Ending)
+    → run ≡ with_unit s (sampling label number q Normal) → label' ≡ label → q' ≡ q
+    → Shows a xs (with_unit s (sampling label' number q' Normal)) rest ys b → Shows a xs run rest ys b
+sampler_shows a b xs ys label label' number q q' s run rest is l e h = rw (is, ← l, ← e) h
+
+-- a pause, and then the run
+pub paused_shows : (a b : Account) (xs ys : List Item) (ms : ℕ) → (ms ≡ 0 → ⊥) → Goes {A = Unit {0}} a (wait ms (over tt)) [] (over tt) b → ys ≡ xs ++ Paused ms ∷ []
+    → (run : Run (Unit {0})) → Shows a xs (behind_pause ms run) run ys b
+paused_shows a b xs ys zero some g items run = absurd (some refl)
+paused_shows a b xs ys (suc ms) some g items run =
+    rw items (shows-append (shows-quiet xs (goes-bind (λ u. give (Waited (suc ms)) run) g)) (shows-give b xs (Waited (suc ms)) run))
+
+pub no_pause : (a : Account) (xs : List Item) (ms : ℕ) → ms ≡ 0 → (run : Run (Unit {0})) → Shows a xs (behind_pause ms run) run xs a
+no_pause a xs ms none run = rw none (shows-nothing a xs run)
+
+-- behind its pause and the rounds of the group the thread ends
+pub thread_shows : (plan : Tree) (thread group budget ms : ℕ) (a b d : Account) (xs ys zs : List Item) (s : State) (signal : Signal)
+    → xs ≡ [] → group ≡ group_of plan thread → ms ≡ pause_of plan thread
+    → ((run : Run (Unit {0})) → Shows a xs (behind_pause ms run) run ys b)
+    → Shows b ys (meaning (here_of plan thread) 31 group 0 (at budget max_rounds)) (over (record { state = s; signal = signal })) zs d
+    → Shows a [] (events plan thread budget) (over tt) (zs ++ EndedItem (end_of signal) ∷ []) d
 unfolding events
-thread_shows plan thread group budget a b xs ys s signal none is g =
-    let g' : Shows a [] (meaning (here_of plan thread) 31 (group_of plan thread) 0 (at budget max_rounds)) (over (record { state = s; signal = signal })) ys b =
-    rw (none, is) at g in
-    shows-append (shows-bind (λ e. give (Ended (end_of e.signal)) (over tt)) g') (shows-give b ys (Ended (end_of signal)) (over tt))
+thread_shows plan thread group budget ms a b d xs ys zs s signal none is pause waited g =
+    let run : Run (Unit {0}) = and_end (meaning (here_of plan thread) 31 (group_of plan thread) 0 (at budget max_rounds)) in
+    let first : Shows a [] (behind_pause (pause_of plan thread) run) run ys b = rw (none, pause) at (waited run) in
+    let g' : Shows b ys (meaning (here_of plan thread) 31 (group_of plan thread) 0 (at budget max_rounds)) (over (record { state = s; signal = signal })) zs d =
+    rw is at g in
+    shows-append first (shows-append (shows-bind (λ e. give (Ended (end_of e.signal)) (over tt)) g') (shows-give d zs (Ended (end_of signal)) (over tt)))

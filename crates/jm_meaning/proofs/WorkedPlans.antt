@@ -1,15 +1,20 @@
 -- Worked plans: what the definitions give, computed.
-use Rattle.std.proofs.Common.{◌≡◌, ℕ, Bool, true, false, List, [], ◌∷◌, Option, Some, None, refl}
-use Rattle.std.specs.Prelude.{codes, map}
+use Rattle.std.proofs.Common.{◌≡◌, ℕ, Bool, true, false, List, [], ◌∷◌, refl}
+use Rattle.std.specs.Prelude.{codes}
 use Rattle.jm_base.specs.declared.types.End.TheVariants.{Completed, SampleLimit}
 use Rattle.jm_base.specs.declared.types.ScriptReply.{ScriptReply}
 use Rattle.jm_base.specs.Run.{Event, Sampled, Nothing, Ended, Sampler, over_value}
 use Rattle.jm_base.specs.Outside.{Scripts, script_form}
 use Rattle.element_tree.specs.declared.kinds.Element.{Element}
 use Rattle.element_tree.specs.declared.kinds.Kind.{Kind}
-use Rattle.element_tree.specs.declared.kinds.Kind.TheVariants.{TestPlan, ThreadGroup, Simple, Loop, Script}
-use Rattle.element_tree.specs.declared.kinds.Loops.TheVariants.{Forever, Times}
-use Rattle.element_tree.specs.Tree.{Tree, labels_of}
+use Rattle.element_tree.specs.declared.kinds.Kind.TheVariants.{TestPlan, ThreadGroup, Loop, Script}
+use Rattle.element_tree.specs.declared.kinds.Loops.TheVariants.{Times}
+use Rattle.element_tree.specs.declared.kinds.OnError.TheVariants.{Continue}
+use Rattle.template_text.specs.Pieces.{no_more, text}
+use Rattle.element_tree.specs.Threads.{threads_in}
+use Rattle.jm_meaning.specs.RampUp.{pause_of}
+use Rattle.element_tree.specs.Tree.{Tree}
+use Rattle.element_tree.specs.Names.{labels_of}
 use Rattle.jm_meaning.specs.Meaning.{events, meaning, rounds}
 use Rattle.jm_meaning.specs.Sampling.{sampled}
 
@@ -50,11 +55,11 @@ looped : Tree
 looped = record {
   version = 1;
   elements =
-      element (codes "TestPlan") TestPlan 0 (1 ∷ [])
-      ∷ element (codes "TG") (ThreadGroup (Times 1)) 0 (2 ∷ [])
-      ∷ element (codes "Loop") (Loop (Times 3)) 1 (3 ∷ 4 ∷ [])
-      ∷ element (codes "A") (Script a_replies) 2 []
-      ∷ element (codes "B") (Script b_replies) 2 []
+      element (codes "TestPlan") (TestPlan 1) 0 (1 ∷ [])
+      ∷ element (codes "TG") (ThreadGroup (Times 1) Continue 0 1) 0 (2 ∷ [])
+      ∷ element (codes "Loop") (Loop (text (codes "3") no_more)) 1 (3 ∷ 4 ∷ [])
+      ∷ element (codes "A") (Script a_replies no_more) 2 []
+      ∷ element (codes "B") (Script b_replies no_more) 2 []
       ∷ [];
 }
 
@@ -70,7 +75,7 @@ three_rounds_of_two_samplers_give_six_samples : (over_value script_form (events 
     ∷ sample 21 2 1 200 (codes "OK") true 2
     ∷ Ended Completed
     ∷ []
-unfolding over_value events meaning rounds sampled labels_of looped looped_scripts sample element reply a_replies b_replies
+unfolding over_value events pause_of threads_in meaning rounds sampled labels_of looped looped_scripts sample element reply a_replies b_replies
 three_rounds_of_two_samplers_give_six_samples = refl
 
 a_budget_of_two_gives_two_samples : (over_value script_form (events looped 0 2) looped_scripts).events
@@ -78,7 +83,7 @@ a_budget_of_two_gives_two_samples : (over_value script_form (events looped 0 2) 
     ∷ sample 5 2 1 200 (codes "OK") true 2
     ∷ Ended SampleLimit
     ∷ []
-unfolding over_value events meaning rounds sampled labels_of looped looped_scripts sample element reply a_replies b_replies
+unfolding over_value events pause_of threads_in meaning rounds sampled labels_of looped looped_scripts sample element reply a_replies b_replies
 a_budget_of_two_gives_two_samples = refl
 
 -- a group of so many rounds over a sampler that answers in its first round with a null
@@ -89,9 +94,9 @@ grouped : ℕ → Tree
 grouped n = record {
   version = 1;
   elements =
-      element (codes "TestPlan") TestPlan 0 (1 ∷ [])
-      ∷ element (codes "TG") (ThreadGroup (Times n)) 0 (2 ∷ [])
-      ∷ element (codes "A") (Script c_replies) 1 []
+      element (codes "TestPlan") (TestPlan 1) 0 (1 ∷ [])
+      ∷ element (codes "TG") (ThreadGroup (Times n) Continue 0 1) 0 (2 ∷ [])
+      ∷ element (codes "A") (Script c_replies no_more) 1 []
       ∷ [];
 }
 
@@ -103,9 +108,9 @@ a_null_gives_no_sample : (over_value script_form (events (grouped 2) 0 65536) gr
     ∷ sample 3 0 0 200 (codes "OK") true 0
     ∷ Ended Completed
     ∷ []
-unfolding over_value events meaning rounds sampled labels_of grouped grouped_scripts sample element reply no_reply c_replies
+unfolding over_value events pause_of threads_in meaning rounds sampled labels_of grouped grouped_scripts sample element reply no_reply c_replies
 a_null_gives_no_sample = refl
 
 no_round_gives_nothing : (over_value script_form (events (grouped 0) 0 65536) grouped_scripts).events ≡ Ended Completed ∷ []
-unfolding over_value events meaning rounds sampled labels_of grouped grouped_scripts element reply no_reply c_replies
+unfolding over_value events pause_of threads_in meaning rounds sampled labels_of grouped grouped_scripts element reply no_reply c_replies
 no_round_gives_nothing = refl

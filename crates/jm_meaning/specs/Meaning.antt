@@ -2,17 +2,21 @@
 use Rattle.std.specs.Prelude.{ℕ, zero, suc, ◌+◌, Bool, true, nat_lt, List, [], ◌∷◌, Option, Some, None, slice_get, if◌then◌else◌}
 use Rattle.jm_base.specs.declared.types.End.{End}
 use Rattle.jm_base.specs.declared.types.End.TheVariants.{Completed, RoundLimit}
-use Rattle.jm_base.specs.Run.{Run, over, give, ◌>>=◌, Ended}
+use Rattle.jm_base.specs.Run.{Run, over, give, wait, ◌>>=◌, Waited, Ended}
 use Rattle.element_tree.specs.declared.kinds.Element.{Element}
 use Rattle.element_tree.specs.declared.kinds.Kind.{Kind}
-use Rattle.element_tree.specs.declared.kinds.Kind.TheVariants.{TestPlan, ThreadGroup, Simple, Loop, Script}
+use Rattle.element_tree.specs.declared.kinds.Kind.TheVariants.{ThreadGroup, Simple, Loop, Script}
 use Rattle.element_tree.specs.declared.kinds.Loops.{Loops}
 use Rattle.element_tree.specs.declared.kinds.Loops.TheVariants.{Forever, Times}
-use Rattle.element_tree.specs.Tree.{Tree, label_of, group_of}
+use Rattle.element_tree.specs.Tree.{Tree, group_of}
+use Rattle.element_tree.specs.Names.{label_of}
 use Rattle.jm_meaning.specs.State.{Ending, Part, normal, stopped, and_then, with_unit, with_round, Fine, Try, tried}
 use Rattle.jm_meaning.specs.declared.signal.Signal.{Signal}
 use Rattle.jm_meaning.specs.declared.signal.Signal.TheVariants.{Normal, NextLoop, Stop}
 use Rattle.jm_meaning.specs.Sampling.{sampling}
+use Rattle.jm_meaning.specs.Texts.{plain_text, loops_of_text}
+use Rattle.jm_meaning.specs.RampUp.{pause_of}
+use Rattle.template_text.specs.Pieces.{Pieces}
 
 -- what a thread's run is over: the plan, the element of its group, and how many rounds it has at most
 pub record Here : Type 0 where
@@ -59,19 +63,28 @@ caught e = elim e.signal [ Normal ↦ e | NextLoop ↦ normal e.state | Stop end
 abbrev pub round_of_group : Run Ending → Run Ending
 round_of_group run = run >>= λ e. over (caught e)
 
--- what a failed sample leads to, by the thread's group
+-- what a failed sample leads to: the thread goes on, which is all that a group's action can be now
 abbrev pub at_failure : Here → Signal
 at_failure here = Normal
 
--- an element by its kind, where below is the meaning of its children
+abbrev pub with_text : Option (List ℕ) → (List ℕ → Part) → Part
+with_text None next s = over (normal s)
+with_text (Some text) next s = next text s
+
+-- goes on with the text of a template that is plain text alone; another template means nothing yet
+abbrev pub with_plain : Pieces → (List ℕ → Part) → Part
+with_plain template next = with_text (plain_text template) next
+
+-- An element by its kind, where below is the meaning of its children. The kinds that don't run yet mean nothing.
 abbrev pub kind_meaning : Here → Below → ℕ → Element → Kind → ℕ → Part
-kind_meaning here below number e TestPlan round s = over (normal s)
-kind_meaning here below number e (ThreadGroup loops) round s =
+kind_meaning here below number e (ThreadGroup loops on_error ramp_ms threads) round s =
     rounds here.limit (counted loops) (λ i s. round_of_group (in_order below i e.children s)) 0 s
 kind_meaning here below number e Simple round s = in_order below round e.children s
-kind_meaning here below number e (Loop loops) round s = rounds here.limit (counted loops) (λ i s. in_order below i e.children s) 0 s
-kind_meaning here below number e (Script replies) round s =
-    with_unit s (sampling (label_of here.plan.elements e.name) number (at_failure here))
+kind_meaning here below number e (Loop loops) round s =
+    with_plain loops (λ text. rounds here.limit (counted (loops_of_text text)) (λ i s. in_order below i e.children s) 0) s
+kind_meaning here below number e (Script replies request) round s =
+    with_plain request (λ text s. with_unit s (sampling (label_of here.plan.elements e.name) number text (at_failure here))) s
+kind_meaning here below number e kind round s = over (normal s)
 
 abbrev pub element_meaning : Here → Below → ℕ → Option Element → ℕ → Part
 element_meaning here below number None round s = over (normal s)
@@ -100,7 +113,13 @@ here_of plan thread = record { plan = plan; group = group_of plan thread; limit 
 abbrev pub and_end : Run Ending → Run Unit
 and_end run = run >>= λ e. give (Ended (end_of e.signal)) (over tt)
 
--- the events of a thread by its number, with this sample budget
+-- a pause of so many milliseconds, if it is any, and then the run
+abbrev pub behind_pause : {A : Type 0} → ℕ → Run A → Run A
+behind_pause zero run = run
+behind_pause (suc ms) run = wait (suc ms) (give (Waited (suc ms)) run)
+
+-- the events of a thread by its number, with this sample budget: its ramp-up pause, the rounds of its group, and its end
 unfoldable pub events : Tree → ℕ → ℕ → Run (Unit {0})
 events plan thread budget =
-    and_end (meaning (here_of plan thread) 31 (group_of plan thread) 0 (record { units = budget; rounds = max_rounds }))
+    behind_pause (pause_of plan thread)
+    (and_end (meaning (here_of plan thread) 31 (group_of plan thread) 0 (record { units = budget; rounds = max_rounds })))

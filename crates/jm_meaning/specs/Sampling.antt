@@ -47,11 +47,11 @@ sample_of label first second r = record {
   listeners = 0;
 }
 
--- one sampler by its label and number: the sample that it gives, or none
-unfoldable pub sampled : ℕ → ℕ → Run (Option Sample)
-sampled label number = do
+-- one sampler by its label, its number and the text that it asks for: the sample that it gives, or none
+unfoldable pub sampled : ℕ → ℕ → List ℕ → Run (Option Sample)
+sampled label number request = do
   first ← reading
-  outcome ← outcome_of number (Script [])
+  outcome ← outcome_of number (Script request)
   second ← reading
   over (option_map (sample_of label first second) (reply_of outcome))
 
@@ -67,5 +67,5 @@ given_sample number at_failure s (Some sample) =
     give (Sampled Sampler sample) (over (record { state = s; signal = after_sample sample.ok at_failure }))
 
 -- a sampler's part of the run
-abbrev pub sampling : ℕ → ℕ → Signal → Part
-sampling label number at_failure s = sampled label number >>= given_sample number at_failure s
+abbrev pub sampling : ℕ → ℕ → List ℕ → Signal → Part
+sampling label number request at_failure s = sampled label number request >>= given_sample number at_failure s

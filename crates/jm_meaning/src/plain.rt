@@ -1,18 +1,20 @@
 // The run of a plan, by recursion on its elements: slow, and plainly the definition.
 
-ghost use Rattle.std.specs.Prelude.{◌<◌, ◌≡◌, ◌≤◌, ◌+◌, ◌*◌, [], ◌∷◌, ◌++◌, ℕ, IfOk, OnOk};
-ghost use Rattle.jm_base.specs.Run.{over};
+ghost use Rattle.std.specs.Prelude.{length, List, ◌<◌, ◌≡◌, ◌≤◌, ◌+◌, ◌*◌, [], ◌∷◌, ◌++◌, ℕ, IfOk, OnOk};
+ghost use Rattle.jm_base.specs.Run.{Run, over};
 ghost use Rattle.element_tree.specs.Tree.{threads_of};
-ghost use Rattle.jm_meaning.specs.Meaning.{events, end_of, here_of, meaning, in_order, rounds, counted, max_rounds, begins};
+ghost use Rattle.jm_meaning.specs.Meaning.{events, end_of, here_of, meaning, in_order, rounds, counted, max_rounds, begins, behind_pause};
 ghost use Rattle.jm_meaning.specs.Shown.{Shows};
 ghost use Rattle.jm_meaning.specs.State.{with_unit};
 ghost use Rattle.jm_meaning.specs.Sampling.{sampling};
 ghost use Rattle.jm_meaning.specs.Plain.{state_of, ending, round_part, caught_signal};
 
 use crate::item::Item;
+use crate::ramp_up::ramp_up_pause;
+use crate::running::{Role, request_of, role_of};
 use crate::sampler::sample_once;
 use crate::signal::Signal;
-use element_tree::{Kind, Loops, Plan};
+use element_tree::{Loops, Plan};
 use jm_base::{End, M, Outside};
 use std::alloc::Global;
 
@@ -32,7 +34,7 @@ pub fn run_plainly<O: Outside>(
     budget: u32,
     outside: &mut O,
 ) -> M<Vec<Item>>
-    requires { thread < threads_of plan.now }
+    requires { thread < length (threads_of plan.now) }
     ensures { IfOk result (λ items. Shows (O.account outside.old) [] (events plan.now thread budget)
         (over tt) items.items (O.account outside.new)) }
 {
@@ -41,10 +43,23 @@ pub fn run_plainly<O: Outside>(
         rounds: 16_777_216,
     };
     let mut items = Vec::new(alloc);
+    pause(ramp_up_pause(plan, thread), outside, &mut items)?;
     let group = plan.group_of(thread);
     let signal = run_element(alloc, plan, 31, group, 0, &mut left, outside, &mut items)?;
     items.push(Item::Ended(end_of(signal)))?;
     Ok(items)
+}
+
+// A pause of so many milliseconds, if it is any.
+fn pause<O: Outside>(ms: u32, outside: &mut O, items: &mut Vec<Item>) -> M<()>
+    ensures { OnOk result ((run : Run Unit) → Shows (O.account outside.old) items.old.items
+        (behind_pause ms run) run items.new.items (O.account outside.new)) }
+{
+    if ms > 0 {
+        outside.pause(ms)?;
+        items.push(Item::Paused(ms))?;
+    }
+    Ok(())
 }
 
 // What an element gives, in a round of its nearest looping ancestor.
@@ -60,8 +75,8 @@ fn run_element<O: Outside>(
     items: &mut Vec<Item>,
 ) -> M<Signal>
     requires limit { budget.old.rounds ≤ max_rounds }
-    ensures gives { IfOk result (λ signal. Shows (O.account outside.old) items.old.items
-        (meaning (here_of plan.now 0) depth number round (state_of budget.old))
+    ensures gives { IfOk result (λ signal. (thread : ℕ) → Shows (O.account outside.old) items.old.items
+        (meaning (here_of plan.now thread) depth number round (state_of budget.old))
         (over (ending budget.new signal)) items.new.items (O.account outside.new)) }
     ensures fewer { budget.new.rounds ≤ budget.old.rounds }
 {
@@ -72,14 +87,14 @@ fn run_element<O: Outside>(
         return Ok(Signal::Normal);
     };
     let children = element.children.as_slice();
-    match &element.kind {
-        Kind::TestPlan => Ok(Signal::Normal),
-        Kind::ThreadGroup { loops } => {
+    match role_of(&element.kind) {
+        Role::Nothing => Ok(Signal::Normal),
+        Role::Group(loops) => {
             run_rounds(
                 alloc,
                 plan,
                 depth - 1,
-                *loops,
+                loops,
                 true,
                 children,
                 budget,
@@ -87,7 +102,7 @@ fn run_element<O: Outside>(
                 items,
             )
         }
-        Kind::Simple => {
+        Role::Children => {
             run_children(
                 alloc,
                 plan,
@@ -99,12 +114,12 @@ fn run_element<O: Outside>(
                 items,
             )
         }
-        Kind::Loop { loops } => {
+        Role::Rounds(loops) => {
             run_rounds(
                 alloc,
                 plan,
                 depth - 1,
-                *loops,
+                loops,
                 false,
                 children,
                 budget,
@@ -112,9 +127,10 @@ fn run_element<O: Outside>(
                 items,
             )
         }
-        Kind::Script { .. } => {
+        Role::Sample => {
             let label = plan.label_of(number);
-            run_sampler(alloc, label, number, budget, outside, items)
+            let request = request_of(&element.kind);
+            run_sampler(alloc, label, number, request, budget, outside, items)
         }
     }
 }
@@ -131,8 +147,8 @@ fn run_children<O: Outside>(
     items: &mut Vec<Item>,
 ) -> M<Signal>
     requires limit { budget.old.rounds ≤ max_rounds }
-    ensures gives { IfOk result (λ signal. Shows (O.account outside.old) items.old.items
-        (in_order (meaning (here_of plan.now 0) depth) round children.now (state_of budget.old))
+    ensures gives { IfOk result (λ signal. (thread : ℕ) → Shows (O.account outside.old) items.old.items
+        (in_order (meaning (here_of plan.now thread) depth) round children.now (state_of budget.old))
         (over (ending budget.new signal)) items.new.items (O.account outside.new)) }
     ensures fewer { budget.new.rounds ≤ budget.old.rounds }
 {
@@ -158,8 +174,8 @@ fn run_rounds<O: Outside>(
     items: &mut Vec<Item>,
 ) -> M<Signal>
     requires limit { budget.old.rounds ≤ max_rounds }
-    ensures gives { IfOk result (λ signal. Shows (O.account outside.old) items.old.items
-        (rounds max_rounds (counted loops) (round_part is_group (meaning (here_of plan.now 0) depth) children.now) 0 (state_of budget.old))
+    ensures gives { IfOk result (λ signal. (thread : ℕ) → Shows (O.account outside.old) items.old.items
+        (rounds max_rounds (counted loops) (round_part is_group (meaning (here_of plan.now thread) depth) children.now) 0 (state_of budget.old))
         (over (ending budget.new signal)) items.new.items (O.account outside.new)) }
     ensures fewer { budget.new.rounds ≤ budget.old.rounds }
 {
@@ -183,12 +199,13 @@ fn run_sampler<O: Outside>(
     alloc: Global,
     label: u16,
     number: u16,
+    request: &[u8],
     budget: &mut Budget,
     outside: &mut O,
     items: &mut Vec<Item>,
 ) -> M<Signal>
     ensures gives { IfOk result (λ signal. Shows (O.account outside.old) items.old.items
-        (with_unit (state_of budget.old) (sampling label number Signal.Normal))
+        (with_unit (state_of budget.old) (sampling label number request.now Signal.Normal))
         (over (ending budget.new signal)) items.new.items (O.account outside.new)) }
     ensures fewer { budget.new.rounds ≤ budget.old.rounds }
 {
@@ -196,7 +213,7 @@ fn run_sampler<O: Outside>(
         return Ok(Signal::Stop(End::SampleLimit));
     }
     budget.units -= 1;
-    match sample_once(alloc, label, number, outside)? {
+    match sample_once(alloc, label, number, request, outside)? {
         None => items.push(Item::Null(number))?,
         Some(sample) => items.push(Item::Sampled(sample))?,
     }

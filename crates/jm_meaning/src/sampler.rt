@@ -10,19 +10,20 @@ ghost use Rattle.std.specs.Option.{option_map};
 use jm_base::{M, Outcome, Outside, Reply, Request, Sample, Text, Wire};
 use std::alloc::Global;
 
-/// Runs a sampler by its label and its element's number: a reading of the clock, one request, a second reading, and the sample.
-/// There is none where the outcome is null.
+/// Runs a sampler by its label, its element's number and the text that it asks for: a reading of the clock, one request,
+/// a second reading, and the sample. There is none where the outcome is null.
 pub fn sample_once<O: Outside>(
     alloc: Global,
     label: u16,
     number: u16,
+    text: &[u8],
     outside: &mut O,
 ) -> M<Option<Sample>>
-    ensures done { IfOk result (λ r. Goes (O.account outside.old) (sampled label number) [] (over r) (O.account outside.new)) }
+    ensures done { IfOk result (λ r. Goes (O.account outside.old) (sampled label number text.now) [] (over r) (O.account outside.new)) }
     ensures label { IfOk result (λ r. IfSome r (λ s. s.label ≡ label)) }
-    ensures cut { OnErr result (LeftOf (O.account outside.old) label number (O.account outside.new)) }
+    ensures cut { OnErr result (LeftOf (O.account outside.old) label number text.now (O.account outside.new)) }
 {
-    let request = Request::Script(Text::new(alloc, &[])?);
+    let request = Request::Script(Text::new(alloc, text)?);
     let first = outside.now()?;
     let outcome = outside.ask(number, &request)?;
     let second = outside.now()?;

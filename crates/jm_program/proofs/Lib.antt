@@ -1,2 +1,4 @@
 pub mod TextLaws
 pub mod ProgramLaws
+pub mod ExactLaws
+pub mod UnbuiltLaws

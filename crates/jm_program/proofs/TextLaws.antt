@@ -1,5 +1,5 @@
 -- The texts of a thread that has run.
-use Rattle.std.proofs.Common.{◌≡◌, ℕ, List, [], ◌∷◌, ◌++◌, Some, refl, sym, ap, ◌∙◌}
+use Rattle.std.proofs.Common.{◌≡◌, ℕ, Bool, true, List, [], ◌∷◌, ◌++◌, Some, refl, sym, ap, ◌∙◌}
 use Rattle.std.specs.Option.{option_map_or}
 use Rattle.std.proofs.lemmas.List.{map-append}
 use Rattle.jm_base.specs.declared.types.End.{End}
@@ -14,7 +14,9 @@ use Rattle.thread_machine.specs.declared.trace.TraceItem.{TraceItem}
 use Rattle.thread_machine.specs.declared.trace.TraceItem.TheVariants.{Ended as TracedEnd}
 use Rattle.thread_machine.specs.Bare.{bare}
 use Rattle.thread_machine.specs.Follows.{Follows, HasRun}
-use Rattle.jm_program.specs.Printed.{budget, shown_of, results_of, last_end, IsShown, AreTexts}
+use Rattle.jm_program.specs.declared.words.Solo.{Solo}
+use Rattle.jm_program.specs.declared.words.Command.TheVariants.{Solo as SoloCommand}
+use Rattle.jm_program.specs.Printed.{shown_of, results_of, report_of, last_end, end_is_whole, IsShown, AreTexts}
 
 last_end-append : (items : List Item) (end : End) → last_end (items ++ Ended end ∷ []) ≡ Some end
 last_end-append [] end = refl
@@ -24,12 +26,23 @@ last_end-append (x ∷ y ∷ items) end = last_end-append (y ∷ items) end
 bare_end : (trace front : List TraceItem) (end : End) → trace ≡ front ++ TracedEnd end ∷ [] → last_end (bare trace) ≡ Some end
 bare_end trace front end is = ap (λ t. last_end (bare t)) is ∙ ap last_end (map-append _ front (TracedEnd end ∷ [])) ∙ last_end-append (bare front) end
 
-module _ (plan : Tree) (start now : Account) (trace : List TraceItem) (scripted : start.value ≡ Some (scripts_of plan)) where
-  whole : (end : End) → Follows start now plan 0 budget trace end → bare trace ≡ shown_of plan
+-- the items of a thread that was not cut are those of the plan's meaning
+whole_items : (plan : Tree) (s : Solo) (items : List Item) (end : End) → IsShown plan s items end → end_is_whole end ≡ true → items ≡ shown_of plan s
+whole_items plan s items Completed is h = is.whole
+whole_items plan s items StopThread is h = is.whole
+whole_items plan s items StopTest is h = is.whole
+whole_items plan s items Stopped is h = is.whole
+whole_items plan s items SampleLimit is h = is.whole
+whole_items plan s items RoundLimit is h = is.whole
+whole_items plan s items ValueLimit is h = is.whole
+whole_items plan s items NoMemory is h = absurd (cc)
+
+module _ (plan : Tree) (s : Solo) (start now : Account) (trace : List TraceItem) (scripted : start.value ≡ Some (scripts_of plan)) where
+  whole : (end : End) → Follows start now plan s.thread s.samples trace end → bare trace ≡ shown_of plan s
   unfolding shown_of
   whole end f = sym (f.scripted (scripts_of plan) scripted).items
 
-  shown_by : (end : End) → HasRun start now plan 0 budget trace end → IsShown plan (bare trace) end
+  shown_by : (end : End) → HasRun start now plan s.thread s.samples trace end → IsShown plan s (bare trace) end
   shown_by Completed f = record { last = bare_end trace f.last.0 Completed f.last.1; whole = whole Completed f }
   shown_by StopThread f = record { last = bare_end trace f.last.0 StopThread f.last.1; whole = whole StopThread f }
   shown_by StopTest f = record { last = bare_end trace f.last.0 StopTest f.last.1; whole = whole StopTest f }
@@ -39,13 +52,16 @@ module _ (plan : Tree) (start now : Account) (trace : List TraceItem) (scripted 
   shown_by ValueLimit f = record { last = bare_end trace f.last.0 ValueLimit f.last.1; whole = whole ValueLimit f }
   shown_by NoMemory f = record { last = bare_end trace f.0 NoMemory f.1; whole = tt }
 
-  pub are_texts : (end : End) (results report front : List ℕ) → HasRun start now plan 0 budget trace end → results ≡ results_of plan (bare trace) → front ≡ [] → report ≡ front ++ end_text plan 0 end
-      → AreTexts plan results report end
-  are_texts end results report front run results_are none report_is =
-      let s = shown_by end run in
+  pub are_texts : (end : End) (results report front : List ℕ) (all : Bool) → HasRun start now plan s.thread s.samples trace end
+      → results ≡ results_of plan s.thread (bare trace) → front ≡ [] → report ≡ front ++ end_text plan s.thread end → all ≡ end_is_whole end
+      → AreTexts (SoloCommand s) plan results report all
+  are_texts end results report front all run results_are none report_is all_is =
+      let shown = shown_by end run in
+      let ends : report ≡ report_of plan s.thread (bare trace) = report_is ∙ ap (λ xs. xs ++ end_text plan s.thread end) none
+      ∙ sym (ap (λ o. option_map_or (end_text plan s.thread) o []) shown.last) in
+      let same : all ≡ true → bare trace ≡ shown_of plan s = λ h. whole_items plan s (bare trace) end shown (sym all_is ∙ h) in
       record {
-        items = bare trace;
-        shown_as = s;
-        results_are = results_are;
-        report_is = report_is ∙ ap (λ xs. xs ++ end_text plan 0 end) none ∙ sym (ap (λ o. option_map_or (end_text plan 0) o []) s.last);
+        may = record { items = bare trace; end = end; shown_as = shown; results_are = results_are; report_is = ends };
+        results_whole = λ h. results_are ∙ ap (results_of plan s.thread) (same h);
+        report_whole = λ h. ends ∙ ap (report_of plan s.thread) (same h);
       }

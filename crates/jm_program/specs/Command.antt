@@ -1,47 +1,33 @@
 -- What the program's statuses say.
-use Rattle.std.specs.Prelude.{◌≡◌, ◌⊎◌, ℕ, ◌+◌, ◌≤◌, List, [], ◌∷◌, length, Option, codes, nat_eq, nat_le, Bool, true, false, if◌then◌else◌}
+use Rattle.std.specs.Prelude.{◌≡◌, ◌⊎◌, ℕ, ◌+◌, ◌≤◌, List, length, Option, Some, None, Result, Ok, Err, codes, nat_le, if◌then◌else◌}
 use Rattle.std.specs.Io.KnownBytes.{Appends, Keeps}
-use lib.Pointwise.{pointwise}
 use Rattle.jm_base.specs.Counts.{Rose}
 use Rattle.edge_io.specs.Edges.{TookAll, TookCount, AppendsFront}
+use Rattle.plan_json.specs.Shape.{Raw, reading_of}
+use Rattle.plan_json.specs.declared.error.TreeError.{TreeError}
+use Rattle.element_props.specs.declared.error.BuildError.{BuildError}
+use Rattle.element_props.specs.Patterns.{Asked, reading_of as pattern_of}
+use Rattle.element_props.specs.Reads.{Reads, over, refuse, ask, outcome}
 use Rattle.element_tree.specs.Tree.{Tree}
-use Rattle.element_tree.specs.Reading.{Reading, the_plan, outside_utf8, outside_json, outside_form, reading_of}
-use Rattle.jm_meaning.specs.declared.item.Item.{Item}
-use Rattle.jm_program.specs.declared.status.Fault.{Fault}
-use Rattle.jm_program.specs.declared.status.Fault.TheVariants.{NotUtf8, NotJson, NotBuilt}
+use Rattle.element_tree.specs.Walk.{reading}
 use Rattle.jm_program.specs.declared.status.Status.{Status}
 use Rattle.jm_program.specs.declared.status.Status.TheVariants.{Done, Usage, Refused, ReadFault, WriteFault, Memory}
-use Rattle.jm_base.specs.declared.types.End.{End}
-use Rattle.jm_program.specs.Printed.{shown_of, results_of, report_of, IsShown}
-
--- exactly one word, `solo`
-abbrev pub is_solo : List (List ℕ) → Bool
-is_solo [] = false
-is_solo (word ∷ []) = pointwise nat_eq word (codes "solo")
-is_solo (word ∷ other ∷ words) = false
+use Rattle.jm_program.specs.declared.words.Command.{Command}
+use Rattle.jm_program.specs.declared.words.Command.TheVariants.{Check, Solo}
+use Rattle.jm_program.specs.declared.refusal.Refusal.{Refusal}
+use Rattle.jm_program.specs.declared.refusal.Refusal.TheVariants.{TooLong}
+use Rattle.jm_program.specs.Refusals.{IsAccepted, IsRefused, not_built, solo_fault, refusal_line}
+use Rattle.jm_program.specs.Printed.{results_for, report_for, MayPrint}
 
 abbrev pub usage_line : List ℕ
 usage_line = codes "usage: jm check|make|run|solo|weave [--option value]\n"
-
--- how bytes that are no plan are read
-abbrev pub reading_with : Fault → Reading
-reading_with NotUtf8 = outside_utf8
-reading_with NotJson = outside_json
-reading_with NotBuilt = outside_form
-
-abbrev pub refusal_line : Fault → List ℕ
-refusal_line NotUtf8 = codes "refused 1 NotUtf8 -\n"
-refusal_line NotJson = codes "refused 2 NotJson -\n"
-refusal_line NotBuilt = codes "refused 15 NotBuilt -\n"
 
 -- the most bytes that a plan has
 abbrev pub plan_limit : ℕ
 plan_limit = 4194304
 
-abbrev pub long_line : List ℕ
-long_line = codes "refused 8 TooMany / bytes\n"
-
--- The edges of the program at one moment: what is left of the plan and what the two sinks hold, each where it is told, and the three counts of faults.
+-- The edges of the program at one moment: what is left of the plan and what the two sinks hold, each where it is told, the
+-- three counts of faults, and what the maker of patterns was asked.
 pub record Edges : Type 0 where
   pub left : Option (List ℕ)
   pub read_faults : ℕ
@@ -49,10 +35,11 @@ pub record Edges : Type 0 where
   pub result_faults : ℕ
   pub reports : Option (List ℕ)
   pub report_faults : ℕ
+  pub asked : Asked
 
-abbrev pub edges : Option (List ℕ) → ℕ → Option (List ℕ) → ℕ → Option (List ℕ) → ℕ → Edges
-edges left read results written reports told =
-    record { left = left; read_faults = read; results = results; result_faults = written; reports = reports; report_faults = told }
+abbrev pub edges : Option (List ℕ) → ℕ → Option (List ℕ) → ℕ → Option (List ℕ) → ℕ → Asked → Edges
+edges left read results written reports told asked =
+    record { left = left; read_faults = read; results = results; result_faults = written; reports = reports; report_faults = told; asked = asked }
 
 -- no count of faults has risen
 pub record HasNoFault (old new : Edges) : Type 0 where
@@ -60,35 +47,35 @@ pub record HasNoFault (old new : Edges) : Type 0 where
   pub results : new.result_faults ≡ old.result_faults
   pub reports : new.report_faults ≡ old.report_faults
 
--- the plan was read to its end and accepted
-pub record Accepts (old new : Edges) (plan : Tree) : Type 0 where
+-- the plan was read to its end and accepted, and is fit for the command
+pub record Accepts (command : Command) (old new : Edges) (plan : Tree) : Type 0 where
   pub bytes : List ℕ
   pub within : length bytes ≤ plan_limit
   pub read : TookAll old.left new.left bytes
-  pub accepted : reading_of bytes ≡ the_plan plan
+  pub accepted : IsAccepted command bytes old.asked new.asked plan
 
--- the plan is refused, and this line names the refusal: it has more bytes than its limit, or it was read to its end and is read as no plan
-pub record RefusesLong (old new : Edges) (line : List ℕ) : Type 0 where
+-- the plan has more bytes than its limit
+pub record RefusesLong (old new : Edges) (refusal : Refusal) : Type 0 where
   pub long : TookCount old.left new.left (plan_limit + 1)
-  pub line_is : line ≡ long_line
+  pub refusal_is : refusal ≡ TooLong
+  pub asked : new.asked ≡ old.asked
 
-pub record RefusesRead (old new : Edges) (line : List ℕ) : Type 0 where
+-- the plan was read to its end and is refused
+pub record RefusesRead (command : Command) (old new : Edges) (refusal : Refusal) : Type 0 where
   pub bytes : List ℕ
-  pub fault : Fault
   pub within : length bytes ≤ plan_limit
   pub read : TookAll old.left new.left bytes
-  pub refused : reading_of bytes ≡ reading_with fault
-  pub line_is : line ≡ refusal_line fault
+  pub refused : IsRefused command bytes old.asked new.asked refusal
 
-abbrev pub Refuses : Edges → Edges → List ℕ → Type 0
-Refuses old new line = RefusesLong old new line ⊎ RefusesRead old new line
+abbrev pub Refuses : Command → Edges → Edges → Refusal → Type 0
+Refuses command old new refusal = RefusesLong old new refusal ⊎ RefusesRead command old new refusal
 
--- Status 0: the plan was accepted, and the results are the header and the result lines of its meaning, the report its end line.
-pub record IsDone (old new : Edges) : Type 0 where
+-- Status 0: the plan was accepted, and the texts of the command stand in the results and the reports.
+pub record IsDone (command : Command) (old new : Edges) : Type 0 where
   pub plan : Tree
-  pub accepts : Accepts old new plan
-  pub results : Appends old.results new.results (results_of plan (shown_of plan))
-  pub reports : Appends old.reports new.reports (report_of plan (shown_of plan))
+  pub accepts : Accepts command old new plan
+  pub results : Appends old.results new.results (results_for command plan)
+  pub reports : Appends old.reports new.reports (report_for command plan)
   pub no_fault : HasNoFault old new
 
 -- Status 2: the usage line stands in the reports, nothing in the results, and nothing was read.
@@ -97,13 +84,14 @@ pub record IsUsage (old new : Edges) : Type 0 where
   pub results : Keeps old.results new.results
   pub reports : Appends old.reports new.reports usage_line
   pub no_fault : HasNoFault old new
+  pub asked : new.asked ≡ old.asked
 
 -- Status 3: the refusal line stands in the reports, and nothing in the results.
-pub record IsRefused (old new : Edges) : Type 0 where
-  pub line : List ℕ
-  pub refuses : Refuses old new line
+pub record IsRefusal (command : Command) (old new : Edges) : Type 0 where
+  pub refusal : Refusal
+  pub refuses : Refuses command old new refusal
   pub results : Keeps old.results new.results
-  pub reports : Appends old.reports new.reports line
+  pub reports : Appends old.reports new.reports (refusal_line refusal)
   pub no_fault : HasNoFault old new
 
 -- Status 4: the source's count of faults rose, and nothing was printed.
@@ -120,38 +108,41 @@ pub record LineUnwritten (old new : Edges) (line : List ℕ) : Type 0 where
   pub results : Keeps old.results new.results
   pub reports : AppendsFront old.reports new.reports line
 
-pub record ResultsUnwritten (old new : Edges) : Type 0 where
+pub record ResultsUnwritten (command : Command) (old new : Edges) : Type 0 where
   pub plan : Tree
-  pub items : List Item
-  pub end : End
-  pub shown_as : IsShown plan items end
-  pub accepts : Accepts old new plan
+  pub text : List ℕ
+  pub report : List ℕ
+  pub accepts : Accepts command old new plan
+  pub may : MayPrint command plan text report
   pub rose : Rose old.result_faults new.result_faults
-  pub results : AppendsFront old.results new.results (results_of plan items)
+  pub results : AppendsFront old.results new.results text
   pub reports : Keeps old.reports new.reports
 
-pub record ReportUnwritten (old new : Edges) : Type 0 where
+pub record ReportUnwritten (command : Command) (old new : Edges) : Type 0 where
   pub plan : Tree
-  pub items : List Item
-  pub end : End
-  pub shown_as : IsShown plan items end
-  pub accepts : Accepts old new plan
+  pub text : List ℕ
+  pub report : List ℕ
+  pub accepts : Accepts command old new plan
+  pub may : MayPrint command plan text report
   pub rose : Rose old.report_faults new.report_faults
-  pub results : Appends old.results new.results (results_of plan items)
-  pub reports : AppendsFront old.reports new.reports (report_of plan items)
+  pub results : Appends old.results new.results text
+  pub reports : AppendsFront old.reports new.reports report
 
-abbrev pub IsUnwritten : Bool → Edges → Edges → Type 0
-IsUnwritten false old new = LineUnwritten old new usage_line
-IsUnwritten true old new = ((line : List ℕ) × Refuses old new line × LineUnwritten old new line) ⊎ (ResultsUnwritten old new ⊎ ReportUnwritten old new)
+abbrev pub RefusalUnwritten : Command → Edges → Edges → Type 0
+RefusalUnwritten command old new = (refusal : Refusal) × Refuses command old new refusal × LineUnwritten old new (refusal_line refusal)
 
--- what a status says of a run whose words are one word `solo`, or aren't
-abbrev pub Says : Bool → Edges → Edges → Status → Type 0
-Says solo old new Done = (solo ≡ true) × IsDone old new
-Says solo old new Usage = (solo ≡ false) × IsUsage old new
-Says solo old new Refused = (solo ≡ true) × IsRefused old new
-Says solo old new ReadFault = (solo ≡ true) × IsUnread old new
-Says solo old new WriteFault = IsUnwritten solo old new
-Says solo old new Memory = Unit {0}
+abbrev pub IsUnwritten : Option Command → Edges → Edges → Type 0
+IsUnwritten None old new = LineUnwritten old new usage_line
+IsUnwritten (Some command) old new = RefusalUnwritten command old new ⊎ (ResultsUnwritten command old new ⊎ ReportUnwritten command old new)
+
+-- what a status says of a run whose words are this command, or none
+abbrev pub Says : Option Command → Edges → Edges → Status → Type 0
+Says words old new Done = (command : Command) × (words ≡ Some command) × IsDone command old new
+Says words old new Usage = (words ≡ None) × IsUsage old new
+Says words old new Refused = (command : Command) × (words ≡ Some command) × IsRefusal command old new
+Says words old new ReadFault = (command : Command) × (words ≡ Some command) × IsUnread old new
+Says words old new WriteFault = IsUnwritten words old new
+Says words old new Memory = Unit {0}
 
 abbrev pub number_of : Status → ℕ
 number_of Done = 0
@@ -167,19 +158,41 @@ number_of Memory = 7
 abbrev pub IsStatus : ℕ → Type 0
 IsStatus n = (n ≡ 0) ⊎ ((n ≡ 2) ⊎ ((n ≡ 3) ⊎ ((n ≡ 4) ⊎ ((n ≡ 5) ⊎ (n ≡ 7)))))
 
--- no count of faults has risen
+-- no count of faults has risen, and no pattern was too large
 pub record NoRise (old new : Edges) : Type 0 where
   pub source : Rose old.read_faults new.read_faults → ⊥
   pub results : Rose old.result_faults new.result_faults → ⊥
   pub reports : Rose old.report_faults new.report_faults → ⊥
+  pub patterns : Rose old.asked.oversize new.asked.oversize → ⊥
 
--- the status of a reading: 0 for a plan, 3 for a refusal
-abbrev pub status_of_reading : Reading → ℕ
-status_of_reading (the_plan plan) = 0
-status_of_reading outside_utf8 = 3
-status_of_reading outside_json = 3
-status_of_reading outside_form = 3
+-- the status of what is found unfit: 3 where something is
+abbrev pub status_of_fault : {A : Type 0} → Option A → ℕ → ℕ
+status_of_fault None otherwise = otherwise
+status_of_fault (Some fault) otherwise = 3
+
+-- the status of a plan that is accepted: 0, or 3 where it is not fit for the command
+abbrev pub status_of_plan : Command → Raw → Tree → ℕ
+status_of_plan Check tree plan = 0
+status_of_plan (Solo s) tree plan = status_of_fault (not_built tree plan.elements) (status_of_fault (solo_fault plan s) 0)
+
+abbrev pub status_of_outcome : Command → Raw → Result Tree BuildError → ℕ
+status_of_outcome command tree (Ok plan) = status_of_plan command tree plan
+status_of_outcome command tree (Err e) = 3
+
+abbrev pub status_of_shape : Command → Result Raw TreeError → ℕ
+status_of_shape command (Ok tree) = status_of_outcome command tree (outcome (reading tree))
+status_of_shape command (Err e) = 3
 
 -- the status that the words and the bytes of the plan call for, where every call of the source and the sinks succeeds
-abbrev pub status_for : Bool → List ℕ → ℕ
-status_for solo bytes = if solo then (if nat_le (length bytes) plan_limit then status_of_reading (reading_of bytes) else 3) else 2
+abbrev pub status_for : Option Command → List ℕ → ℕ
+status_for None bytes = 2
+status_for (Some command) bytes = if nat_le (length bytes) plan_limit then status_of_shape command (reading_of bytes) else 3
+
+-- each pattern that a reading asks for has a reading itself, in the grammar of regular expressions
+abbrev pub ArePatterns : {A : Type 0} → Reads A → Type 0
+ArePatterns (over x) = Unit {0}
+ArePatterns (refuse e) = Unit {0}
+ArePatterns (ask place pattern rest) = (pattern_of pattern ≡ None → ⊥) × ArePatterns rest
+
+abbrev pub HasPatterns : List ℕ → Type 0
+HasPatterns bytes = (tree : Raw) → reading_of bytes ≡ Ok tree → ArePatterns (reading tree)

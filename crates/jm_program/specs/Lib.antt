@@ -1,3 +1,5 @@
+pub mod Words
+pub mod Refusals
 pub mod Printed
-pub mod Command
 pub mod Parts
+pub mod Command

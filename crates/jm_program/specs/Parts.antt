@@ -1,17 +1,22 @@
--- What the parts of the program say of the two sinks.
-use Rattle.std.specs.Prelude.{◌≡◌, ◌⊎◌, ℕ, List, Option}
+-- What the parts of the program say.
+use Rattle.std.specs.Prelude.{◌≡◌, ◌⊎◌, ℕ, ◌<◌, Bool, true, List, length, Option, Some, None}
 use Rattle.std.specs.Io.KnownBytes.{Appends}
 use Rattle.jm_base.specs.Counts.{Rose}
-use Rattle.jm_base.specs.declared.types.End.{End}
 use Rattle.edge_io.specs.Edges.{AppendsFront}
-use Rattle.element_tree.specs.Tree.{Tree}
-use Rattle.element_tree.specs.Reading.{the_plan, reading_of}
-use Rattle.jm_meaning.specs.declared.item.Item.{Item}
-use Rattle.jm_program.specs.declared.status.Fault.{Fault}
+use Rattle.element_props.specs.Patterns.{Asked}
+use Rattle.element_tree.specs.Tree.{Tree, threads_of}
 use Rattle.jm_program.specs.declared.status.Status.{Status}
 use Rattle.jm_program.specs.declared.status.Status.TheVariants.{Done, Usage, Refused, ReadFault, WriteFault, Memory}
-use Rattle.jm_program.specs.Printed.{shown_of, results_of, report_of, IsShown}
-use Rattle.jm_program.specs.Command.{reading_with, refusal_line}
+use Rattle.jm_program.specs.declared.words.Command.{Command}
+use Rattle.jm_program.specs.declared.words.Command.TheVariants.{Check, Solo as SoloCommand}
+use Rattle.jm_program.specs.declared.words.Solo.{Solo}
+use Rattle.plan_json.specs.Shape.{Raw}
+use Rattle.jm_program.specs.declared.refusal.Refusal.{Refusal}
+use Rattle.jm_program.specs.declared.refusal.Refusal.TheVariants.{TooLong, Shape, Build, NotBuilt, Unfit as Conditions}
+use Rattle.jm_program.specs.declared.judge.Judged.{Judged}
+use Rattle.jm_program.specs.declared.judge.Judged.TheVariants.{Fit, Unfit, NoMemory}
+use Rattle.jm_program.specs.Refusals.{RunsAlone, IsAccepted, IsRefused, not_built, solo_fault, refusal_line}
+use Rattle.jm_program.specs.Printed.{results_for, report_for, MayPrint}
 
 -- what the two sinks hold, where it is told, and their counts of faults
 pub record Sinks : Type 0 where
@@ -50,10 +55,6 @@ LineSays line wanted old new faults now ReadFault = ⊥
 LineSays line wanted old new faults now WriteFault = LineFailed line old new faults now
 LineSays line wanted old new faults now Memory = ⊥
 
--- refusing bytes with a line
-abbrev pub RefusalSays : Fault → Option (List ℕ) → Option (List ℕ) → ℕ → ℕ → Status → Type 0
-RefusalSays fault old new faults now status = LineSays (refusal_line fault) Refused old new faults now status
-
 -- both texts are out
 pub record BothOut (results report : List ℕ) (old new : Sinks) : Type 0 where
   pub results_out : Appends old.results new.results results
@@ -82,32 +83,65 @@ TextsSay results report old new ReadFault = ⊥
 TextsSay results report old new WriteFault = ResultsFailed results old new ⊎ ReportFailed results report old new
 TextsSay results report old new Memory = ⊥
 
--- running a plan and printing its texts
-abbrev pub PlanSays : Tree → Sinks → Sinks → Status → Type 0
-PlanSays plan old new Done = BothOut (results_of plan (shown_of plan)) (report_of plan (shown_of plan)) old new
-PlanSays plan old new Usage = ⊥
-PlanSays plan old new Refused = ⊥
-PlanSays plan old new ReadFault = ⊥
-PlanSays plan old new WriteFault = (items : List Item) × (end : End) × IsShown plan items end
-    × (ResultsFailed (results_of plan items) old new ⊎ ReportFailed (results_of plan items) (report_of plan items) old new)
-PlanSays plan old new Memory = Unit {0}
+-- printing the texts of a command on a plan
+abbrev pub PlanSays : Command → Tree → Sinks → Sinks → Status → Type 0
+PlanSays command plan old new Done = BothOut (results_for command plan) (report_for command plan) old new
+PlanSays command plan old new Usage = ⊥
+PlanSays command plan old new Refused = ⊥
+PlanSays command plan old new ReadFault = ⊥
+PlanSays command plan old new WriteFault = (results : List ℕ) × (report : List ℕ) × MayPrint command plan results report
+    × (ResultsFailed results old new ⊎ ReportFailed results report old new)
+PlanSays command plan old new Memory = Unit {0}
 
--- refusing the bytes, or running their plan
-abbrev pub BytesSay : List ℕ → Sinks → Sinks → Status → Type 0
-BytesSay bytes old new Done = (plan : Tree) × (reading_of bytes ≡ the_plan plan) × PlanSays plan old new Done
-BytesSay bytes old new Usage = ⊥
-BytesSay bytes old new Refused = (fault : Fault) × (reading_of bytes ≡ reading_with fault) × NoResults old new × LineOut (refusal_line fault) old.reports new.reports old.report_faults new.report_faults
-BytesSay bytes old new ReadFault = ⊥
-BytesSay bytes old new WriteFault =
-    ((fault : Fault) × (reading_of bytes ≡ reading_with fault) × NoResults old new × LineFailed (refusal_line fault) old.reports new.reports old.report_faults new.report_faults)
-    ⊎ ((plan : Tree) × (reading_of bytes ≡ the_plan plan) × PlanSays plan old new WriteFault)
-BytesSay bytes old new Memory = Unit {0}
+-- refusing a plan with a line, unless memory was wanting
+abbrev pub RefusalSays : Refusal → Option (List ℕ) → Option (List ℕ) → ℕ → ℕ → Status → Type 0
+RefusalSays refusal old new faults now Done = ⊥
+RefusalSays refusal old new faults now Usage = ⊥
+RefusalSays refusal old new faults now Refused = LineOut (refusal_line refusal) old new faults now
+RefusalSays refusal old new faults now ReadFault = ⊥
+RefusalSays refusal old new faults now WriteFault = LineFailed (refusal_line refusal) old new faults now
+RefusalSays refusal old new faults now Memory = Unit {0}
+
+-- refusing the bytes, or printing the texts of their plan
+abbrev pub BytesSay : Command → List ℕ → Asked → Asked → Sinks → Sinks → Status → Type 0
+BytesSay command bytes before after old new Done = (plan : Tree) × IsAccepted command bytes before after plan × PlanSays command plan old new Done
+BytesSay command bytes before after old new Usage = ⊥
+BytesSay command bytes before after old new Refused =
+    (refusal : Refusal) × IsRefused command bytes before after refusal × NoResults old new × LineOut (refusal_line refusal) old.reports new.reports old.report_faults new.report_faults
+BytesSay command bytes before after old new ReadFault = ⊥
+BytesSay command bytes before after old new WriteFault =
+    ((refusal : Refusal) × IsRefused command bytes before after refusal × NoResults old new × LineFailed (refusal_line refusal) old.reports new.reports old.report_faults new.report_faults)
+    ⊎ ((plan : Tree) × IsAccepted command bytes before after plan × PlanSays command plan old new WriteFault)
+BytesSay command bytes before after old new Memory = Unit {0}
 
 -- the status behind texts that are printed whole: done, or 7 where memory was wanting
-abbrev pub EndSays : End → Status → Type 0
-EndSays end Done = (plan : Tree) (items : List Item) → IsShown plan items end → items ≡ shown_of plan
-EndSays end Usage = ⊥
-EndSays end Refused = ⊥
-EndSays end ReadFault = ⊥
-EndSays end WriteFault = ⊥
-EndSays end Memory = Unit {0}
+abbrev pub WholeSays : Bool → Status → Type 0
+WholeSays whole Done = whole ≡ true
+WholeSays whole Usage = ⊥
+WholeSays whole Refused = ⊥
+WholeSays whole ReadFault = ⊥
+WholeSays whole WriteFault = ⊥
+WholeSays whole Memory = Unit {0}
+
+-- ---- the plan of some bytes
+
+-- a plan that is fit for the command, or why it is refused
+abbrev pub Judges : Command → List ℕ → Asked → Asked → Judged → Type 0
+Judges command bytes before after (Fit plan) = IsAccepted command bytes before after plan
+Judges command bytes before after (Unfit refusal) = IsRefused command bytes before after refusal
+Judges command bytes before after NoMemory = Unit {0}
+
+-- the thread that is run is one of the plan's
+abbrev pub HasThread : Command → Tree → Type 0
+HasThread Check plan = Unit {0}
+HasThread (SoloCommand s) plan = s.thread < length (threads_of plan)
+
+-- a plan of which one thread can be run, or why it can't
+abbrev pub JudgesSolo : Solo → Raw → Tree → Judged → Type 0
+JudgesSolo s tree plan (Fit fit) = (fit ≡ plan) × RunsAlone tree plan s
+JudgesSolo s tree plan (Unfit TooLong) = ⊥
+JudgesSolo s tree plan (Unfit (Shape e)) = ⊥
+JudgesSolo s tree plan (Unfit (Build e)) = ⊥
+JudgesSolo s tree plan (Unfit (NotBuilt path)) = not_built tree plan.elements ≡ Some path
+JudgesSolo s tree plan (Unfit (Conditions e)) = (not_built tree plan.elements ≡ None) × (solo_fault plan s ≡ Some e)
+JudgesSolo s tree plan NoMemory = Unit {0}

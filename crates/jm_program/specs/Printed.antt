@@ -1,5 +1,5 @@
 -- The texts of a run of one thread.
-use Rattle.std.specs.Prelude.{◌≡◌, ℕ, List, [], ◌∷◌, ◌++◌, map, Option, Some, None}
+use Rattle.std.specs.Prelude.{◌≡◌, codes, ℕ, Bool, true, false, List, [], ◌∷◌, ◌++◌, map, Option, Some, None}
 use Rattle.std.specs.List.{flat_map}
 use Rattle.std.specs.Option.{option_map_or}
 use Rattle.jm_base.specs.declared.types.End.{End}
@@ -7,6 +7,10 @@ use Rattle.jm_base.specs.declared.types.End.TheVariants.{Completed, StopThread, 
 use Rattle.jm_base.specs.Run.{over_value}
 use Rattle.jm_base.specs.Outside.{script_form}
 use Rattle.element_tree.specs.Tree.{Tree}
+use Rattle.element_tree.specs.Written.{plan_text}
+use Rattle.jm_program.specs.declared.words.Solo.{Solo}
+use Rattle.jm_program.specs.declared.words.Command.{Command}
+use Rattle.jm_program.specs.declared.words.Command.TheVariants.{Check, Solo as SoloCommand}
 use Rattle.jm_meaning.specs.declared.item.Item.{Item}
 use Rattle.jm_meaning.specs.declared.item.Item.TheVariants.{Paused, Sampled, Null, Entered, Left, Ended}
 use Rattle.jm_meaning.specs.Meaning.{events}
@@ -14,26 +18,22 @@ use Rattle.jm_meaning.specs.Shown.{shown}
 use Rattle.outside_world.specs.Scripted.{scripts_of}
 use Rattle.output_lines.specs.Lines.{header_text, result_text, end_text}
 
--- the sample budget of a thread
-abbrev pub budget : ℕ
-budget = 65536
-
--- what a run of a plan's first thread shows, over the replies that the plan has itself
-unfoldable pub shown_of : Tree → List Item
-shown_of plan = map shown (over_value script_form (events plan 0 budget) (scripts_of plan)).events
+-- what a run of one thread of a plan shows, over the replies that the plan has itself
+unfoldable pub shown_of : Tree → Solo → List Item
+shown_of plan s = map shown (over_value script_form (events plan s.thread s.samples) (scripts_of plan)).events
 
 -- a sample's line, with interval 0
-abbrev pub item_text : Tree → Item → List ℕ
-item_text plan (Paused ms) = []
-item_text plan (Sampled sample) = result_text plan 0 sample 0
-item_text plan (Null sampler) = []
-item_text plan (Entered lock) = []
-item_text plan (Left lock) = []
-item_text plan (Ended end) = []
+abbrev pub item_text : Tree → ℕ → Item → List ℕ
+item_text plan thread (Paused ms) = []
+item_text plan thread (Sampled sample) = result_text plan thread sample 0
+item_text plan thread (Null sampler) = []
+item_text plan thread (Entered lock) = []
+item_text plan thread (Left lock) = []
+item_text plan thread (Ended end) = []
 
 -- the results of what a thread shows: the header, and a line for each sample
-abbrev pub results_of : Tree → List Item → List ℕ
-results_of plan items = header_text ++ flat_map (item_text plan) items
+abbrev pub results_of : Tree → ℕ → List Item → List ℕ
+results_of plan thread items = header_text ++ flat_map (item_text plan thread) items
 
 -- how a thread has ended, by the last item that it shows
 abbrev pub end_of_item : Item → Option End
@@ -50,28 +50,63 @@ last_end (item ∷ []) = end_of_item item
 last_end (item ∷ next ∷ items) = last_end (next ∷ items)
 
 -- the report of what a thread shows: its end line
-abbrev pub report_of : Tree → List Item → List ℕ
-report_of plan items = option_map_or (end_text plan 0) (last_end items) []
+abbrev pub report_of : Tree → ℕ → List Item → List ℕ
+report_of plan thread items = option_map_or (end_text plan thread) (last_end items) []
 
 -- the items are those of the plan's meaning; of a thread that was cut for want of memory nothing is said
-abbrev pub IsWhole : Tree → List Item → End → Type 0
-IsWhole plan items Completed = items ≡ shown_of plan
-IsWhole plan items StopThread = items ≡ shown_of plan
-IsWhole plan items StopTest = items ≡ shown_of plan
-IsWhole plan items Stopped = items ≡ shown_of plan
-IsWhole plan items SampleLimit = items ≡ shown_of plan
-IsWhole plan items RoundLimit = items ≡ shown_of plan
-IsWhole plan items ValueLimit = items ≡ shown_of plan
-IsWhole plan items NoMemory = Unit {0}
+abbrev pub IsWhole : Tree → Solo → List Item → End → Type 0
+IsWhole plan s items Completed = items ≡ shown_of plan s
+IsWhole plan s items StopThread = items ≡ shown_of plan s
+IsWhole plan s items StopTest = items ≡ shown_of plan s
+IsWhole plan s items Stopped = items ≡ shown_of plan s
+IsWhole plan s items SampleLimit = items ≡ shown_of plan s
+IsWhole plan s items RoundLimit = items ≡ shown_of plan s
+IsWhole plan s items ValueLimit = items ≡ shown_of plan s
+IsWhole plan s items NoMemory = Unit {0}
 
 -- what a thread with this end has shown
-pub record IsShown (plan : Tree) (items : List Item) (end : End) : Type 0 where
+pub record IsShown (plan : Tree) (s : Solo) (items : List Item) (end : End) : Type 0 where
   pub last : last_end items ≡ Some end
-  pub whole : IsWhole plan items end
+  pub whole : IsWhole plan s items end
 
--- the texts of a run of a plan's first thread
-pub record AreTexts (plan : Tree) (results report : List ℕ) (end : End) : Type 0 where
+-- a thread that ended so was not cut for want of memory
+abbrev pub end_is_whole : End → Bool
+end_is_whole Completed = true
+end_is_whole StopThread = true
+end_is_whole StopTest = true
+end_is_whole Stopped = true
+end_is_whole SampleLimit = true
+end_is_whole RoundLimit = true
+end_is_whole ValueLimit = true
+end_is_whole NoMemory = false
+
+-- ---- the texts of a command
+
+-- the results of a command on a plan: for `check` the plan as it is written, and a line feed; for `solo` the header and the result lines
+abbrev pub results_for : Command → Tree → List ℕ
+results_for Check plan = plan_text plan ++ codes "\n"
+results_for (SoloCommand s) plan = results_of plan s.thread (shown_of plan s)
+
+-- the report of a command on a plan: for `check` nothing, for `solo` the end line
+abbrev pub report_for : Command → Tree → List ℕ
+report_for Check plan = []
+report_for (SoloCommand s) plan = report_of plan s.thread (shown_of plan s)
+
+-- a thread has shown items that are printed so
+pub record ShowsItems (plan : Tree) (s : Solo) (results report : List ℕ) : Type 0 where
   pub items : List Item
-  pub shown_as : IsShown plan items end
-  pub results_are : results ≡ results_of plan items
-  pub report_is : report ≡ report_of plan items
+  pub end : End
+  pub shown_as : IsShown plan s items end
+  pub results_are : results ≡ results_of plan s.thread items
+  pub report_is : report ≡ report_of plan s.thread items
+
+-- These texts may be printed: those of the plan itself, or those of a thread that has run, maybe cut for want of memory.
+abbrev pub MayPrint : Command → Tree → List ℕ → List ℕ → Type 0
+MayPrint Check plan results report = (results ≡ results_for Check plan) × (report ≡ [])
+MayPrint (SoloCommand s) plan results report = ShowsItems plan s results report
+
+-- the texts of a command on a plan; where they are not whole, memory was wanting
+pub record AreTexts (command : Command) (plan : Tree) (results report : List ℕ) (whole : Bool) : Type 0 where
+  pub may : MayPrint command plan results report
+  pub results_whole : whole ≡ true → results ≡ results_for command plan
+  pub report_whole : whole ≡ true → report ≡ report_for command plan

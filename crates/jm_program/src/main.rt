@@ -1,12 +1,16 @@
 //! `jm`: runs JMeter test plans that are written as JSON.
 #![tactic(auto)]
 
+mod judge;
 mod program;
-mod solo;
+mod refusal;
 mod status;
+mod texts;
+mod unbuilt;
 mod words;
 
 use edge_io::{FromRead, IntoWrite};
+use element_tree::RegexPatterns;
 use jm_base::{M, NoMemory};
 use program::plain_command;
 use status::Status;
@@ -36,7 +40,15 @@ fn main(rt: HostRuntime) -> ExitCode {
     let mut plan = FromRead::new(rt.stdin());
     let mut results = IntoWrite::new(rt.stdout());
     let mut reports = IntoWrite::new(rt.stderr());
-    ExitCode::from(plain_command(alloc, &words, &mut plan, &mut results, &mut reports))
+    let mut patterns = RegexPatterns::new(Vec::new(alloc));
+    ExitCode::from(plain_command(
+        alloc,
+        &words,
+        &mut plan,
+        &mut results,
+        &mut reports,
+        &mut patterns,
+    ))
 }
 
 #[cfg(test)]

@@ -1,142 +1,162 @@
-// The program as a function of its words, its source and its sinks.
+// The program as a function of its words, its source, its sinks and its maker of patterns.
 
-ghost use Rattle.std.specs.Prelude.{◌≡◌, ◌⊎◌, map, string_bytes, true, false, List, ℕ, Some};
-ghost use Rattle.jm_program.specs.Command.{Says, IsStatus, IsDone, IsUsage, IsRefused, IsUnread, IsUnwritten, NoRise, status_for, edges, is_solo};
-ghost use Rattle.jm_program.specs.Parts.{LineSays, RefusalSays, TextsSay, PlanSays, BytesSay, EndSays, sinks};
+ghost use Rattle.std.specs.Prelude.{◌≡◌, ◌⊎◌, map, string_bytes, true, List, ℕ, Some, None};
+ghost use Rattle.jm_program.specs.declared.words.Command.{Command};
+ghost use Rattle.jm_program.specs.Words.{command_of};
+ghost use Rattle.jm_program.specs.Command.{Says, IsStatus, IsDone, IsUsage, IsRefusal, IsUnread, IsUnwritten, NoRise, HasPatterns, status_for, edges};
+ghost use Rattle.jm_program.specs.Parts.{HasThread, LineSays, RefusalSays, TextsSay, PlanSays, BytesSay, WholeSays, sinks};
 
-use crate::solo::{SoloTexts, solo_texts};
-use crate::status::{Fault, Status};
-use crate::words::is_solo;
+use crate::judge::{Judged, judge};
+use crate::refusal::{Refusal, refusal_line};
+use crate::status::Status;
+use crate::texts::{Texts, texts_of};
+use crate::words::{Command, command_of};
 use edge_io::{ReadError, Sink, Source, read_all, write_all};
-use element_tree::{FirstError, Plan, build_first};
-use jm_base::End;
+use element_props::Patterns;
+use element_tree::Plan;
 use std::alloc::Global;
 
 /// The most bytes that a plan has.
 const PLAN_LIMIT: u32 = 4_194_304;
 
 /// Runs the program on its words, without its own name. The plan is read from `plan`, the results go to `results`,
-/// and the end line, the usage line or a refusal line to `reports`. It gives the exit status.
-pub fn plain_command<S: Source, O: Sink, E: Sink>(
+/// and the end line, the usage line or a refusal line to `reports`. `patterns` makes the plan's patterns.
+/// It gives the exit status.
+pub fn plain_command<S: Source, O: Sink, E: Sink, G: Patterns>(
     alloc: Global,
     words: &Vec<String>,
     plan: &mut S,
     results: &mut O,
     reports: &mut E,
+    patterns: &mut G,
 ) -> u8
     ensures status { IsStatus result }
-    ensures done { result ≡ 0 → (is_solo (map string_bytes words.now.items) ≡ true) × IsDone
-        (edges (S.left plan.old) (S.faults plan.old) (O.written results.old) (O.faults results.old) (E.written reports.old) (E.faults reports.old))
-        (edges (S.left plan.new) (S.faults plan.new) (O.written results.new) (O.faults results.new) (E.written reports.new) (E.faults reports.new)) }
-    ensures usage { result ≡ 2 → (is_solo (map string_bytes words.now.items) ≡ false) × IsUsage
-        (edges (S.left plan.old) (S.faults plan.old) (O.written results.old) (O.faults results.old) (E.written reports.old) (E.faults reports.old))
-        (edges (S.left plan.new) (S.faults plan.new) (O.written results.new) (O.faults results.new) (E.written reports.new) (E.faults reports.new)) }
-    ensures refused { result ≡ 3 → (is_solo (map string_bytes words.now.items) ≡ true) × IsRefused
-        (edges (S.left plan.old) (S.faults plan.old) (O.written results.old) (O.faults results.old) (E.written reports.old) (E.faults reports.old))
-        (edges (S.left plan.new) (S.faults plan.new) (O.written results.new) (O.faults results.new) (E.written reports.new) (E.faults reports.new)) }
-    ensures unread { result ≡ 4 → (is_solo (map string_bytes words.now.items) ≡ true) × IsUnread
-        (edges (S.left plan.old) (S.faults plan.old) (O.written results.old) (O.faults results.old) (E.written reports.old) (E.faults reports.old))
-        (edges (S.left plan.new) (S.faults plan.new) (O.written results.new) (O.faults results.new) (E.written reports.new) (E.faults reports.new)) }
-    ensures unwritten { result ≡ 5 → IsUnwritten (is_solo (map string_bytes words.now.items))
-        (edges (S.left plan.old) (S.faults plan.old) (O.written results.old) (O.faults results.old) (E.written reports.old) (E.faults reports.old))
-        (edges (S.left plan.new) (S.faults plan.new) (O.written results.new) (O.faults results.new) (E.written reports.new) (E.faults reports.new)) }
+    ensures done { result ≡ 0 → (command : Command) × (command_of (map string_bytes words.now.items) ≡ Some command) × IsDone command
+        (edges (S.left plan.old) (S.faults plan.old) (O.written results.old) (O.faults results.old) (E.written reports.old) (E.faults reports.old) (G.account patterns.old))
+        (edges (S.left plan.new) (S.faults plan.new) (O.written results.new) (O.faults results.new) (E.written reports.new) (E.faults reports.new) (G.account patterns.new)) }
+    ensures usage { result ≡ 2 → (command_of (map string_bytes words.now.items) ≡ None) × IsUsage
+        (edges (S.left plan.old) (S.faults plan.old) (O.written results.old) (O.faults results.old) (E.written reports.old) (E.faults reports.old) (G.account patterns.old))
+        (edges (S.left plan.new) (S.faults plan.new) (O.written results.new) (O.faults results.new) (E.written reports.new) (E.faults reports.new) (G.account patterns.new)) }
+    ensures refused { result ≡ 3 → (command : Command) × (command_of (map string_bytes words.now.items) ≡ Some command) × IsRefusal command
+        (edges (S.left plan.old) (S.faults plan.old) (O.written results.old) (O.faults results.old) (E.written reports.old) (E.faults reports.old) (G.account patterns.old))
+        (edges (S.left plan.new) (S.faults plan.new) (O.written results.new) (O.faults results.new) (E.written reports.new) (E.faults reports.new) (G.account patterns.new)) }
+    ensures unread { result ≡ 4 → (command : Command) × (command_of (map string_bytes words.now.items) ≡ Some command) × IsUnread
+        (edges (S.left plan.old) (S.faults plan.old) (O.written results.old) (O.faults results.old) (E.written reports.old) (E.faults reports.old) (G.account patterns.old))
+        (edges (S.left plan.new) (S.faults plan.new) (O.written results.new) (O.faults results.new) (E.written reports.new) (E.faults reports.new) (G.account patterns.new)) }
+    ensures unwritten { result ≡ 5 → IsUnwritten (command_of (map string_bytes words.now.items))
+        (edges (S.left plan.old) (S.faults plan.old) (O.written results.old) (O.faults results.old) (E.written reports.old) (E.faults reports.old) (G.account patterns.old))
+        (edges (S.left plan.new) (S.faults plan.new) (O.written results.new) (O.faults results.new) (E.written reports.new) (E.faults reports.new) (G.account patterns.new)) }
 
-    // With no fault the words and the bytes alone decide, unless memory was wanting.
-    ensures exact { (bytes : List ℕ) → S.left plan.old ≡ Some bytes → NoRise
-        (edges (S.left plan.old) (S.faults plan.old) (O.written results.old) (O.faults results.old) (E.written reports.old) (E.faults reports.old))
-        (edges (S.left plan.new) (S.faults plan.new) (O.written results.new) (O.faults results.new) (E.written reports.new) (E.faults reports.new))
-        → (result ≡ status_for (is_solo (map string_bytes words.now.items)) bytes) ⊎ (result ≡ 7) }
+    // With no fault, no pattern too large and every pattern a regular expression, the words and the bytes alone decide,
+    // unless memory was wanting.
+    ensures exact { (bytes : List ℕ) → S.left plan.old ≡ Some bytes → HasPatterns bytes → NoRise
+        (edges (S.left plan.old) (S.faults plan.old) (O.written results.old) (O.faults results.old) (E.written reports.old) (E.faults reports.old) (G.account patterns.old))
+        (edges (S.left plan.new) (S.faults plan.new) (O.written results.new) (O.faults results.new) (E.written reports.new) (E.faults reports.new) (G.account patterns.new))
+        → (result ≡ status_for (command_of (map string_bytes words.now.items)) bytes) ⊎ (result ≡ 7) }
 {
-    let solo = is_solo(words);
-    command(alloc, solo, plan, results, reports).number()
+    run_words(alloc, words, plan, results, reports, patterns).number()
 }
 
-// Runs the program where its words are the one word `solo`, or aren't.
-fn command<S: Source, O: Sink, E: Sink>(
+// Runs the program on these words.
+fn run_words<S: Source, O: Sink, E: Sink, G: Patterns>(
     alloc: Global,
-    solo: bool,
+    words: &Vec<String>,
     plan: &mut S,
     results: &mut O,
     reports: &mut E,
+    patterns: &mut G,
 ) -> Status
-    ensures { Says solo
-        (edges (S.left plan.old) (S.faults plan.old) (O.written results.old) (O.faults results.old) (E.written reports.old) (E.faults reports.old))
-        (edges (S.left plan.new) (S.faults plan.new) (O.written results.new) (O.faults results.new) (E.written reports.new) (E.faults reports.new))
+    ensures { Says (command_of (map string_bytes words.now.items))
+        (edges (S.left plan.old) (S.faults plan.old) (O.written results.old) (O.faults results.old) (E.written reports.old) (E.faults reports.old) (G.account patterns.old))
+        (edges (S.left plan.new) (S.faults plan.new) (O.written results.new) (O.faults results.new) (E.written reports.new) (E.faults reports.new) (G.account patterns.new))
         result }
 {
-    if !solo {
+    match command_of(alloc, words) {
+        Ok(command) => run_command(alloc, command, plan, results, reports, patterns),
+        Err(_) => Status::Memory,
+    }
+}
+
+// Runs the program where its words are this command, or none.
+fn run_command<S: Source, O: Sink, E: Sink, G: Patterns>(
+    alloc: Global,
+    command: Option<Command>,
+    plan: &mut S,
+    results: &mut O,
+    reports: &mut E,
+    patterns: &mut G,
+) -> Status
+    ensures { Says command
+        (edges (S.left plan.old) (S.faults plan.old) (O.written results.old) (O.faults results.old) (E.written reports.old) (E.faults reports.old) (G.account patterns.old))
+        (edges (S.left plan.new) (S.faults plan.new) (O.written results.new) (O.faults results.new) (E.written reports.new) (E.faults reports.new) (G.account patterns.new))
+        result }
+{
+    let Some(command) = command else {
         return say(
             reports,
             b"usage: jm check|make|run|solo|weave [--option value]\n",
             Status::Usage,
         );
-    }
+    };
     match read_all(alloc, plan, PLAN_LIMIT) {
-        Ok(bytes) => run_bytes(alloc, &bytes, results, reports),
+        Ok(bytes) => run_bytes(alloc, command, &bytes, results, reports, patterns),
         Err(ReadError::ReadFault) => Status::ReadFault,
-        Err(ReadError::TooLong) => say(reports, b"refused 8 TooMany / bytes\n", Status::Refused),
+        Err(ReadError::TooLong) => refuse(alloc, &Refusal::TooLong, reports),
         Err(ReadError::NoMemory) => Status::Memory,
     }
 }
 
-// Runs the plan of these bytes, or refuses them.
-fn run_bytes<O: Sink, E: Sink>(
+// Does what the command says with the plan of these bytes, or refuses them.
+fn run_bytes<O: Sink, E: Sink, G: Patterns>(
     alloc: Global,
+    command: Command,
     bytes: &[u8],
     results: &mut O,
     reports: &mut E,
+    patterns: &mut G,
 ) -> Status
-    ensures { BytesSay bytes.now
+    ensures { BytesSay command bytes.now (G.account patterns.old) (G.account patterns.new)
         (sinks (O.written results.old) (O.faults results.old) (E.written reports.old) (E.faults reports.old))
         (sinks (O.written results.new) (O.faults results.new) (E.written reports.new) (E.faults reports.new)) result }
 {
-    match build_first(alloc, bytes) {
-        Ok(plan) => run_plan(alloc, &plan, results, reports),
-        Err(FirstError::NotUtf8) => refuse(reports, Fault::NotUtf8),
-        Err(FirstError::NotJson) => refuse(reports, Fault::NotJson),
-        Err(FirstError::NotBuilt) => refuse(reports, Fault::NotBuilt),
-        Err(FirstError::NoMemory) => Status::Memory,
+    match judge(alloc, command, bytes, patterns) {
+        Judged::Fit(plan) => run_plan(alloc, command, &plan, results, reports),
+        Judged::Unfit(refusal) => refuse(alloc, &refusal, reports),
+        Judged::NoMemory => Status::Memory,
     }
 }
 
-// Runs a plan and prints its texts.
+// Prints the texts of the command on a plan.
 fn run_plan<O: Sink, E: Sink>(
     alloc: Global,
+    command: Command,
     plan: &Plan,
     results: &mut O,
     reports: &mut E,
 ) -> Status
-    ensures { PlanSays plan.now
+    requires { HasThread command plan.now }
+    ensures { PlanSays command plan.now
         (sinks (O.written results.old) (O.faults results.old) (E.written reports.old) (E.faults reports.old))
         (sinks (O.written results.new) (O.faults results.new) (E.written reports.new) (E.faults reports.new)) result }
 {
-    let Ok(texts) = solo_texts(alloc, plan) else {
+    let Ok(texts) = texts_of(alloc, command, plan) else {
         return Status::Memory;
     };
     match print(&texts, results, reports) {
-        Status::Done => ended_with(texts.end),
+        Status::Done => status_of(texts.whole),
         other => other,
     }
 }
 
 // The status behind texts that are printed whole.
-fn ended_with(end: End) -> Status
-    ensures { EndSays end result }
+fn status_of(whole: bool) -> Status
+    ensures { WholeSays whole result }
 {
-    match end {
-        End::NoMemory => Status::Memory,
-        End::Completed
-        | End::StopThread
-        | End::StopTest
-        | End::Stopped
-        | End::SampleLimit
-        | End::RoundLimit
-        | End::ValueLimit => Status::Done,
-    }
+    if whole { Status::Done } else { Status::Memory }
 }
 
-// Prints the texts of a run, the results first.
-fn print<O: Sink, E: Sink>(texts: &SoloTexts, results: &mut O, reports: &mut E) -> Status
+// Prints texts, the results first.
+fn print<O: Sink, E: Sink>(texts: &Texts, results: &mut O, reports: &mut E) -> Status
     ensures { TextsSay texts.now.results.items texts.now.report.items
         (sinks (O.written results.old) (O.faults results.old) (E.written reports.old) (E.faults reports.old))
         (sinks (O.written results.new) (O.faults results.new) (E.written reports.new) (E.faults reports.new)) result }
@@ -150,15 +170,14 @@ fn print<O: Sink, E: Sink>(texts: &SoloTexts, results: &mut O, reports: &mut E) 
     }
 }
 
-// Refuses bytes that are no plan.
-fn refuse<E: Sink>(reports: &mut E, fault: Fault) -> Status
-    ensures { RefusalSays fault (E.written reports.old) (E.written reports.new) (E.faults reports.old) (E.faults reports.new) result }
+// Writes the line of a refusal to the reports.
+fn refuse<E: Sink>(alloc: Global, refusal: &Refusal, reports: &mut E) -> Status
+    ensures { RefusalSays refusal.now (E.written reports.old) (E.written reports.new) (E.faults reports.old) (E.faults reports.new) result }
 {
-    match fault {
-        Fault::NotUtf8 => say(reports, b"refused 1 NotUtf8 -\n", Status::Refused),
-        Fault::NotJson => say(reports, b"refused 2 NotJson -\n", Status::Refused),
-        Fault::NotBuilt => say(reports, b"refused 15 NotBuilt -\n", Status::Refused),
-    }
+    let Ok(line) = refusal_line(alloc, refusal) else {
+        return Status::Memory;
+    };
+    say(reports, &line, Status::Refused)
 }
 
 // Writes one line to the reports.

@@ -3,14 +3,6 @@
 ghost use Rattle.std.specs.Prelude.{◌≡◌};
 ghost use Rattle.jm_program.specs.Command.{number_of};
 
-/// Why bytes are no plan.
-#[derive(Clone, Copy, PartialEq, Eq, Debug)]
-pub enum Fault {
-    NotUtf8,
-    NotJson,
-    NotBuilt,
-}
-
 /// How the program ends.
 #[derive(Clone, Copy, PartialEq, Eq, Debug)]
 pub enum Status {

@@ -2,6 +2,7 @@
 
 use crate::program::plain_command;
 use edge_io::{MemSink, MemSource};
+use element_tree::RegexPatterns;
 use std::alloc::Global;
 use std::process::Abort;
 use std::test::Fail;
@@ -14,18 +15,20 @@ struct Ran {
     reports: MemSink,
 }
 
-/// The calls of the source and of each sink that fail.
+/// The calls of the source, of each sink and of the maker of patterns that fail.
 #[derive(Clone, Copy)]
 struct Failing {
     reads: Option<u32>,
     results: Option<u32>,
     reports: Option<u32>,
+    patterns: Option<u32>,
 }
 
 const NOTHING_FAILS: Failing = Failing {
     reads: None,
     results: None,
     reports: None,
+    patterns: None,
 };
 
 const ROOM: u32 = 8_000_000;
@@ -54,18 +57,53 @@ fn run(alloc: Global, words: &[&str], plan: &[u8], failing: Failing) -> Result<R
     for word in words {
         all.push(String::from_str(alloc, word)?)?;
     }
+    run_words(alloc, &all, plan, failing)
+}
+
+// A run by the words between the spaces of a line.
+fn run_line(alloc: Global, line: &str, plan: &[u8], failing: Failing) -> Result<Ran, Fail> {
+    let mut all = Vec::new(alloc);
+    for word in line.split(' ') {
+        all.push(String::from_str(alloc, word)?)?;
+    }
+    run_words(alloc, &all, plan, failing)
+}
+
+fn run_words(
+    alloc: Global,
+    words: &Vec<String>,
+    plan: &[u8],
+    failing: Failing,
+) -> Result<Ran, Fail> {
     let mut source = MemSource::new(
         Vec::from_slice(alloc, plan)?,
         one_or_none(alloc, failing.reads)?,
     );
     let mut results = MemSink::new(alloc, ROOM, one_or_none(alloc, failing.results)?)?;
     let mut reports = MemSink::new(alloc, 4096, one_or_none(alloc, failing.reports)?)?;
-    let status = plain_command(alloc, &all, &mut source, &mut results, &mut reports);
+    let mut patterns = RegexPatterns::new(one_or_none(alloc, failing.patterns)?);
+    let status = plain_command(
+        alloc,
+        words,
+        &mut source,
+        &mut results,
+        &mut reports,
+        &mut patterns,
+    );
     Ok(Ran {
         status,
         results,
         reports,
     })
+}
+
+// A plan with one group `TG` with these properties over these children.
+fn plan_of(alloc: Global, props: &str, children: &str) -> Result<Vec<u8>, Fail> {
+    let text = format!(in alloc;
+        "{{\"type\":\"TestPlan\",\"children\":[{{\"type\":\"ThreadGroup\",\"name\":\"TG\",\"props\":{{{}}},\"children\":[{}]}}]}}",
+        props, children
+    )?;
+    Ok(Vec::from_slice(alloc, text.as_bytes())?)
 }
 
 fn expect(rt: &impl Abort, ran: &Ran, status: u8, results: &[u8], reports: &[u8]) {
@@ -81,79 +119,57 @@ fn loop_of_two_samplers_prints_six_lines(rt: HostRuntime) -> Result<(), Fail> {
     Ok(())
 }
 
+// Command lines that are no command of the program, their words parted by spaces: none of them reads the plan.
+const OTHER_WORDS: &str =
+    "solo --seed 1 --seed 2\nsolo --props x\nsolo -\nsolo solo\nSolo\nsol\nsolo --thread 64\nsolo --samples 0\nsolo --samples 262145\nsolo --seed 18446744073709551616\nsolo --seed -1\nsolo --props\nsolo  --seed 1\nsolo --help\n--help\ncheck --seed 1\ncheck solo\nmake --size 7\nweave\nrun --every 500\nwalk\n";
+
 #[test]
 fn other_words_print_the_usage_line(rt: HostRuntime) -> Result<(), Fail> {
-    expect(
-        &rt,
-        &run(rt.alloc(), &[], LOOP_PLAN, NOTHING_FAILS)?,
-        2,
-        b"",
-        USAGE,
-    );
-    expect(
-        &rt,
-        &run(rt.alloc(), &["solo", "solo"], LOOP_PLAN, NOTHING_FAILS)?,
-        2,
-        b"",
-        USAGE,
-    );
-    expect(
-        &rt,
-        &run(rt.alloc(), &["Solo"], LOOP_PLAN, NOTHING_FAILS)?,
-        2,
-        b"",
-        USAGE,
-    );
-    expect(
-        &rt,
-        &run(rt.alloc(), &["sol"], LOOP_PLAN, NOTHING_FAILS)?,
-        2,
-        b"",
-        USAGE,
-    );
+    let failing = Failing {
+        reads: Some(0),
+        ..NOTHING_FAILS
+    };
+    let ran = run(rt.alloc(), &[], LOOP_PLAN, failing)?;
+    expect(&rt, &ran, 2, b"", USAGE);
+    for line in OTHER_WORDS.lines() {
+        let ran = run_line(rt.alloc(), line, LOOP_PLAN, failing)?;
+        expect(&rt, &ran, 2, b"", USAGE);
+    }
     Ok(())
 }
 
+// Command lines that are one command: the seed and the properties change nothing yet.
+const SAME_WORDS: &str =
+    "solo --seed 7\nsolo --seed=18446744073709551615 --props a=1&b=2\nsolo --thread 0 --samples 65536\nsolo --props=& --samples=262144\n";
+
+#[test]
+fn options_of_solo_come_in_any_order(rt: HostRuntime) -> Result<(), Fail> {
+    for line in SAME_WORDS.lines() {
+        let ran = run_line(rt.alloc(), line, LOOP_PLAN, NOTHING_FAILS)?;
+        expect(&rt, &ran, 0, LOOP_RESULTS, b"end,TG 1-1,Completed\n");
+    }
+    Ok(())
+}
+
+// Bytes that are no plan, with the line that says why.
+const NO_PLANS: [(&[u8], &[u8]); 4] = [
+    (b"\xff", b"refused 1 NotUtf8 -\n"),
+    (b"", b"refused 2 NotJson -\n"),
+    (b"{\"type\":\"TestPlan\"", b"refused 2 NotJson -\n"),
+    (
+        b"{\"type\":\"TestPlan\"}",
+        b"refused 6 MissingProp /props/children\n",
+    ),
+];
+
 #[test]
 fn bytes_that_are_no_plan_are_refused(rt: HostRuntime) -> Result<(), Fail> {
-    expect(
-        &rt,
-        &run(rt.alloc(), &["solo"], b"\xff", NOTHING_FAILS)?,
-        3,
-        b"",
-        b"refused 1 NotUtf8 -\n",
-    );
-    expect(
-        &rt,
-        &run(rt.alloc(), &["solo"], b"", NOTHING_FAILS)?,
-        3,
-        b"",
-        b"refused 2 NotJson -\n",
-    );
-    expect(
-        &rt,
-        &run(
-            rt.alloc(),
-            &["solo"],
-            b"{\"type\":\"TestPlan\"",
-            NOTHING_FAILS,
-        )?,
-        3,
-        b"",
-        b"refused 2 NotJson -\n",
-    );
-    expect(
-        &rt,
-        &run(
-            rt.alloc(),
-            &["solo"],
-            b"{\"type\":\"TestPlan\"}",
-            NOTHING_FAILS,
-        )?,
-        3,
-        b"",
-        b"refused 15 NotBuilt -\n",
-    );
+    for (bytes, line) in NO_PLANS {
+        for word in ["check", "solo"] {
+            let ran = run(rt.alloc(), &[word], bytes, NOTHING_FAILS)?;
+            expect(&rt, &ran, 3, b"", line);
+        }
+    }
     Ok(())
 }
 
@@ -333,5 +349,347 @@ fn a_message_is_cut_at_256_bytes(rt: HostRuntime) -> Result<(), Fail> {
     let ran = run(rt.alloc(), &["solo"], &plan, NOTHING_FAILS)?;
     assert_eq!(rt; ran.status, 0);
     assert!(rt; ran.results.bytes().ends_with(&line));
+    Ok(())
+}
+
+// Plans that are refused whatever is to be done with them, with the line that says why.
+const REFUSED: [(&str, &str, &[u8]); 8] = [
+    (
+        "",
+        "{\"type\":\"Simple\"},{\"type\":\"Simple\"},{\"type\":\"Nope\"}",
+        b"refused 5 UnknownType /children/0/children/2\n",
+    ),
+    (
+        "",
+        "{\"type\":\"RegexExtractor\",\"props\":{\"ref\":\"x\",\"pattern\":\"(\"}}",
+        b"refused 11 BadPattern /children/0/children/0/props/pattern\n",
+    ),
+    (
+        "",
+        "{\"type\":\"Counter\",\"props\":{\"var\":\"c\",\"start\":5,\"maximum\":4}}",
+        b"refused 7 BadProp /children/0/children/0/props/start\n",
+    ),
+    (
+        "\"threads\":0",
+        "",
+        b"refused 7 BadProp /children/0/props/threads\n",
+    ),
+    ("", "7", b"refused 3 NotElement /children/0/children/0\n"),
+    (
+        "",
+        "{\"type\":\"Simple\",\"Name\":\"a\"}",
+        b"refused 4 UnknownKey /children/0/children/0\n",
+    ),
+    (
+        "",
+        "{\"type\":\"Loop\",\"props\":{\"loops\":\"${__jexl3(1 <)}\"}}",
+        b"refused 12 BadCond /children/0/children/0/props/loops\n",
+    ),
+    (
+        "",
+        "{\"type\":\"Simple\",\"children\":[{\"type\":\"ThreadGroup\"}]}",
+        b"refused 10 WrongPlace /children/0/children/0/children/0\n",
+    ),
+];
+
+#[test]
+fn each_refusal_names_its_place(rt: HostRuntime) -> Result<(), Fail> {
+    for (props, children, line) in REFUSED {
+        let plan = plan_of(rt.alloc(), props, children)?;
+        for word in ["check", "solo"] {
+            let ran = run(rt.alloc(), &[word], &plan, NOTHING_FAILS)?;
+            expect(&rt, &ran, 3, b"", line);
+        }
+    }
+    Ok(())
+}
+
+#[test]
+fn elements_that_nest_too_deep_are_refused(rt: HostRuntime) -> Result<(), Fail> {
+    let mut children = String::new(rt.alloc());
+    for _ in 0..31 {
+        children.push_str("{\"type\":\"Simple\",\"children\":[")?;
+    }
+    for _ in 0..31 {
+        children.push_str("]}")?;
+    }
+    let plan = plan_of(rt.alloc(), "", &children)?;
+    let mut line = Vec::from_slice(rt.alloc(), b"refused 9 TooDeep ")?;
+    for _ in 0..32 {
+        line.extend_from_slice(b"/children/0")?;
+    }
+    line.push(b'\n')?;
+    let ran = run(rt.alloc(), &["check"], &plan, NOTHING_FAILS)?;
+    expect(&rt, &ran, 3, b"", &line);
+    Ok(())
+}
+
+#[test]
+fn a_pattern_that_was_too_large_is_refused(rt: HostRuntime) -> Result<(), Fail> {
+    let plan = plan_of(
+        rt.alloc(),
+        "",
+        "{\"type\":\"RegexExtractor\",\"props\":{\"ref\":\"x\",\"pattern\":\"a\"}}",
+    )?;
+    let failing = Failing {
+        patterns: Some(0),
+        ..NOTHING_FAILS
+    };
+    let ran = run(rt.alloc(), &["check"], &plan, failing)?;
+    expect(
+        &rt,
+        &ran,
+        3,
+        b"",
+        b"refused 11 BadPattern /children/0/children/0/props/pattern\n",
+    );
+    Ok(())
+}
+
+const PLAIN_PLAN: &[u8] =
+    b"{\"children\":[{\"children\":[],\"enabled\":true,\"name\":\"TG\",\"props\":{},\"type\":\"ThreadGroup\"}],\"enabled\":true,\"name\":\"TestPlan\",\"props\":{},\"type\":\"TestPlan\"}\n";
+
+const PLAIN_LOOP_PLAN: &[u8] =
+    b"{\"children\":[{\"children\":[{\"children\":[{\"children\":[],\"enabled\":true,\"name\":\"A\",\"props\":{\"replies\":[{\"ms\":5},{\"code\":500,\"message\":\"Bad\",\"ms\":7}]},\"type\":\"Script\"},{\"children\":[],\"enabled\":true,\"name\":\"B\",\"props\":{\"replies\":[{\"body\":\"hi\",\"ms\":2}]},\"type\":\"Script\"}],\"enabled\":true,\"name\":\"Loop\",\"props\":{\"loops\":\"3\"},\"type\":\"Loop\"}],\"enabled\":true,\"name\":\"TG\",\"props\":{},\"type\":\"ThreadGroup\"}],\"enabled\":true,\"name\":\"TestPlan\",\"props\":{},\"type\":\"TestPlan\"}\n";
+
+#[test]
+fn check_writes_the_plan_in_its_plain_form(rt: HostRuntime) -> Result<(), Fail> {
+    for children in [
+        "",
+        "{\"type\":\"Simple\",\"enabled\":false,\"children\":[{\"type\":\"Nope\"}]}",
+    ] {
+        let plan = plan_of(rt.alloc(), "", children)?;
+        let ran = run(rt.alloc(), &["check"], &plan, NOTHING_FAILS)?;
+        expect(&rt, &ran, 0, PLAIN_PLAN, b"");
+    }
+    let ran = run(rt.alloc(), &["check"], LOOP_PLAN, NOTHING_FAILS)?;
+    expect(&rt, &ran, 0, PLAIN_LOOP_PLAN, b"");
+    Ok(())
+}
+
+// What does not run yet, with the line that says where it stands.
+const NOT_BUILT: [(&str, &str, &[u8]); 7] = [
+    (
+        "\"onError\":\"nextLoop\"",
+        "",
+        b"refused 15 NotBuilt /children/0/props/onError\n",
+    ),
+    (
+        "",
+        "{\"type\":\"Loop\",\"props\":{\"loops\":\"${n}\"}}",
+        b"refused 15 NotBuilt /children/0/children/0/props/loops\n",
+    ),
+    (
+        "",
+        "{\"type\":\"Script\",\"props\":{\"replies\":[{}],\"request\":\"a${v}\"}}",
+        b"refused 15 NotBuilt /children/0/children/0/props/request\n",
+    ),
+    (
+        "",
+        "{\"type\":\"OnceOnly\",\"enabled\":false},{\"type\":\"Simple\",\"children\":[{\"type\":\"Listener\"}]}",
+        b"refused 15 NotBuilt /children/0/children/1/children/0\n",
+    ),
+    (
+        "",
+        "{\"type\":\"Simple\",\"children\":[{\"type\":\"Simple\"}]},{\"type\":\"If\",\"props\":{\"condition\":\"true\"}}",
+        b"refused 15 NotBuilt /children/0/children/1\n",
+    ),
+    (
+        "",
+        "{\"type\":\"Http\"}",
+        b"refused 15 NotBuilt /children/0/children/0\n",
+    ),
+    (
+        "\"onError\":\"stopTest\"",
+        "{\"type\":\"Transaction\"}",
+        b"refused 15 NotBuilt /children/0/props/onError\n",
+    ),
+];
+
+#[test]
+fn what_does_not_run_yet_is_refused_where_it_stands(rt: HostRuntime) -> Result<(), Fail> {
+    for (props, children, line) in NOT_BUILT {
+        let plan = plan_of(rt.alloc(), props, children)?;
+        let ran = run(rt.alloc(), &["solo"], &plan, NOTHING_FAILS)?;
+        expect(&rt, &ran, 3, b"", line);
+        let ran = run(rt.alloc(), &["check"], &plan, NOTHING_FAILS)?;
+        assert_eq!(rt; ran.status, 0);
+    }
+    let plan = plan_of(rt.alloc(), "", "{\"type\":\"OnceOnly\",\"enabled\":false}")?;
+    let ran = run(rt.alloc(), &["solo"], &plan, NOTHING_FAILS)?;
+    expect(&rt, &ran, 0, HEADER, b"end,TG 1-1,Completed\n");
+    Ok(())
+}
+
+// Groups over one sampler `A`, with the line of each of its samples.
+const LINES: [(&str, &str, &[u8]); 8] = [
+    (
+        "\"loops\":2",
+        "\"replies\":[{\"null\":true,\"ms\":3},{}]",
+        b"3,0,A,200,OK,TG 1-1,true,,0,0\n",
+    ),
+    (
+        "",
+        "\"replies\":[{\"fault\":true}]",
+        b"0,0,A,0,fault,TG 1-1,false,,0,0\n",
+    ),
+    (
+        "",
+        "\"replies\":[{\"echo\":true,\"body\":\"own\"}],\"request\":\"hello\"",
+        b"0,0,A,200,OK,TG 1-1,true,,5,0\n",
+    ),
+    (
+        "",
+        "\"replies\":[{\"echo\":true}]",
+        b"0,0,A,200,OK,TG 1-1,true,,0,0\n",
+    ),
+    ("\"loops\":0", "\"replies\":[{}]", b""),
+    (
+        "\"loops\":2",
+        "\"replies\":[{\"code\":500,\"ms\":1}]",
+        b"0,1,A,500,OK,TG 1-1,false,,0,0\n1,1,A,500,OK,TG 1-1,false,,0,0\n",
+    ),
+    (
+        "\"rampMs\":9,\"threads\":2",
+        "\"replies\":[{}]",
+        b"0,0,A,200,OK,TG 1-1,true,,0,0\n",
+    ),
+    ("", "\"replies\":[{\"null\":true,\"fault\":true}]", b""),
+];
+
+#[test]
+fn each_reply_gives_its_line(rt: HostRuntime) -> Result<(), Fail> {
+    for (props, own, lines) in LINES {
+        let child = format!(in rt.alloc();
+            "{{\"type\":\"Script\",\"name\":\"A\",\"props\":{{{}}}}}",
+            own
+        )?;
+        let plan = plan_of(rt.alloc(), props, &child)?;
+        let mut text = Vec::from_slice(rt.alloc(), HEADER)?;
+        text.extend_from_slice(lines)?;
+        let ran = run(rt.alloc(), &["solo"], &plan, NOTHING_FAILS)?;
+        expect(&rt, &ran, 0, &text, b"end,TG 1-1,Completed\n");
+    }
+    Ok(())
+}
+
+// How many rounds a loop has by its text.
+const LOOPS: [(&str, usize); 10] = [
+    ("3", 3),
+    ("\"3\"", 3),
+    ("\"007\"", 7),
+    ("0", 0),
+    ("\"\"", 0),
+    ("\"-0\"", 0),
+    ("\"+3\"", 0),
+    ("\"3 \"", 0),
+    ("\"1.0\"", 0),
+    ("\"-2\"", 0),
+];
+
+#[test]
+fn the_text_of_a_loop_says_its_rounds(rt: HostRuntime) -> Result<(), Fail> {
+    for (loops, rounds) in LOOPS {
+        let children = format!(in rt.alloc();
+            "{{\"type\":\"Loop\",\"props\":{{\"loops\":{}}},\"children\":[{{\"type\":\"Script\",\"props\":{{\"replies\":[{{}}]}}}}]}}",
+            loops
+        )?;
+        let plan = plan_of(rt.alloc(), "", &children)?;
+        let ran = run(rt.alloc(), &["solo"], &plan, NOTHING_FAILS)?;
+        let lines = ran
+            .results
+            .bytes()
+            .iter()
+            .filter(|byte| **byte == b'\n')
+            .count();
+        assert_eq!(rt; (ran.status, lines), (0, rounds + 1));
+    }
+    let plan = plan_of(
+        rt.alloc(),
+        "",
+        "{\"type\":\"Loop\",\"props\":{\"loops\":\"99999999999999999999\"},\"children\":[{\"type\":\"Script\",\"props\":{\"replies\":[{}]}}]}",
+    )?;
+    let ran = run_line(rt.alloc(), "solo --samples 2", &plan, NOTHING_FAILS)?;
+    let lines = ran
+        .results
+        .bytes()
+        .iter()
+        .filter(|byte| **byte == b'\n')
+        .count();
+    assert_eq!(rt; (ran.status, lines), (0, 3));
+    assert_eq!(rt; ran.reports.bytes(), b"end,TG 1-1,SampleLimit\n".as_slice());
+    Ok(())
+}
+
+#[test]
+fn any_thread_of_any_group_can_be_run(rt: HostRuntime) -> Result<(), Fail> {
+    let sampler = "{\"type\":\"Script\",\"name\":\"A\",\"props\":{\"replies\":[{\"ms\":5}]}}";
+    let plan = plan_of(rt.alloc(), "\"threads\":4,\"rampMs\":10", sampler)?;
+    let ran = run_line(rt.alloc(), "solo --thread 3", &plan, NOTHING_FAILS)?;
+    assert_eq!(rt; ran.status, 0);
+    assert!(rt;
+        ran.results
+            .bytes()
+            .ends_with(b"interval\n7,5,A,200,OK,TG 1-4,true,,0,0\n")
+    );
+    assert_eq!(rt; ran.reports.bytes(), b"end,TG 1-4,Completed\n".as_slice());
+    let ran = run_line(rt.alloc(), "solo --thread 4", &plan, NOTHING_FAILS)?;
+    expect(&rt, &ran, 3, b"", b"refused 14 NoThread -\n");
+    let two =
+        b"{\"type\":\"TestPlan\",\"children\":[{\"type\":\"ThreadGroup\",\"enabled\":false},{\"type\":\"ThreadGroup\",\"name\":\"G\",\"props\":{\"threads\":2}},{\"type\":\"ThreadGroup\",\"name\":\"H\",\"props\":{\"threads\":62}}]}";
+    let ran = run_line(rt.alloc(), "solo --thread=2", two, NOTHING_FAILS)?;
+    expect(&rt, &ran, 0, HEADER, b"end,H 2-1,Completed\n");
+    Ok(())
+}
+
+// Groups that are refused for the command's own conditions, with the line that names the first that does not hold. Sixteen
+// threads can have 262,144 samples each, and no more threads can.
+const UNFIT: [(&str, &str, &[u8]); 4] = [
+    (
+        "\"threads\":17,\"onError\":\"stopTest\"",
+        "solo --samples 262144 --thread 17",
+        b"refused 15 NotBuilt /children/0/props/onError\n",
+    ),
+    (
+        "\"threads\":17",
+        "solo --samples 262144 --thread 17",
+        b"refused 14 NoThread -\n",
+    ),
+    (
+        "\"threads\":17",
+        "solo --samples 262144 --thread 16",
+        b"refused 8 TooMany / samples\n",
+    ),
+    (
+        "\"threads\":17,\"rampMs\":-1",
+        "solo --samples 262144 --thread 17",
+        b"refused 7 BadProp /children/0/props/rampMs\n",
+    ),
+];
+
+#[test]
+fn the_first_condition_that_does_not_hold_is_named(rt: HostRuntime) -> Result<(), Fail> {
+    for (props, line, refusal) in UNFIT {
+        let plan = plan_of(rt.alloc(), props, "")?;
+        let ran = run_line(rt.alloc(), line, &plan, NOTHING_FAILS)?;
+        expect(&rt, &ran, 3, b"", refusal);
+    }
+    let plan = plan_of(rt.alloc(), "\"threads\":16", "")?;
+    let words = "solo --samples 262144 --thread 15";
+    let ran = run_line(rt.alloc(), words, &plan, NOTHING_FAILS)?;
+    expect(&rt, &ran, 0, HEADER, b"end,TG 1-16,Completed\n");
+    Ok(())
+}
+
+#[test]
+fn a_sample_budget_of_two_ends_the_thread(rt: HostRuntime) -> Result<(), Fail> {
+    let ran = run_line(rt.alloc(), "solo --samples 2", LOOP_PLAN, NOTHING_FAILS)?;
+    assert_eq!(rt; ran.status, 0);
+    assert!(rt;
+        ran.results
+            .bytes()
+            .ends_with(b"\n5,2,B,200,OK,TG 1-1,true,,2,0\n")
+    );
+    assert_eq!(rt; ran.reports.bytes(), b"end,TG 1-1,SampleLimit\n".as_slice());
     Ok(())
 }

@@ -5,7 +5,8 @@ use Rattle.csv.specs.Writing.{row_text, default_writer}
 use Rattle.jm_base.specs.declared.types.Sample.{Sample}
 use Rattle.jm_base.specs.declared.types.End.{End}
 use Rattle.jm_base.specs.declared.types.End.TheVariants.{Completed, StopThread, StopTest, Stopped, SampleLimit, RoundLimit, ValueLimit, NoMemory}
-use Rattle.element_tree.specs.Tree.{Tree, labels_of, thread_name_of}
+use Rattle.element_tree.specs.Tree.{Tree, thread_name_of}
+use Rattle.element_tree.specs.Names.{labels_of}
 
 -- a row of comma-separated values: fields quoted where needed, a line feed at the end
 abbrev pub csv_line : List (List ℕ) → List ℕ

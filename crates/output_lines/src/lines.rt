@@ -1,7 +1,8 @@
 // The header, result lines and end lines.
 
 ghost use Rattle.std.specs.Prelude.{map, ◌∷◌, [], ◌≡◌, ◌<◌, ◌++◌, length, OnOk, OnErr};
-ghost use Rattle.element_tree.specs.Tree.{threads_of, labels_of};
+ghost use Rattle.element_tree.specs.Tree.{threads_of};
+ghost use Rattle.element_tree.specs.Names.{labels_of};
 ghost use Rattle.output_lines.specs.Lines.{csv_line, sample_fields, header_text, result_text, end_text, end_name, truth};
 
 use crate::rows::push_row;
@@ -44,7 +45,7 @@ pub fn result_line(
     sample: &Sample,
     interval: u64,
 ) -> M<()>
-    requires thread { thread < threads_of plan.now }
+    requires thread { thread < length (threads_of plan.now) }
     requires label { sample.now.label < length (labels_of plan.now.elements) }
     ensures ok { OnOk result (out.new.items ≡ out.old.items ++ result_text plan.now thread sample.now interval) }
     ensures err { OnErr result (out.new.items ≡ out.old.items) }
@@ -124,7 +125,7 @@ fn sample_row<'a>(
 #[tactic(auto, unfolding(crate::specs::Lines::end_text))]
 /// Appends the line that says how a thread ended. Where memory is wanting nothing is appended.
 pub fn end_line(alloc: Global, out: &mut Vec<u8>, plan: &Plan, thread: u16, end: End) -> M<()>
-    requires { thread < threads_of plan.now }
+    requires { thread < length (threads_of plan.now) }
     ensures ok { OnOk result (out.new.items ≡ out.old.items ++ end_text plan.now thread end) }
     ensures err { OnErr result (out.new.items ≡ out.old.items) }
 {

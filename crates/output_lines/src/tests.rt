@@ -1,16 +1,24 @@
 // The lines of a plan with one sampler, as the format of the printed text has them.
 
 use crate::{end_line, header_line, result_line};
-use element_tree::{FirstError, Plan, build_first};
-use jm_base::{End, Sample, Text};
+use element_tree::{Plan, RegexPatterns, build};
+use jm_base::{End, M, NoMemory, Sample, Text};
+use plan_json::read_tree;
 use std::alloc::Global;
 use std::test::Fail;
 
 const PLAN: &[u8] =
     b"{\"type\":\"TestPlan\",\"children\":[{\"type\":\"ThreadGroup\",\"name\":\"TG\",\"children\":[{\"type\":\"Script\",\"name\":\"a,b\",\"props\":{\"replies\":[{}]}}]}]}";
 
-fn plan(alloc: Global) -> Result<Plan, FirstError> {
-    build_first(alloc, PLAN)
+fn plan(alloc: Global) -> M<Plan> {
+    let Ok(tree) = read_tree(alloc, PLAN) else {
+        return Err(NoMemory);
+    };
+    let mut patterns = RegexPatterns::new(Vec::new(alloc));
+    match build(alloc, &tree, &mut patterns) {
+        Ok(plan) => Ok(plan),
+        Err(_) => Err(NoMemory),
+    }
 }
 
 fn sample(alloc: Global) -> Result<Sample, Fail> {

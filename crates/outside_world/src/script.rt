@@ -160,10 +160,12 @@ fn replies_of(alloc: Global, element: &Element) -> M<Items<ScriptReply>>
     ensures { IfOk result (λ r. r ≡ replies_of_element element.now) }
 {
     match &element.kind {
-        Kind::Script { replies } => copy_replies(alloc, replies.as_slice()),
-        Kind::TestPlan | Kind::ThreadGroup { .. } | Kind::Simple | Kind::Loop { .. } => {
-            Ok(Items::of(Vec::new(alloc)))
-        }
+        Kind::Script { replies, .. } => copy_replies(alloc, replies.as_slice()),
+        Kind::Http {
+            replies: Some(replies),
+            ..
+        } => copy_replies(alloc, replies.as_slice()),
+        _ => Ok(Items::of(Vec::new(alloc))),
     }
 }
 

@@ -1,5 +1,5 @@
 -- What an ended thread's standing says over each form of an outside, and how each step goes on from the one before.
-use Rattle.std.proofs.Common.{◌≡◌, ℕ, Bool, List, [], ◌∷◌, ◌++◌, Option, Some, None, refl, sym, ap, ◌∙◌}
+use Rattle.std.proofs.Common.{◌≡◌, ℕ, Bool, List, [], ◌∷◌, ◌++◌, Option, Some, None, refl, sym, ap, ◌∙◌, inl, inr}
 use Rattle.std.specs.Prelude.{map, MatchOption, IfSome, IsSome}
 use Rattle.std.specs.Option.{option_map}
 use Rattle.std.proofs.lemmas.List.{append-nil, map-append}
@@ -7,22 +7,22 @@ use Rattle.jm_base.specs.declared.types.Entry.{Entry}
 use Rattle.jm_base.specs.declared.types.Sample.{Sample}
 use Rattle.jm_base.specs.declared.types.End.{End}
 use Rattle.jm_base.specs.declared.types.End.TheVariants.{Completed, StopThread, StopTest, Stopped, SampleLimit, RoundLimit, ValueLimit, NoMemory}
-use Rattle.jm_base.specs.Run.{Run, over, Event, Sampled, Nothing, Ended, Sampler, over_value}
+use Rattle.jm_base.specs.Run.{Run, over, Event, Waited, Sampled, Nothing, Ended, Sampler, over_value}
 use Rattle.jm_base.specs.Outside.{Account, Goes, Scripts, Replays, list_form, script_form}
 use Rattle.jm_base.proofs.RunLaws.{path-value, list-replays, goes-append, goes-nothing}
 use Rattle.element_tree.specs.Tree.{Tree}
 use Rattle.jm_meaning.specs.declared.item.Item.{Item}
-use Rattle.jm_meaning.specs.declared.item.Item.TheVariants.{Sampled as SampledItem, Null as NullItem, Ended as EndedItem}
+use Rattle.jm_meaning.specs.declared.item.Item.TheVariants.{Paused as PausedItem, Sampled as SampledItem, Null as NullItem, Ended as EndedItem}
 use Rattle.jm_meaning.specs.Meaning.{events}
 use Rattle.jm_meaning.specs.Shown.{shown}
 use Rattle.thread_machine.specs.declared.trace.TraceItem.{TraceItem}
-use Rattle.thread_machine.specs.declared.trace.TraceItem.TheVariants.{Sampled as TracedSample, Null as TracedNull, Ended as TracedEnd}
+use Rattle.thread_machine.specs.declared.trace.TraceItem.TheVariants.{Paused as TracedPause, Sampled as TracedSample, Null as TracedNull, Ended as TracedEnd}
 use Rattle.thread_machine.specs.Bare.{bare}
 use Rattle.thread_machine.specs.Standing.{Standing, rest, IsAtStart, owed_items, Stands}
 use Rattle.thread_machine.specs.declared.step.Step.{Step}
 use Rattle.thread_machine.specs.declared.step.Step.TheVariants.{Sampled as StepSampled, Null as StepNull, Enter as StepEnter, Leave as StepLeave, Ended as StepEnded}
 use Rattle.thread_machine.specs.SoFar.{StandsBehind, ShowsAFront}
-use Rattle.thread_machine.specs.Stepped.{Steps, GivesSample, GivesNone, IsOver, Ends}
+use Rattle.thread_machine.specs.Stepped.{HasPaused, Begins, Gives, Steps, GivesSample, GivesNone, IsOver, Ends}
 use Rattle.thread_machine.specs.Follows.{FollowsWhole, Follows, HasRun}
 
 -- From start to now the run has given what the items show, and is over.
@@ -181,14 +181,60 @@ shows_a_front start now budget w stands nothing =
       },
     )
 
+-- ---- the pause before the first round
+
+-- what the pause leaves as it was
+pub record BegunOn (old new : Standing) : Type 0 where
+  pub owed : new.owed ≡ old.owed
+  pub ended : new.ended ≡ old.ended
+  pub plan : new.plan ≡ old.plan
+  pub thread : new.thread ≡ old.thread
+  pub units : new.units ≡ old.units
+
+pub begun_on : (a b : Account) (old new : Standing) → Begins a b old new → BegunOn old new
+begun_on a b old new h = elim h [
+  | inl p ↦ record { owed = ap (λ s. s.owed) p.new_is; ended = ap (λ s. s.ended) p.new_is; plan = ap (λ s. s.plan) p.new_is; thread = ap (λ s. s.thread) p.new_is; units = ap (λ s. s.units) p.new_is }
+  | inr s ↦ record { owed = ap (λ s. s.owed) s.standing; ended = ap (λ s. s.ended) s.standing; plan = ap (λ s. s.plan) s.standing; thread = ap (λ s. s.thread) s.standing; units = ap (λ s. s.units) s.standing }
+]
+
+stands_paused : (start now later : Account) (budget : ℕ) (w new : Standing) → w.owed ≡ None → HasPaused now later w new → Stands start now budget w → Stands start later budget new
+stands_paused start now later budget w new none p stands = record {
+  so_far = stands.so_far ++ Waited w.pause ∷ [];
+  goes = same_thread start later budget w new _ (rest new) (ap (λ s. s.plan) p.new_is) (ap (λ s. s.thread) p.new_is) (goes-append stands.goes p.goes);
+  shows = shown-append stands.so_far (Waited w.pause ∷ []) ∙ ap (λ xs. xs ++ PausedItem w.pause ∷ []) (shows_so_far start now later budget w new stands none)
+      ∙ sym (ap (λ s. bare s.trace ++ owed_items s.owed) p.new_is ∙ ap (λ o. bare (w.trace ++ TracedPause w.pause ∷ []) ++ owed_items o) none
+      ∙ append-nil (bare (w.trace ++ TracedPause w.pause ∷ [])) ∙ bare-append w.trace (TracedPause w.pause ∷ []));
+}
+
+stands_begun : (start now later : Account) (budget : ℕ) (w new : Standing) → w.owed ≡ None → Begins now later w new → Stands start now budget w → Stands start later budget new
+stands_begun start now later budget w new none h stands = elim h [
+  | inl p ↦ stands_paused start now later budget w new none p stands
+  | inr s ↦ rw (s.account, s.standing) stands
+]
+
 -- a step, whatever it answers
+gives_behind : (start now later : Account) (budget : ℕ) (w new : Standing) (step : Step) → w.owed ≡ None → Gives now later w new step
+    → Stands start now budget w → StandsBehind start later budget w new step
+gives_behind start now later budget w new (StepSampled entry) none s stands = stands_sample start now later budget w new stands none entry s
+gives_behind start now later budget w new StepNull none s stands = stands_none start now later budget w new stands none s
+gives_behind start now later budget w new (StepEnter lock) none s stands = absurd s
+gives_behind start now later budget w new (StepLeave lock) none s stands = absurd s
+gives_behind start now later budget w new (StepEnded end) none s stands = has_run start now later budget w new stands none end s
+
+-- the answer speaks of the thread alone
+behind_same : (start later : Account) (budget : ℕ) (w between new : Standing) (step : Step) → BegunOn w between → StandsBehind start later budget between new step → StandsBehind start later budget w new step
+behind_same start later budget w between new (StepSampled entry) on h = h
+behind_same start later budget w between new StepNull on h = h
+behind_same start later budget w between new (StepEnter lock) on h = h
+behind_same start later budget w between new (StepLeave lock) on h = h
+behind_same start later budget w between new (StepEnded end) on h = rw (← on.plan, ← on.thread) h
+
 pub stands_behind : (start now later : Account) (budget : ℕ) (w new : Standing) (step : Step) → w.owed ≡ None → Steps now later w new step
     → Stands start now budget w → StandsBehind start later budget w new step
-stands_behind start now later budget w new (StepSampled entry) none s stands = stands_sample start now later budget w new stands none entry s
-stands_behind start now later budget w new StepNull none s stands = stands_none start now later budget w new stands none s
-stands_behind start now later budget w new (StepEnter lock) none s stands = absurd s
-stands_behind start now later budget w new (StepLeave lock) none s stands = absurd s
-stands_behind start now later budget w new (StepEnded end) none s stands = has_run start now later budget w new stands none end s
+stands_behind start now later budget w new step none s stands =
+    let on = begun_on now s.begun w s.between s.begins in
+    behind_same start later budget w s.between new step on
+    (gives_behind start s.begun later budget s.between new step (on.owed ∙ none) s.gives (stands_begun start now s.begun budget w s.between none s.begins stands))
 
 -- a sample that is noted, where it is known that there is one
 pub stands_noted_some : (start now : Account) (budget interval : ℕ) (w new : Standing) → IsSome w.owed

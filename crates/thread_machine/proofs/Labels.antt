@@ -5,10 +5,15 @@ use Rattle.std.specs.List.{filter_map, list_any}
 use Rattle.std.proofs.lemmas.List.Quantifiers.{position-Some}
 use Rattle.std.proofs.lemmas.Option.{slice_get_within}
 use Rattle.jm_base.specs.Outside.{same_bytes}
-use Rattle.jm_base.specs.declared.types.ScriptReply.{ScriptReply}
 use Rattle.element_tree.specs.declared.kinds.Element.{Element}
-use Rattle.element_tree.specs.declared.kinds.Kind.TheVariants.{Script}
-use Rattle.element_tree.specs.Tree.{sampler_name, with_text, distinct_after, labels_of, label_of}
+use Rattle.element_tree.specs.declared.kinds.Kind.{Kind}
+use Rattle.element_tree.specs.declared.kinds.Kind.TheVariants as kinds
+use Rattle.element_tree.specs.declared.types.Class.TheVariants as classes
+use Rattle.element_tree.specs.Types.{class_of}
+use Rattle.jm_meaning.specs.declared.running.Role.TheVariants.{Sample}
+use Rattle.jm_meaning.specs.Texts.{plain_text}
+use Rattle.jm_meaning.specs.Runs.{role_of, loop_role}
+use Rattle.element_tree.specs.Names.{gives_samples, sample_name, with_text, distinct_after, labels_of, label_of}
 
 no_fewer : (seen : List (List ℕ)) (x : List ℕ) → length seen ≤ length (with_text seen x)
 no_fewer seen x = by_test (list_any (same_bytes x) seen) where
@@ -27,16 +32,16 @@ some_distinct : (xs : List (List ℕ)) → 1 ≤ length xs → 1 ≤ length (dis
 some_distinct [] h = absurd (omega arith)
 some_distinct (x ∷ xs) h = none_lost (x ∷ []) xs
 
-named : (elements : List Element) (n : ℕ) (e : Element) (x : List ℕ) → slice_get elements n ≡ Some e → sampler_name e ≡ Some x → 1 ≤ length (filter_map sampler_name elements)
+named : (elements : List Element) (n : ℕ) (e : Element) (x : List ℕ) → slice_get elements n ≡ Some e → sample_name e ≡ Some x → 1 ≤ length (filter_map sample_name elements)
 named [] n e x h is = absurd (let w : n < 0 = slice_get_within [] n e h in omega arith)
-named (y ∷ ys) zero e x h is = here (sampler_name y) (ap sampler_name (first h) ∙ is) where
+named (y ∷ ys) zero e x h is = here (sample_name y) (ap sample_name (first h) ∙ is) where
   first : slice_get (y ∷ ys) 0 ≡ Some e → y ≡ e
   first h = cc
 
-  here : (o : Option (List ℕ)) → o ≡ Some x → 1 ≤ length (filter_map sampler_name (y ∷ ys))
-  here o is' = let s : sampler_name y ≡ Some x = ap sampler_name (first h) ∙ is in rw s (omega arith)
-named (y ∷ ys) (suc n) e x h is = behind (sampler_name y) refl (named ys n e x h is) where
-  behind : (o : Option (List ℕ)) → sampler_name y ≡ o → 1 ≤ length (filter_map sampler_name ys) → 1 ≤ length (filter_map sampler_name (y ∷ ys))
+  here : (o : Option (List ℕ)) → o ≡ Some x → 1 ≤ length (filter_map sample_name (y ∷ ys))
+  here o is' = let s : sample_name y ≡ Some x = ap sample_name (first h) ∙ is in rw s (omega arith)
+named (y ∷ ys) (suc n) e x h is = behind (sample_name y) refl (named ys n e x h is) where
+  behind : (o : Option (List ℕ)) → sample_name y ≡ o → 1 ≤ length (filter_map sample_name ys) → 1 ≤ length (filter_map sample_name (y ∷ ys))
   behind None is' later = rw is' later
   behind (Some z) is' later = rw is' (omega arith)
 
@@ -46,9 +51,24 @@ within p xs some = by_place (position p xs) refl where
   by_place None is = some
   by_place (Some i) is = (position-Some p xs i [] is).0
 
-pub label_within : (elements : List Element) (n : ℕ) (e : Element) (replies : List ScriptReply) → slice_get elements n ≡ Some e → e.kind ≡ Script replies
+-- a sampler gives samples
+gives_by_class : (k : Kind) → class_of k ≡ classes.Sampler → gives_samples k ≡ true
+gives_by_class (kinds.Script replies request) h = refl
+gives_by_class (kinds.Http body host method params path port replies) h = refl
+gives_by_class k h = absurd (cc)
+
+pub label_within : (elements : List Element) (n : ℕ) (e : Element) → slice_get elements n ≡ Some e → class_of e.kind ≡ classes.Sampler
     → label_of elements e.name < length (labels_of elements)
 unfolding labels_of
-label_within elements n e replies there kind =
-    let name : sampler_name e ≡ Some e.name = rw kind refl in
+label_within elements n e there class_is =
+    let name : sample_name e ≡ Some e.name = ap (λ b. if b then Some e.name else None) (gives_by_class e.kind class_is) in
     within (same_bytes e.name) _ (some_distinct _ (named elements n e e.name there name))
+
+-- what runs as a sampler is one
+pub sampler_class : (k : Kind) → role_of k ≡ Sample → class_of k ≡ classes.Sampler
+sampler_class (kinds.Script replies request) h = refl
+sampler_class (kinds.Loop loops) h = absurd (by_text (plain_text loops) h) where
+  by_text : (o : Option (List ℕ)) → loop_role o ≡ Sample → ⊥
+  by_text None h = cc
+  by_text (Some text) h = cc
+sampler_class k h = absurd (cc)

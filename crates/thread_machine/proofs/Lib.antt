@@ -5,3 +5,4 @@ pub mod Labels
 pub mod Steps
 pub mod Sound
 pub mod Ends
+pub mod Intervals

@@ -5,8 +5,9 @@ use Rattle.std.specs.List.{AllByRecursion}
 use Rattle.std.proofs.Math.Nat.{mul-le-mul_right}
 use Rattle.std.proofs.lemmas.Option.{slice_get_within}
 use Rattle.element_tree.specs.declared.kinds.Element.{Element}
-use Rattle.element_tree.specs.declared.kinds.Kind.{Kind}
-use Rattle.element_tree.specs.declared.kinds.Kind.TheVariants.{TestPlan, ThreadGroup, Simple, Loop, Script}
+use Rattle.jm_meaning.specs.declared.running.Role.{Role}
+use Rattle.jm_meaning.specs.declared.running.Role.TheVariants.{Group, Rounds, Children, Sample, Nothing}
+use Rattle.jm_meaning.specs.Runs.{role_of}
 use Rattle.element_tree.specs.declared.kinds.Loops.{Loops}
 use Rattle.element_tree.specs.Tree.{Nests}
 use Rattle.jm_meaning.specs.Meaning.{begins}
@@ -14,7 +15,7 @@ use Rattle.thread_machine.specs.declared.stack.Frame.{Frame}
 use Rattle.thread_machine.specs.declared.machine.Turn.{Turn}
 use Rattle.thread_machine.specs.declared.machine.Turn.TheVariants.{Go}
 use Rattle.thread_machine.specs.Stack.{AreOpen}
-use Rattle.thread_machine.specs.Moves.{After, begun_frame, taking, closing, opening_kind, opening}
+use Rattle.thread_machine.specs.Moves.{After, begun_frame, taking, closing, opening_role, opening}
 use Rattle.thread_machine.specs.Load.{children_of, scale, remaining, remaining_of, load, load_of, Lightens}
 use Rattle.thread_machine.proofs.Turns.{all_at}
 
@@ -125,7 +126,7 @@ module _ (elements : List Element) where
 
     module _ (e : Element) (there : slice_get elements f.element ≡ Some e) (c' : ℕ) (child : slice_get e.children f.next ≡ Some c') where
       abbrev next_frame : Frame
-      next_frame = record { element = f.element; next = f.next + 1; round = f.round; begun = f.begun }
+      next_frame = record { element = f.element; role = f.role; next = f.next + 1; round = f.round; begun = f.begun }
 
       one_taken : remaining_of elements f ≡ suc (remaining_of elements next_frame)
       one_taken =
@@ -147,16 +148,16 @@ module _ (elements : List Element) where
             let o' : load elements i left (g ∷ next_frame ∷ fs) < load elements d left (next_frame ∷ fs) + scale c d = rw is o in
             rw (old_load, at_depth i left (g ∷ next_frame ∷ fs) (omega (arith, high, is))) (omega arith)
 
-      opening_kind_light : 1 ≤ d → (k : Kind) (count : ℕ) → LighterAt (opening_kind k count c' f.round (next_frame ∷ fs) left)
-      opening_kind_light deep TestPlan count = child_taken
-      opening_kind_light deep (ThreadGroup loops) count = pushed _ deep
-      opening_kind_light deep Simple count = pushed _ deep
-      opening_kind_light deep (Loop loops) count = pushed _ deep
-      opening_kind_light deep (Script replies) count = tt
+      opening_role_light : 1 ≤ d → (r : Role) (count : ℕ) → LighterAt (opening_role r count c' f.round (next_frame ∷ fs) left)
+      opening_role_light deep (Group loops) count = pushed _ deep
+      opening_role_light deep (Rounds loops) count = pushed _ deep
+      opening_role_light deep Children count = pushed _ deep
+      opening_role_light deep Sample count = tt
+      opening_role_light deep Nothing count = child_taken
 
       opening_light : (o : Option Element) → 1 ≤ d → LighterAt (opening o c' f.round (next_frame ∷ fs) left)
       opening_light None deep = child_taken
-      opening_light (Some x) deep = opening_kind_light deep x.kind (length x.children)
+      opening_light (Some x) deep = opening_role_light deep (role_of x.kind) (length x.children)
 
       -- a child is there, so elements may nest below
       deep_enough : 1 ≤ d
@@ -179,7 +180,7 @@ module _ (elements : List Element) (limit d left : ℕ) (stack : List Frame) (f 
       rw is (subst goal (sym same) (closing_light elements limit d left f fs (rw is at open_) o))
 
   pub child_light : (e : Element) → slice_get elements f.element ≡ Some e → (child : ℕ) → slice_get e.children f.next ≡ Some child
-      → (old : List Frame) → old ≡ record { element = f.element; next = f.next + 1; round = f.round; begun = f.begun } ∷ fs
+      → (old : List Frame) → old ≡ record { element = f.element; role = f.role; next = f.next + 1; round = f.round; begun = f.begun } ∷ fs
       → (t : Turn) (new : List Frame) (n : ℕ) → record { turn = t; stack = new; rounds = n } ≡ opening (slice_get elements child) child f.round old left
       → Lightens t (load_of elements left stack) (load_of elements n new)
   child_light e there child at_next old old_is t new n same =

@@ -1,73 +1,86 @@
 -- What holds of every worker holds behind a step.
-use Rattle.std.proofs.Common.{◌≡◌, ℕ, ◌<◌, true, false, List, [], ◌∷◌, ◌++◌, length, None, ap}
+use Rattle.std.proofs.Common.{◌≡◌, ℕ, ◌<◌, true, false, List, [], ◌∷◌, ◌++◌, length, None, ap, ◌∙◌, inl, inr}
 use Rattle.std.specs.Prelude.{All}
 use Rattle.std.proofs.lemmas.List.Elements.{All-push}
 use Rattle.jm_base.specs.declared.types.End.{End}
 use Rattle.jm_base.specs.declared.types.End.TheVariants.{Completed, StopThread, StopTest, Stopped, SampleLimit, RoundLimit, ValueLimit, NoMemory}
 use Rattle.jm_base.specs.Outside.{Account}
-use Rattle.element_tree.specs.Tree.{Tree, labels_of}
+use Rattle.element_tree.specs.Tree.{Tree}
+use Rattle.element_tree.specs.Names.{labels_of}
 use Rattle.thread_machine.specs.declared.trace.TraceItem.{TraceItem}
-use Rattle.thread_machine.specs.declared.trace.TraceItem.TheVariants.{Ended as EndedItem, Null as NullItem}
+use Rattle.thread_machine.specs.declared.trace.TraceItem.TheVariants.{Paused as PausedItem, Ended as EndedItem, Null as NullItem}
 use Rattle.thread_machine.specs.declared.runner.Runner.{Runner}
 use Rattle.thread_machine.specs.declared.step.Step.{Step}
 use Rattle.thread_machine.specs.declared.step.Step.TheVariants.{Sampled, Null, Enter, Leave, Ended}
 use Rattle.thread_machine.specs.Bare.{IsLabelled}
-use Rattle.thread_machine.specs.Stepped.{IsSampler, IsOver, Ends, Steps}
+use Rattle.thread_machine.specs.Standing.{Standing}
+use Rattle.thread_machine.specs.Stepped.{IsSampler, Begins, IsOver, Ends, Gives, Steps}
 use Rattle.thread_machine.specs.Inside.{standing_of, IsSound}
 use Rattle.thread_machine.specs.Ran.{is_end, GoesOnBehind}
 use Rattle.thread_machine.proofs.Labels.{label_within}
+use Rattle.thread_machine.proofs.Ends.{begun_on}
 
 -- what is kept of an old thread in a new one
-labels_kept : (w new : Runner) (items : List TraceItem) → new.plan.now ≡ w.plan.now → new.trace.items ≡ items
-    → All (IsLabelled (length (labels_of w.plan.now.elements))) items → All (IsLabelled (length (labels_of new.plan.now.elements))) new.trace.items
-labels_kept w new items plan is all = rw (plan, is) all
+labels_kept : (plan : Tree) (new : Runner) (items : List TraceItem) → new.plan.now ≡ plan → new.trace.items ≡ items
+    → All (IsLabelled (length (labels_of plan.elements))) items → All (IsLabelled (length (labels_of new.plan.now.elements))) new.trace.items
+labels_kept plan new items is same all = rw (is, same) all
 
 owed_within : (plan : Tree) (number label : ℕ) → IsSampler plan number label → label < length (labels_of plan.elements)
-owed_within plan number label s = rw s.label_is (label_within plan.elements number s.element s.replies s.there s.kind)
+owed_within plan number label s = rw s.label_is (label_within plan.elements number s.element s.there s.class_is)
 
-module _ (a b : Account) (w new : Runner) (sound : IsSound w false) where
-  abbrev All' : List TraceItem → Type 0
-  All' items = All (IsLabelled (length (labels_of w.plan.now.elements))) items
+module _ (a b : Account) (s : Standing) (new : Runner) (none : s.owed ≡ None) (labels_so_far : All (IsLabelled (length (labels_of s.plan.elements))) s.trace) where
+  abbrev labels : ℕ
+  labels = length (labels_of s.plan.elements)
 
-  behind_end : (end : End) → IsOver a b (standing_of w false) (standing_of new true) end → new.owed ≡ None → IsSound new true
-  behind_end end over none = record {
+  ended : (end : End) → (standing_of new true).plan ≡ s.plan → (standing_of new true).trace ≡ s.trace ++ EndedItem end ∷ [] → new.owed ≡ None → IsSound new true
+  ended end plan items nothing = record {
     going = λ h. absurd (cc);
-    settled = λ h. none;
-    labels = labels_kept w new (w.trace.items ++ EndedItem end ∷ []) (ap (λ s. s.plan) over.new_is) (ap (λ s. s.trace) over.new_is)
-        (All-push (IsLabelled (length (labels_of w.plan.now.elements))) w.trace.items (EndedItem end) sound.labels (tt {0}));
-    owed_label = rw none tt;
+    settled = λ h. nothing;
+    labels = labels_kept s.plan new (s.trace ++ EndedItem end ∷ []) plan items (All-push (IsLabelled labels) s.trace (EndedItem end) labels_so_far (tt {0}));
+    owed_label = rw nothing tt;
   }
 
-  by_end : (end : End) → Ends a b (standing_of w false) (standing_of new true) end → new.owed ≡ None → IsSound new true
-  by_end Completed over none = behind_end Completed over none
-  by_end StopThread over none = behind_end StopThread over none
-  by_end StopTest over none = behind_end StopTest over none
-  by_end Stopped over none = absurd over
-  by_end SampleLimit over none = behind_end SampleLimit over none
-  by_end RoundLimit over none = behind_end RoundLimit over none
-  by_end ValueLimit over none = behind_end ValueLimit over none
-  by_end NoMemory cut none = record {
-    going = λ h. absurd (cc);
-    settled = λ h. none;
-    labels = labels_kept w new (w.trace.items ++ EndedItem NoMemory ∷ []) (ap (λ s. s.plan) cut.new_is) (ap (λ s. s.trace) cut.new_is)
-        (All-push (IsLabelled (length (labels_of w.plan.now.elements))) w.trace.items (EndedItem NoMemory) sound.labels (tt {0}));
-    owed_label = rw none tt;
-  }
+  behind_end : (end : End) → IsOver a b s (standing_of new true) end → new.owed ≡ None → IsSound new true
+  behind_end end over nothing = ended end (ap (λ s. s.plan) over.new_is) (ap (λ s. s.trace) over.new_is) nothing
 
-  pub sound_behind : (step : Step) → Steps a b (standing_of w false) (standing_of new (is_end step)) step → GoesOnBehind new step → IsSound new (is_end step)
-  sound_behind (Sampled entry) s on = record {
+  by_end : (end : End) → Ends a b s (standing_of new true) end → new.owed ≡ None → IsSound new true
+  by_end Completed over nothing = behind_end Completed over nothing
+  by_end StopThread over nothing = behind_end StopThread over nothing
+  by_end StopTest over nothing = behind_end StopTest over nothing
+  by_end Stopped over nothing = absurd over
+  by_end SampleLimit over nothing = behind_end SampleLimit over nothing
+  by_end RoundLimit over nothing = behind_end RoundLimit over nothing
+  by_end ValueLimit over nothing = behind_end ValueLimit over nothing
+  by_end NoMemory cut nothing = ended NoMemory (ap (λ s. s.plan) cut.new_is) (ap (λ s. s.trace) cut.new_is) nothing
+
+  gives_sound : (step : Step) → Gives a b s (standing_of new (is_end step)) step → GoesOnBehind new step → IsSound new (is_end step)
+  gives_sound (Sampled entry) g on = record {
     going = λ h. on;
     settled = λ h. absurd (cc);
-    labels = labels_kept w new w.trace.items (ap (λ s. s.plan) s.new_is) (ap (λ s. s.trace) s.new_is) sound.labels;
-    owed_label = rw (ap (λ s. s.plan) s.new_is, ap (λ s. s.owed) s.new_is) (owed_within w.plan.now s.number s.sample.label s.sampler);
+    labels = labels_kept s.plan new s.trace (ap (λ s. s.plan) g.new_is) (ap (λ s. s.trace) g.new_is) labels_so_far;
+    owed_label = rw (ap (λ s. s.plan) g.new_is, ap (λ s. s.owed) g.new_is) (owed_within s.plan g.number g.sample.label g.sampler);
   }
-  sound_behind Null s on = record {
+  gives_sound Null g on = record {
     going = λ h. on;
     settled = λ h. absurd (cc);
-    labels = labels_kept w new (w.trace.items ++ NullItem s.number ∷ []) (ap (λ s. s.plan) s.new_is) (ap (λ s. s.trace) s.new_is)
-        (All-push (IsLabelled (length (labels_of w.plan.now.elements))) w.trace.items (NullItem s.number) sound.labels (tt {0}));
-    owed_label = rw (ap (λ s. s.plan) s.new_is, ap (λ s. s.owed) s.new_is) sound.owed_label;
+    labels = labels_kept s.plan new (s.trace ++ NullItem g.number ∷ []) (ap (λ s. s.plan) g.new_is) (ap (λ s. s.trace) g.new_is)
+        (All-push (IsLabelled labels) s.trace (NullItem g.number) labels_so_far (tt {0}));
+    owed_label = rw (ap (λ s. s.owed) g.new_is, none) tt;
   }
-  sound_behind (Enter lock) s on = absurd s
-  sound_behind (Leave lock) s on = absurd s
-  sound_behind (Ended end) s on = by_end end s on
+  gives_sound (Enter lock) g on = absurd g
+  gives_sound (Leave lock) g on = absurd g
+  gives_sound (Ended end) g on = by_end end g on
+
+-- the pause in a trace has no label
+begun_labels : (a b : Account) (old new : Standing) → Begins a b old new → All (IsLabelled (length (labels_of old.plan.elements))) old.trace
+    → All (IsLabelled (length (labels_of new.plan.elements))) new.trace
+begun_labels a b old new h all = elim h [
+  | inl p ↦ rw p.new_is (All-push (IsLabelled (length (labels_of old.plan.elements))) old.trace (PausedItem old.pause) all (tt {0}))
+  | inr s ↦ rw s.standing all
+]
+
+pub sound_behind : (a b : Account) (w new : Runner) → IsSound w false → w.owed ≡ None → (step : Step) → Steps a b (standing_of w false) (standing_of new (is_end step)) step
+    → GoesOnBehind new step → IsSound new (is_end step)
+sound_behind a b w new sound none step s on =
+    gives_sound s.begun b s.between new ((begun_on a s.begun (standing_of w false) s.between s.begins).owed ∙ none)
+    (begun_labels a s.begun (standing_of w false) s.between s.begins sound.labels) step s.gives on

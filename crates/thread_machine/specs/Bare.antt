@@ -1,5 +1,5 @@
 -- Traces without their interval numbers and places, and the labels of their samples.
-use Rattle.std.specs.Prelude.{ℕ, ◌<◌, List, map}
+use Rattle.std.specs.Prelude.{◌≡◌, ℕ, ◌<◌, List, map}
 use Rattle.jm_meaning.specs.declared.item.Item.{Item}
 use Rattle.jm_meaning.specs.declared.item.Item.TheVariants.{Paused, Sampled, Null, Entered, Left, Ended}
 use Rattle.thread_machine.specs.declared.trace.TraceItem.{TraceItem}
@@ -17,6 +17,15 @@ bare_item (EndedItem end) = Ended end
 -- a trace without its interval numbers and places
 abbrev pub bare : List TraceItem → List Item
 bare trace = map bare_item trace
+
+-- a sample was counted in this interval
+abbrev pub IsCountedIn : ℕ → TraceItem → Type 0
+IsCountedIn k (PausedItem ms) = Unit {0}
+IsCountedIn k (SampledItem sample interval) = interval ≡ k
+IsCountedIn k (NullItem sampler) = Unit {0}
+IsCountedIn k (EnteredItem lock place) = Unit {0}
+IsCountedIn k (LeftItem lock) = Unit {0}
+IsCountedIn k (EndedItem end) = Unit {0}
 
 -- a sample's label is one of so many labels
 abbrev pub IsLabelled : ℕ → TraceItem → Type 0

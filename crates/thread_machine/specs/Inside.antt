@@ -2,7 +2,7 @@
 use Rattle.std.specs.Prelude.{◌≡◌, ℕ, ◌+◌, ◌-◌, ◌≤◌, ◌<◌, Bool, true, false, length, All, Option, Some, None}
 use Rattle.jm_base.specs.declared.types.Sample.{Sample}
 use Rattle.jm_base.specs.Run.{Run}
-use Rattle.element_tree.specs.Tree.{labels_of}
+use Rattle.element_tree.specs.Names.{labels_of}
 use Rattle.jm_meaning.specs.Meaning.{max_rounds}
 use Rattle.thread_machine.specs.declared.runner.Runner.{Runner}
 use Rattle.thread_machine.specs.Stack.{AreOpen}
@@ -17,6 +17,7 @@ abbrev pub standing_of : Runner → Bool → Standing
 standing_of r ended = record {
   plan = r.plan.now;
   thread = r.thread;
+  pause = r.pause;
   units = r.units;
   rounds = r.machine.rounds;
   frames = r.machine.stack;

@@ -3,8 +3,8 @@ use Rattle.std.specs.Prelude.{◌≡◌, ℕ, suc, ◌+◌, ◌-◌, ◌≤◌, 
 use Rattle.std.specs.List.{AllByRecursion}
 use Rattle.jm_base.specs.Run.{Run, over}
 use Rattle.element_tree.specs.declared.kinds.Element.{Element}
-use Rattle.element_tree.specs.declared.kinds.Kind.{Kind}
-use Rattle.element_tree.specs.declared.kinds.Kind.TheVariants.{TestPlan, ThreadGroup, Simple, Loop, Script}
+use Rattle.jm_meaning.specs.declared.running.Role.{Role}
+use Rattle.jm_meaning.specs.declared.running.Role.TheVariants.{Group, Rounds, Children, Sample, Nothing}
 use Rattle.element_tree.specs.Tree.{Nests}
 use Rattle.jm_meaning.specs.State.{State, Ending, Part, normal, and_then}
 use Rattle.jm_meaning.specs.Meaning.{Here, Below, in_order, rounds, counted, round_of_group, meaning}
@@ -14,21 +14,21 @@ use Rattle.thread_machine.specs.declared.stack.Frame.{Frame}
 abbrev pub rest_of_children : Below → Frame → List ℕ → Run Ending → Run Ending
 rest_of_children below f children inner = and_then inner (in_order below f.round (drop f.next children))
 
--- the rest of an open element, behind the child that is open
-abbrev pub around_kind : Here → Below → Frame → List ℕ → Kind → Run Ending → Run Ending
-around_kind here below f children TestPlan inner = rest_of_children below f children inner
-around_kind here below f children (ThreadGroup loops) inner =
+-- the rest of an open element by its role, behind the child that is open
+abbrev pub around_role : Here → Below → Frame → List ℕ → Role → Run Ending → Run Ending
+around_role here below f children (Group loops) inner =
     and_then (round_of_group (rest_of_children below f children inner))
     (rounds (here.limit - f.begun) (counted loops) (λ i s. round_of_group (in_order below i children s)) f.begun)
-around_kind here below f children Simple inner = rest_of_children below f children inner
-around_kind here below f children (Loop loops) inner =
+around_role here below f children (Rounds loops) inner =
     and_then (rest_of_children below f children inner)
     (rounds (here.limit - f.begun) (counted loops) (λ i s. in_order below i children s) f.begun)
-around_kind here below f children (Script replies) inner = rest_of_children below f children inner
+around_role here below f children Children inner = rest_of_children below f children inner
+around_role here below f children Sample inner = rest_of_children below f children inner
+around_role here below f children Nothing inner = rest_of_children below f children inner
 
 abbrev pub around_element : Here → Below → Frame → Option Element → Run Ending → Run Ending
 around_element here below f None inner = inner
-around_element here below f (Some e) inner = around_kind here below f e.children e.kind inner
+around_element here below f (Some e) inner = around_role here below f e.children f.role inner
 
 -- The rest of the open elements, the innermost first. The elements below it nest at most so deep.
 unfoldable pub rest_of : Here → ℕ → List Frame → Run Ending → Run Ending

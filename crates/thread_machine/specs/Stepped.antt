@@ -1,16 +1,17 @@
 -- What one step of a thread does.
-use Rattle.std.specs.Prelude.{◌≡◌, ℕ, ◌-◌, ◌<◌, true, List, [], ◌∷◌, ◌++◌, Some, slice_get}
+use Rattle.std.specs.Prelude.{◌≡◌, ◌⊎◌, ℕ, ◌-◌, ◌<◌, true, [], ◌∷◌, ◌++◌, Some, slice_get}
 use Rattle.jm_base.specs.declared.types.Entry.{Entry}
 use Rattle.jm_base.specs.declared.types.Sample.{Sample}
-use Rattle.jm_base.specs.declared.types.ScriptReply.{ScriptReply}
 use Rattle.jm_base.specs.declared.types.End.{End}
 use Rattle.jm_base.specs.declared.types.End.TheVariants.{Completed, StopThread, StopTest, Stopped, SampleLimit, RoundLimit, ValueLimit, NoMemory}
-use Rattle.jm_base.specs.Run.{Run, over, Sampled, Nothing, Ended, Sampler}
+use Rattle.jm_base.specs.Run.{Run, over, Waited, Sampled, Nothing, Ended, Sampler}
 use Rattle.jm_base.specs.Outside.{Account, Goes}
 use Rattle.element_tree.specs.declared.kinds.Element.{Element}
-use Rattle.element_tree.specs.declared.kinds.Kind.TheVariants.{Script}
-use Rattle.element_tree.specs.Tree.{Tree, label_of}
-use Rattle.thread_machine.specs.declared.trace.TraceItem.TheVariants.{Null as NullItem, Ended as EndedItem}
+use Rattle.element_tree.specs.declared.types.Class.TheVariants as classes
+use Rattle.element_tree.specs.Types.{class_of}
+use Rattle.element_tree.specs.Tree.{Tree}
+use Rattle.element_tree.specs.Names.{label_of}
+use Rattle.thread_machine.specs.declared.trace.TraceItem.TheVariants.{Paused as PausedItem, Null as NullItem, Ended as EndedItem}
 use Rattle.thread_machine.specs.declared.step.Step.{Step}
 use Rattle.thread_machine.specs.declared.step.Step.TheVariants.{Sampled as SampledStep, Null as NullStep, Enter, Leave, Ended as EndedStep}
 use Rattle.thread_machine.specs.Standing.{Standing, rest}
@@ -19,12 +20,25 @@ use Rattle.thread_machine.specs.Standing.{Standing, rest}
 abbrev pub entry_of : Sample → Entry
 entry_of s = record { label = s.label; ok = s.ok; elapsed = s.elapsed; bytes = s.bytes }
 
+-- The pause before the first round has been made and is in the trace.
+pub record HasPaused (before after : Account) (old new : Standing) : Type 0 where
+  pub goes : Goes before (rest old) (Waited old.pause ∷ []) (rest new) after
+  pub new_is : new ≡ record old { pause = 0; trace = old.trace ++ PausedItem old.pause ∷ [] }
+
+-- nothing has happened yet
+pub record IsStill (before after : Account) (old new : Standing) : Type 0 where
+  pub account : after ≡ before
+  pub standing : new ≡ old
+
+-- the pause before the first round has been made, or nothing has happened yet
+abbrev pub Begins : Account → Account → Standing → Standing → Type 0
+Begins before after old new = HasPaused before after old new ⊎ IsStill before after old new
+
 -- the number is that of a sampler of the plan, and this is its label
 pub record IsSampler (plan : Tree) (number label : ℕ) : Type 0 where
   pub element : Element
-  pub replies : List ScriptReply
   pub there : slice_get plan.elements number ≡ Some element
-  pub kind : element.kind ≡ Script replies
+  pub class_is : class_of element.kind ≡ classes.Sampler
   pub label_is : label ≡ label_of plan.elements element.name
 
 -- a sampler of the plan has used a unit and given a sample, which is owed to the trace
@@ -67,10 +81,17 @@ Ends before after old new RoundLimit = IsOver before after old new RoundLimit
 Ends before after old new ValueLimit = IsOver before after old new ValueLimit
 Ends before after old new NoMemory = IsCut before after old new
 
--- what a step that answers so has done
-abbrev pub Steps : Account → Account → Standing → Standing → Step → Type 0
-Steps before after old new (SampledStep entry) = GivesSample before after old new entry
-Steps before after old new NullStep = GivesNone before after old new
-Steps before after old new (Enter lock) = ⊥
-Steps before after old new (Leave lock) = ⊥
-Steps before after old new (EndedStep end) = Ends before after old new end
+-- what a step that answers so has done behind the pause
+abbrev pub Gives : Account → Account → Standing → Standing → Step → Type 0
+Gives before after old new (SampledStep entry) = GivesSample before after old new entry
+Gives before after old new NullStep = GivesNone before after old new
+Gives before after old new (Enter lock) = ⊥
+Gives before after old new (Leave lock) = ⊥
+Gives before after old new (EndedStep end) = Ends before after old new end
+
+-- What a step that answers so has done: the pause before the first round, if it was still to come, and then what the answer says.
+pub record Steps (before after : Account) (old new : Standing) (step : Step) : Type 0 where
+  pub begun : Account
+  pub between : Standing
+  pub begins : Begins before begun old between
+  pub gives : Gives begun after between new step

@@ -2,9 +2,9 @@
 use Rattle.std.specs.Prelude.{◌≡◌, ℕ, Bool, true, false, List, Some, slice_get}
 use Rattle.jm_base.specs.declared.types.End.{End}
 use Rattle.jm_base.specs.declared.types.End.TheVariants.{Completed, StopThread, StopTest, Stopped, SampleLimit, RoundLimit, ValueLimit, NoMemory}
-use Rattle.jm_base.specs.declared.types.ScriptReply.{ScriptReply}
-use Rattle.element_tree.specs.declared.kinds.Kind.TheVariants.{Script}
-use Rattle.element_tree.specs.Tree.{label_of}
+use Rattle.jm_meaning.specs.declared.running.Role.TheVariants as role
+use Rattle.jm_meaning.specs.Runs.{role_of, request_of}
+use Rattle.element_tree.specs.Names.{label_of}
 use Rattle.jm_base.specs.Run.{Run, over}
 use Rattle.element_tree.specs.declared.kinds.Element.{Element}
 use Rattle.jm_meaning.specs.declared.signal.Signal.{Signal}
@@ -22,8 +22,8 @@ use Rattle.thread_machine.specs.Stack.{Led, on}
 pub record RunsSampler (here : Here) (run : Run Ending) (s : State) (stack : List Frame) (number : ℕ) : Type 0 where
   pub element : Element
   pub there : slice_get here.plan.elements number ≡ Some element
-  pub kind : (replies : List ScriptReply) × (element.kind ≡ Script replies)
-  pub led : Led here run s stack (λ s. with_unit s (sampling (label_of here.plan.elements element.name) number (at_failure here)))
+  pub samples : role_of element.kind ≡ role.Sample
+  pub led : Led here run s stack (λ s. with_unit s (sampling (label_of here.plan.elements element.name) number (request_of element.kind) (at_failure here)))
 
 -- the ends that a plan's meaning gives: a stop from outside and want of memory are none of them
 abbrev pub is_given : End → Bool

@@ -10,11 +10,13 @@ ghost use Rattle.element_tree.specs.Tree.{IsGroup};
 ghost use Rattle.thread_machine.specs.Stack.{AreOpen, rest_of};
 ghost use Rattle.thread_machine.specs.Load.{Lightens, load_of};
 ghost use Rattle.thread_machine.specs.Turned.{Turned, Moved};
+ghost use Rattle.jm_meaning.specs.Runs.{role_of};
 ghost use Rattle.thread_machine.specs.Moves.{After, loops_of, closing, opening};
 
 use crate::stack::{Frame, Stack};
-use element_tree::{Element, Kind, Loops, Plan};
+use element_tree::{Loops, Plan};
 use jm_base::{End, M};
+use jm_meaning::{Role, role_of};
 use std::alloc::Global;
 
 /// What comes next.
@@ -59,7 +61,7 @@ impl Machine {
             return Ok(Turn::Go);
         };
         let Some(child) = element.children.as_slice().get(frame.next) else {
-            return Ok(self.at_end(frame, element));
+            return Ok(self.at_end(frame));
         };
         self.stack.set_top(Frame {
             next: frame.next + 1,
@@ -87,13 +89,13 @@ impl Machine {
     }
 
     // Behind the last child: the next round begins, or the element is left.
-    fn at_end(&mut self, frame: Frame, element: &Element) -> Turn
+    fn at_end(&mut self, frame: Frame) -> Turn
         requires top { (fs : List Frame) × (self.old.stack ≡ frame ∷ fs) }
         requires count { frame.begun + self.old.rounds ≤ max_rounds }
         ensures { (fs : List Frame) → self.old.stack ≡ frame ∷ fs
-            → record { turn = result; stack = self.new.stack; rounds = self.new.rounds } ≡ closing (loops_of element.now.kind) frame fs self.old.rounds }
+            → record { turn = result; stack = self.new.stack; rounds = self.new.rounds } ≡ closing (loops_of frame.role) frame fs self.old.rounds }
     {
-        let Some(loops) = loops_of(&element.kind) else {
+        let Some(loops) = loops_of(frame.role) else {
             self.stack.pop();
             return Turn::Go;
         };
@@ -107,6 +109,7 @@ impl Machine {
         self.rounds -= 1;
         self.stack.set_top(Frame {
             element: frame.element,
+            role: frame.role,
             next: 0,
             round: frame.begun,
             begun: frame.begun + 1,
@@ -118,7 +121,7 @@ impl Machine {
     pub fn new(alloc: Global, plan: &Plan, group: u16) -> M<Machine>
         requires { IsGroup plan.now.elements group }
         ensures { IfOk result (λ m. (e : Element) → slice_get plan.now.elements group ≡ Some e
-            → (m.stack ≡ record { element = group; next = length e.children; round = 0; begun = 0 } ∷ []) × (m.rounds ≡ max_rounds)) }
+            → (m.stack ≡ record { element = group; role = role_of e.kind; next = length e.children; round = 0; begun = 0 } ∷ []) × (m.rounds ≡ max_rounds)) }
     {
         let Some(element) = plan.element(group) else {
             unreachable!();
@@ -126,6 +129,7 @@ impl Machine {
         let mut stack = Stack::new(alloc);
         stack.push(Frame {
             element: group,
+            role: role_of(&element.kind),
             next: element.children.as_slice().len(),
             round: 0,
             begun: 0,
@@ -143,21 +147,24 @@ impl Machine {
         let Some(element) = plan.element(child) else {
             return Ok(Turn::Go);
         };
-        match &element.kind {
-            Kind::TestPlan => Ok(Turn::Go),
-            Kind::Script { .. } => Ok(Turn::RunSampler(child)),
-            Kind::Simple => {
+        let role = role_of(&element.kind);
+        match role {
+            Role::Nothing => Ok(Turn::Go),
+            Role::Sample => Ok(Turn::RunSampler(child)),
+            Role::Children => {
                 self.stack.push(Frame {
                     element: child,
+                    role,
                     next: 0,
                     round,
                     begun: 0,
                 })?;
                 Ok(Turn::Go)
             }
-            Kind::Loop { .. } | Kind::ThreadGroup { .. } => {
+            Role::Group(_) | Role::Rounds(_) => {
                 self.stack.push(Frame {
                     element: child,
+                    role,
                     next: element.children.as_slice().len(),
                     round: 0,
                     begun: 0,
@@ -168,13 +175,12 @@ impl Machine {
     }
 }
 
-fn loops_of(kind: &Kind) -> Option<Loops>
-    ensures { result ≡ loops_of kind.now }
+fn loops_of(role: Role) -> Option<Loops>
+    ensures { result ≡ loops_of role }
 {
-    match kind {
-        Kind::ThreadGroup { loops } => Some(*loops),
-        Kind::Loop { loops } => Some(*loops),
-        Kind::TestPlan | Kind::Simple | Kind::Script { .. } => None,
+    match role {
+        Role::Group(loops) | Role::Rounds(loops) => Some(loops),
+        Role::Children | Role::Sample | Role::Nothing => None,
     }
 }
 

@@ -1,9 +1,10 @@
 // One thread of a plan from its start to its end, with nobody who counts its samples.
 
 ghost use Rattle.std.specs.Prelude.{◌≡◌, ◌<◌, ℕ, All, length, IfOk, false, None};
-ghost use Rattle.element_tree.specs.Tree.{threads_of, labels_of};
+ghost use Rattle.element_tree.specs.Tree.{threads_of};
+ghost use Rattle.element_tree.specs.Names.{labels_of};
 ghost use Rattle.jm_base.specs.Outside.{Account};
-ghost use Rattle.thread_machine.specs.Bare.{IsLabelled};
+ghost use Rattle.thread_machine.specs.Bare.{IsCountedIn, IsLabelled};
 ghost use Rattle.thread_machine.specs.Standing.{Stands};
 ghost use Rattle.thread_machine.specs.Follows.{HasRun};
 
@@ -30,10 +31,11 @@ pub fn run_alone<O: Outside>(
     budget: u32,
     outside: &mut O,
 ) -> M<Solo>
-    requires { thread < threads_of plan.now }
+    requires { thread < length (threads_of plan.now) }
     ensures has_run { IfOk result (λ solo. HasRun (O.account outside.old) (O.account outside.new)
         plan.now thread budget solo.trace.items solo.end) }
     ensures labels { IfOk result (λ solo. All (IsLabelled (length (labels_of plan.now.elements))) solo.trace.items) }
+    ensures intervals { IfOk result (λ solo. All (IsCountedIn 0) solo.trace.items) }
 {
     let mut worker = Worker::new(alloc, plan, thread, budget)?;
     let end = run_to_end(&mut worker, outside);
@@ -50,6 +52,7 @@ fn run_to_end<O: Outside>(worker: &mut Worker<'_>, outside: &mut O) -> End
     ensures has_run { (start : Account) (budget : ℕ) → Stands start (O.account outside.old) budget worker.old
         → HasRun start (O.account outside.new) worker.old.plan worker.old.thread budget worker.new.trace result }
     ensures plan { worker.new.plan ≡ worker.old.plan }
+    ensures intervals { All (IsCountedIn 0) worker.old.trace → All (IsCountedIn 0) worker.new.trace }
 {
     'steps: loop {
         match worker.step(outside) {

@@ -4,13 +4,15 @@ ghost use Rattle.thread_machine.specs.declared.stack.Frame.{Frame};
 ghost use Rattle.std.specs.Prelude.{◌≡◌, ◌++◌, [], ◌∷◌, List, OnOk, OnErr, MatchOption};
 
 use jm_base::M;
+use jm_meaning::Role;
 use std::alloc::Global;
 use std::marker::Model;
 
-/// An open element: which of its children comes next, the round that its children are in, and how many rounds have begun.
+/// An open element: what it does, which of its children comes next, the round that its children are in, and how many rounds have begun.
 #[derive(Clone, Copy)]
 pub struct Frame {
     pub element: u16,
+    pub role: Role,
     pub next: usize,
     pub round: u32,
     pub begun: u32,

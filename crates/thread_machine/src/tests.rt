@@ -1,10 +1,11 @@
 // Whole runs of small plans, and each call of a worker once.
 
 use crate::{Solo, Step, TraceItem, Worker, run_alone};
-use element_tree::{FirstError, build_first};
+use element_tree::{Plan, RegexPatterns, build};
 use jm_base::{End, M, NoMemory, Outcome, Outside, Request, Sample};
 use jm_meaning::{Item, run_plainly, sample_once};
 use outside_world::ScriptOutside;
+use plan_json::read_tree;
 use std::alloc::Global;
 use std::test::Fail;
 
@@ -106,9 +107,21 @@ impl Outside for Scarce {
     }
 }
 
+// The plan that a text is.
+fn plan_of(alloc: Global, text: &str) -> M<Plan> {
+    let Ok(tree) = read_tree(alloc, text.as_bytes()) else {
+        return Err(NoMemory);
+    };
+    let mut patterns = RegexPatterns::new(Vec::new(alloc));
+    match build(alloc, &tree, &mut patterns) {
+        Ok(plan) => Ok(plan),
+        Err(_) => Err(NoMemory),
+    }
+}
+
 // A plan's thread over the plan's own replies, where the outside has memory for so many calls.
-fn solo_of(alloc: Global, text: &str, budget: u32, calls: u32) -> Result<Solo, FirstError> {
-    let plan = build_first(alloc, text.as_bytes())?;
+fn solo_of(alloc: Global, text: &str, budget: u32, calls: u32) -> M<Solo> {
+    let plan = plan_of(alloc, text)?;
     let inner = ScriptOutside::new(alloc, &plan, false)?;
     let mut outside = Scarce { inner, calls };
     let solo = run_alone(alloc, &plan, 0, budget, &mut outside)?;
@@ -162,7 +175,7 @@ fn rounds_without_an_end_over_nothing_meet_the_round_limit(rt: HostRuntime) -> R
 
 #[test]
 fn a_worker_takes_a_thread_a_step_at_a_time(rt: HostRuntime) -> Result<(), Fail> {
-    let plan = build_first(rt.alloc(), LOOP_OF_THREE.as_bytes())?;
+    let plan = plan_of(rt.alloc(), LOOP_OF_THREE)?;
     let mut outside = ScriptOutside::new(rt.alloc(), &plan, true)?;
     let mut worker = Worker::new(rt.alloc(), &plan, 0, 1)?;
     if let Step::Sampled(entry) = worker.step(&mut outside) {
@@ -176,16 +189,74 @@ fn a_worker_takes_a_thread_a_step_at_a_time(rt: HostRuntime) -> Result<(), Fail>
 
 #[test]
 fn the_plain_program_gives_the_same(rt: HostRuntime) -> Result<(), Fail> {
-    let plan = build_first(rt.alloc(), LOOP_OF_THREE.as_bytes())?;
+    let plan = plan_of(rt.alloc(), LOOP_OF_THREE)?;
     let mut outside = ScriptOutside::new(rt.alloc(), &plan, false)?;
     let items = run_plainly(rt.alloc(), &plan, 0, 65_536, &mut outside)?;
     for (item, line) in items.iter().zip(SIX_LINES) {
         assert!(rt; matches!(item, Item::Sampled(sample) if line_of(sample) == line));
     }
-    let next = sample_once(rt.alloc(), 0, 3, &mut outside)?;
+    let next = sample_once(rt.alloc(), 0, 3, b"", &mut outside)?;
     assert_eq!(rt;
         next.map(|sample| line_of(&sample)),
         Some((23, 7, 0, 500, false, 0))
     );
+    Ok(())
+}
+
+const FOUR_THREADS: &str =
+    "{\"type\":\"TestPlan\",\"children\":[{\"type\":\"ThreadGroup\",\"enabled\":false},
+    {\"type\":\"ThreadGroup\",\"props\":{\"threads\":4,\"rampMs\":10},\"children\":[
+    {\"type\":\"Script\",\"name\":\"A\",\"props\":{\"replies\":[{\"ms\":5,\"echo\":true}],\"request\":\"ping\"}}]}]}";
+
+// A thread of a plan, and one sample of it, where the outside has memory for so many calls. A thread that the plan does not
+// have counts as want of memory.
+fn one_sample_of(alloc: Global, plan: &Plan, thread: u16, calls: u32) -> M<Solo> {
+    if plan.threads() <= thread {
+        return Err(NoMemory);
+    }
+    let inner = ScriptOutside::new(alloc, plan, false)?;
+    let mut outside = Scarce { inner, calls };
+    let solo = run_alone(alloc, plan, thread, 1, &mut outside)?;
+    Ok(solo)
+}
+
+// The pause that the plain program gives first, or 0.
+fn plain_pause(alloc: Global, plan: &Plan, thread: u16) -> M<u32> {
+    if plan.threads() <= thread {
+        return Err(NoMemory);
+    }
+    let mut outside = ScriptOutside::new(alloc, plan, false)?;
+    let items = run_plainly(alloc, plan, thread, 1, &mut outside)?;
+    match items.first() {
+        Some(Item::Paused(ms)) => Ok(*ms),
+        _ => Ok(0),
+    }
+}
+
+#[test]
+fn the_threads_of_a_group_start_one_after_another(rt: HostRuntime) -> Result<(), Fail> {
+    let plan = plan_of(rt.alloc(), FOUR_THREADS)?;
+    for (thread, pause) in [(1, 2), (2, 5), (3, 7)] {
+        let solo = one_sample_of(rt.alloc(), &plan, thread, u32::MAX)?;
+        assert!(rt; matches!(solo.trace.first(), Some(TraceItem::Paused(ms)) if *ms == pause));
+        assert_eq!(rt;
+            line_at(&solo.trace, 1),
+            Some((u64::from(pause), 5, 0, 200, true, 4))
+        );
+        assert_eq!(rt; end_at(&solo.trace, 2), Some(End::Completed));
+        assert_eq!(rt; plain_pause(rt.alloc(), &plan, thread)?, pause);
+    }
+    let solo = one_sample_of(rt.alloc(), &plan, 0, u32::MAX)?;
+    assert_eq!(rt; line_at(&solo.trace, 0), Some((0, 5, 0, 200, true, 4)));
+    Ok(())
+}
+
+#[test]
+fn a_pause_without_memory_is_not_in_the_trace(rt: HostRuntime) -> Result<(), Fail> {
+    let plan = plan_of(rt.alloc(), FOUR_THREADS)?;
+    for (calls, items) in [(0, 1), (1, 2), (3, 2)] {
+        let solo = one_sample_of(rt.alloc(), &plan, 1, calls)?;
+        assert_eq!(rt; (solo.trace.len(), solo.end), (items, End::NoMemory));
+    }
     Ok(())
 }

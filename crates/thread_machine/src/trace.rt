@@ -48,13 +48,13 @@ impl Trace {
         Ok(Trace { items })
     }
 
-    /// Takes room for two items, so that a last one can be put behind the next.
+    /// Takes room for three items: a pause, what comes behind it, and the thread's end.
     pub fn make_room(&mut self) -> M<()>
-        ensures ok { OnOk result (2 ≤ self.new.room) }
+        ensures ok { OnOk result (3 ≤ self.new.room) }
         ensures kept { self.old.room ≤ self.new.room }
         ensures same { self.new.items ≡ self.old.items }
     {
-        self.items.reserve(2)?;
+        self.items.reserve(3)?;
         Ok(())
     }
 

@@ -1,7 +1,8 @@
 // One thread of a plan, a step at a time.
 
 ghost use Rattle.std.specs.Prelude.{◌≡◌, ◌<◌, ◌++◌, ◌∷◌, [], length, false, None, All, IsSome, IfOk, IfSome, ℕ};
-ghost use Rattle.element_tree.specs.Tree.{threads_of, labels_of};
+ghost use Rattle.element_tree.specs.Tree.{threads_of};
+ghost use Rattle.element_tree.specs.Names.{labels_of};
 ghost use Rattle.thread_machine.specs.Bare.{IsLabelled};
 ghost use Rattle.jm_base.specs.Outside.{Account};
 ghost use Rattle.thread_machine.specs.Standing.{IsAtStart, Stands};
@@ -28,8 +29,12 @@ pub struct Worker<'p> {
 impl<'p> Model for Worker<'p> {
     ghost use Rattle.thread_machine.specs.Standing.{Standing};
     ghost use Rattle.thread_machine.specs.Inside.{standing_of, IsSound};
+    ghost use Rattle.std.specs.Coded.{codes};
+    ghost use Rattle.template_text.specs.Code.{pieces_code};
 
     ghost Value = { Standing };
+
+    ghost coded = { Prim.hlevel (codes, pieces_code) };
 
     ghost view = { λ w. standing_of w.runner w.ended };
 
@@ -40,7 +45,7 @@ impl<'p> Worker<'p> {
     /// A thread before its first step, by its number from 0 over all groups.
     /// `budget` is how many samplers it may run at most.
     pub fn new(alloc: Global, plan: &'p Plan, number: u16, budget: u32) -> M<Worker<'p>>
-        requires { number < threads_of plan.now }
+        requires { number < length (threads_of plan.now) }
         ensures start { IfOk result (IsAtStart plan.now number budget) }
         ensures stands { IfOk result (λ w. (start : Account) → Stands start start budget w) }
     {

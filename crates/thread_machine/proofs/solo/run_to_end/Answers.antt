@@ -1,5 +1,7 @@
 use Rattle.std.proofs.Common.{◌∙◌, ap}
-use Rattle.thread_machine.proofs.Ends.{noted_on, noted_is}
+use Rattle.thread_machine.specs.declared.step.Step.TheVariants.{Sampled, Null, Ended}
+use Rattle.thread_machine.proofs.Ends.{begun_on, noted_on, noted_is}
+use Rattle.thread_machine.proofs.Intervals.{counted_noted, counted_behind}
 use Rattle.thread_machine.proofs.solo.run_to_end.Goals as goal
 
 pub returns-in-Ended-clause-has_run : goal.returns-in-Ended-clause-has_run
@@ -7,17 +9,23 @@ returns-in-Ended-clause-has_run g c = λ start budget stands.
     let i = c.steps.invariant in
     rw (← i.plan, ← i.thread) (c.in-Ended.ensures.stands start budget (i.stands start budget stands))
 
+pub returns-in-Ended-clause-intervals : goal.returns-in-Ended-clause-intervals
+returns-in-Ended-clause-intervals g c = λ all. counted_behind 0 _ _ _ _ (Ended _) c.in-Ended.ensures.steps (c.steps.invariant.counted all)
+
 pub steps-preserved-in-Sampled : goal.steps-preserved-in-Sampled
 steps-preserved-in-Sampled g c =
     let i = c.steps.invariant in
     let s = c.in-Sampled.ensures.steps in
-    let is = noted_is 0 c.step.new.self c.noted.new.self s.sample (ap (λ w. w.owed) s.new_is) c.noted.ensures.item in
-    let on = noted_on 0 c.step.new.self c.noted.new.self s.sample is in
+    let begun = begun_on _ _ _ s.between s.begins in
+    let given = s.gives in
+    let is = noted_is 0 c.step.new.self c.noted.new.self given.sample (ap (λ w. w.owed) given.new_is) c.noted.ensures.item in
+    let on = noted_on 0 c.step.new.self c.noted.new.self given.sample is in
     record {
       owed = on.owed;
-      going = on.ended ∙ ap (λ w. w.ended) s.new_is ∙ i.going;
-      plan = on.plan ∙ ap (λ w. w.plan) s.new_is ∙ i.plan;
-      thread = on.thread ∙ ap (λ w. w.thread) s.new_is ∙ i.thread;
+      going = on.ended ∙ ap (λ w. w.ended) given.new_is ∙ begun.ended ∙ i.going;
+      plan = on.plan ∙ ap (λ w. w.plan) given.new_is ∙ begun.plan ∙ i.plan;
+      thread = on.thread ∙ ap (λ w. w.thread) given.new_is ∙ begun.thread ∙ i.thread;
+      counted = λ all. counted_noted 0 c.step.new.self c.noted.new.self given.sample is (counted_behind 0 _ _ _ _ (Sampled _) s (i.counted all));
       stands = λ start budget stands. c.noted.ensures.stands start _ budget (c.in-Sampled.ensures.stands start budget (i.stands start budget stands));
     }
 
@@ -25,10 +33,13 @@ pub steps-preserved : goal.steps-preserved
 steps-preserved g c =
     let i = c.steps.invariant in
     let s = c.in-Null.ensures.steps in
+    let begun = begun_on _ _ _ s.between s.begins in
+    let given = s.gives in
     record {
-      owed = ap (λ w. w.owed) s.new_is ∙ i.owed;
-      going = ap (λ w. w.ended) s.new_is ∙ i.going;
-      plan = ap (λ w. w.plan) s.new_is ∙ i.plan;
-      thread = ap (λ w. w.thread) s.new_is ∙ i.thread;
+      owed = ap (λ w. w.owed) given.new_is ∙ begun.owed ∙ i.owed;
+      going = ap (λ w. w.ended) given.new_is ∙ begun.ended ∙ i.going;
+      plan = ap (λ w. w.plan) given.new_is ∙ begun.plan ∙ i.plan;
+      thread = ap (λ w. w.thread) given.new_is ∙ begun.thread ∙ i.thread;
+      counted = λ all. counted_behind 0 _ _ _ _ Null s (i.counted all);
       stands = λ start budget stands. c.in-Null.ensures.stands start budget (i.stands start budget stands);
     }

@@ -1,4 +1,4 @@
-use Rattle.std.proofs.Common.{◌≡◌, ◌≤◌, ◌<◌, length, refl, sym}
+use Rattle.std.proofs.Common.{◌≡◌, ◌≤◌, ◌<◌, length, refl, sym, arith}
 use Rattle.std.proofs.Math.ListN.{get_or}
 use Rattle.std.proofs.lemmas.Result.{IfOk-weaker}
 use Rattle.std.proofs.lemmas.List.{drop_all}
@@ -14,14 +14,14 @@ returns-in_default-clause-turned c = λ group depth units h. nothing_open (here_
 pub returns-in_default-element-clause-turned : goal.returns-in_default-element-clause-turned
 returns-in_default-element-clause-turned c = λ group depth units h.
     let t = c.in-Some.ensures in
-    away (here_of c.args.plan.now group) depth units _ _ c.in-Some.frame t.0 t.1 h (sym c.in_default-element.ensures) _ (c.pop.ensures.one _ _ t.1)
+    away (here_of c.args.plan.now group) (omega arith) depth units _ _ c.in-Some.frame t.0 t.1 h (sym c.in_default-element.ensures) _ (c.pop.ensures.one _ _ t.1)
 
 pub returns-in_default-get-clause-turned : goal.returns-in_default-get-clause-turned
 returns-in_default-get-clause-turned c = λ group depth units h.
     let t = c.in-Some.ensures in
     let g = c.in_default-get.ensures in
     let past : length c.in-Some-element.element.now.children ≤ c.in-Some.frame.next = rw c.as_slice.ensures at g.lookup.3 in
-    behind_last (here_of c.args.plan.now group) depth units _ _ c.in-Some.frame t.0 t.1 h c.in-Some-element.element.now
+    behind_last (here_of c.args.plan.now group) (omega arith) depth units _ _ c.in-Some.frame t.0 t.1 h c.in-Some-element.element.now
     (sym c.in-Some-element.ensures) (drop_all _ _ past) _ _ _ (c.at_end.ensures t.0 t.1)
 
 pub returns-clause-turned : goal.returns-clause-turned
@@ -30,7 +30,7 @@ returns-clause-turned c = IfOk-weaker c.open.result _ _ (λ x same group depth u
     let g = c.in-Some-get.ensures in
     let within : c.in-Some.frame.next < length c.in-Some-element.element.now.children = rw c.as_slice.ensures at g.lookup.3.0 in
     let there : c.in-Some-get.child.now ≡ get_or c.in-Some-element.element.now.children c.in-Some.frame.next c.in-Some-get.child.now = rw c.as_slice.ensures at g.lookup.1 in
-    to_child (here_of c.args.plan.now group) depth units _ _ c.in-Some.frame t.0 t.1 h c.in-Some-element.element.now
+    to_child (here_of c.args.plan.now group) (omega arith) depth units _ _ c.in-Some.frame t.0 t.1 h c.in-Some-element.element.now
     (sym c.in-Some-element.ensures) c.in-Some-get.child.now
     (slice_get_read _ _ _ _ refl within there) _ (c.set_top.ensures _ _ t.1) _ _ _ same) c.open.ensures
 

@@ -1,13 +1,15 @@
 use Rattle.std.proofs.Common.{◌≡◌, false, ap, ◌∙◌}
 use Rattle.thread_machine.proofs.Ends.{stands_behind}
 use Rattle.thread_machine.proofs.Sound.{sound_behind}
+use Rattle.thread_machine.proofs.Steps.{cut_ended}
 use Rattle.thread_machine.proofs.worker.Worker.step.Goals as goal
 
 pub invariant_of-self : goal.invariant_of-self
 invariant_of-self g c =
     let going : c.self.inside.ended ≡ false = ap (λ s. s.ended) c.self.view_is ∙ c.requires.going in
+    let owed = ap (λ s. s.owed) c.self.view_is ∙ c.requires.owed in
     rw c.is_end-self-inside.ensures
-    (sound_behind _ _ c.self.inside.runner c.try_step.new.self (rw going at c.self.invariant) c.in-Ok.step c.in-Ok.ensures.steps c.in-Ok.ensures.on)
+    (sound_behind _ _ c.self.inside.runner c.try_step.new.self (rw going at c.self.invariant) owed c.in-Ok.step c.in-Ok.ensures.steps c.in-Ok.ensures.on)
 
 pub returns-in-Ok-clause-stands : goal.returns-in-Ok-clause-stands
 returns-in-Ok-clause-stands g c =
@@ -15,3 +17,8 @@ returns-in-Ok-clause-stands g c =
     let owed = ap (λ s. s.owed) c.self.view_is ∙ c.requires.owed in
     rw (← c.self.view_is, going, c.is_end-self-inside.ensures)
     (λ start budget stands. stands_behind start _ _ budget _ _ c.in-Ok.step owed c.in-Ok.ensures.steps stands)
+
+pub returns-in-Err-clause-steps : goal.returns-in-Err-clause-steps
+returns-in-Err-clause-steps g c =
+    let going : c.self.inside.ended ≡ false = ap (λ s. s.ended) c.self.view_is ∙ c.requires.going in
+    rw (← c.self.view_is, going) (cut_ended _ _ c.self.inside.runner c.try_step.new.self c.put.new.self c.in-Err.ensures.cut c.put.ensures.items)

@@ -1,0 +1,34 @@
+// What applies to a sampler, and what a controller does next.
+
+use std::marker::Model;
+
+/// The elements that take part in the samples of one sampler, by their numbers, each list in the order in which they act (the manual's
+/// "Execution order" and "Scoping Rules").
+#[derive(Drop)]
+pub struct Package {
+    pub config: Vec<u16>,
+    pub pre: Vec<u16>,
+    pub timers: Vec<u16>,
+    pub post: Vec<u16>,
+    pub assertions: Vec<u16>,
+    pub listeners: Vec<u16>,
+}
+
+impl Model for Package {
+    ghost use Rattle.element_tree.specs.Scope.{Scope};
+
+    ghost Value = { Scope };
+
+    ghost view = { λ p. record { config = p.config.items; pre = p.pre.items; timers = p.timers.items; post = p.post.items; assertions = p.assertions.items; listeners = p.listeners.items } };
+}
+
+/// What a controller does next.
+#[derive(Clone, Copy, PartialEq, Eq, Debug)]
+pub enum Turn {
+    /// It runs a child: the place of the child, from 0, among its children that are controllers or samplers.
+    Child(u16),
+    /// A new round begins.
+    Round,
+    /// The pass is over.
+    Over,
+}

@@ -1,0 +1,96 @@
+// The types of element, and the class of each.
+
+ghost use Rattle.std.specs.Prelude.{◌≡◌};
+ghost use Rattle.element_tree.specs.Types.{class_of_type};
+
+/// The types of element.
+#[derive(Clone, Copy, PartialEq, Eq, Debug)]
+pub enum ElementType {
+    TestPlan,
+    ThreadGroup,
+    Simple,
+    OnceOnly,
+    Interleave,
+    Random,
+    RandomOrder,
+    Transaction,
+    Loop,
+    If,
+    While,
+    Switch,
+    ForEach,
+    CriticalSection,
+    Script,
+    Http,
+    UserVariables,
+    HttpDefaults,
+    HeaderManager,
+    Counter,
+    DataSet,
+    UserParameters,
+    ConstantTimer,
+    UniformTimer,
+    RegexExtractor,
+    JsonExtractor,
+    BoundaryExtractor,
+    ResponseAssertion,
+    DurationAssertion,
+    SizeAssertion,
+    Listener,
+}
+
+/// What a type is for: it decides where its elements may stand, and when they take part in a sample (the manual's "Execution order").
+#[derive(Clone, Copy, PartialEq, Eq, Debug)]
+pub enum Class {
+    Root,
+    Group,
+    Controller,
+    Sampler,
+    Config,
+    PreProcessor,
+    Timer,
+    PostProcessor,
+    Assertion,
+    Listener,
+}
+
+impl ElementType {
+    /// The class of a type.
+    pub fn class(self) -> Class
+        ensures { result ≡ class_of_type self }
+    {
+        match self {
+            ElementType::TestPlan => Class::Root,
+            ElementType::ThreadGroup => Class::Group,
+            ElementType::Simple => Class::Controller,
+            ElementType::OnceOnly => Class::Controller,
+            ElementType::Interleave => Class::Controller,
+            ElementType::Random => Class::Controller,
+            ElementType::RandomOrder => Class::Controller,
+            ElementType::Transaction => Class::Controller,
+            ElementType::Loop => Class::Controller,
+            ElementType::If => Class::Controller,
+            ElementType::While => Class::Controller,
+            ElementType::Switch => Class::Controller,
+            ElementType::ForEach => Class::Controller,
+            ElementType::CriticalSection => Class::Controller,
+            ElementType::Script => Class::Sampler,
+            ElementType::Http => Class::Sampler,
+            ElementType::UserVariables => Class::Config,
+            ElementType::HttpDefaults => Class::Config,
+            ElementType::HeaderManager => Class::Config,
+            ElementType::Counter => Class::Config,
+            ElementType::DataSet => Class::Config,
+            ElementType::UserParameters => Class::PreProcessor,
+            ElementType::ConstantTimer => Class::Timer,
+            ElementType::UniformTimer => Class::Timer,
+            ElementType::RegexExtractor => Class::PostProcessor,
+            ElementType::JsonExtractor => Class::PostProcessor,
+            ElementType::BoundaryExtractor => Class::PostProcessor,
+            ElementType::ResponseAssertion => Class::Assertion,
+            ElementType::DurationAssertion => Class::Assertion,
+            ElementType::SizeAssertion => Class::Assertion,
+            ElementType::Listener => Class::Listener,
+        }
+    }
+}

@@ -1,0 +1,96 @@
+// Where the first element stands that does not run yet.
+
+ghost use Rattle.std.specs.Prelude.{◌≡◌, ◌++◌, ◌<◌, IfOk, OnOk, length, map, [], position, slice_get, unwrap_or, Some, None};
+ghost use Rattle.std.specs.Option.{option_map, option_and_then};
+ghost use Rattle.plan_json.specs.Seen.{raw_view};
+ghost use Rattle.jm_program.specs.Refusals.{places_of, property_of, property_at, does_not_run, unbuilt_at, not_built};
+
+use element_tree::{Element, Plan};
+use jm_base::{Items, M, Text};
+use jm_meaning::{Unbuilt, unbuilt_of};
+use plan_json::{Path, RawElement};
+use std::alloc::Global;
+
+/// Where the first element of the plan, in tree order, stands in the tree that it was built of, if it does not run yet.
+pub fn not_built(alloc: Global, tree: &RawElement, plan: &Plan) -> M<Option<Path>>
+    ensures { IfOk result (λ path. path ≡ not_built (raw_view tree.now) plan.now.elements) }
+{
+    let elements = plan.elements();
+    let Some(number) = first_unbuilt(elements) else {
+        return Ok(None);
+    };
+    let places = places_at(alloc, tree, number)?;
+    let prop = property_at(alloc, elements, number)?;
+    Ok(Some(Path { places, prop }))
+}
+
+// The number of the first element that does not run yet.
+fn first_unbuilt(elements: &[Element]) -> Option<usize>
+    ensures { result ≡ position does_not_run elements.now }
+{
+    elements
+        .iter()
+        .position(|element| unbuilt_of(&element.kind).is_some())
+}
+
+// The property of the element of this number that does not run yet.
+fn property_at(alloc: Global, elements: &[Element], number: usize) -> M<Option<Text>>
+    ensures { IfOk result (λ name. name ≡ property_at elements.now number) }
+{
+    let Some(element) = elements.get(number) else {
+        return Ok(None);
+    };
+    let Some(unbuilt) = unbuilt_of(&element.kind) else {
+        return Ok(None);
+    };
+    match property_of(unbuilt) {
+        Some(name) => Ok(Some(Text::new(alloc, name)?)),
+        None => Ok(None),
+    }
+}
+
+fn property_of(unbuilt: Unbuilt) -> Option<&'static [u8]>
+    ensures { option_map (λ name. name.now) result ≡ property_of unbuilt }
+{
+    match unbuilt {
+        Unbuilt::Element => None,
+        Unbuilt::Loops => Some(b"loops"),
+        Unbuilt::OnError => Some(b"onError"),
+        Unbuilt::Request => Some(b"request"),
+    }
+}
+
+// The steps from the root to the enabled element of this number.
+fn places_at(alloc: Global, tree: &RawElement, number: usize) -> M<Vec<u64>>
+    ensures { IfOk result (λ places. places.items ≡ unwrap_or (slice_get (places_of [] (raw_view tree.now)) number) []) }
+{
+    let mut all = Vec::new(alloc);
+    let mut here = Vec::new(alloc);
+    push_places(alloc, tree, &mut here, &mut all)?;
+    match all.get(number) {
+        Some(places) => Ok(Vec::from_slice(alloc, places.as_slice())?),
+        None => Ok(Vec::new(alloc)),
+    }
+}
+
+// Appends the steps to an element that is here, and to the enabled elements below it.
+fn push_places(
+    alloc: Global,
+    tree: &RawElement,
+    here: &mut Vec<u64>,
+    all: &mut Vec<Items<u64>>,
+) -> M<()>
+    ensures all { OnOk result (all.new.items ≡ all.old.items ++ places_of here.old.items (raw_view tree.now)) }
+    ensures here { OnOk result (here.new.items ≡ here.old.items) }
+{
+    all.push(Items::of(Vec::from_slice(alloc, here)?))?;
+    'below: for (place, child) in tree.children.iter().enumerate() {
+        if !child.enabled {
+            continue;
+        }
+        here.push(place as u64)?;
+        push_places(alloc, child, here, all)?;
+        here.pop();
+    }
+    Ok(())
+}

@@ -1,0 +1,7 @@
+pub mod Numerals
+pub mod Steps
+pub mod Passes
+pub mod LoopLaws
+pub mod IfLaws
+pub mod WhileLaws
+pub mod EachLaws

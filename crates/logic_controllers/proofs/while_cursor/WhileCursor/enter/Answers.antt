@@ -1,0 +1,12 @@
+use Rattle.std.proofs.Common.{sym, ap, ◌∙◌}
+use Rattle.logic_controllers.specs.Step.{answers}
+use Rattle.logic_controllers.specs.Children.{run_count}
+use Rattle.logic_controllers.specs.Rounds.{before_rounds}
+use Rattle.logic_controllers.proofs.Steps.{goes-same, same-element}
+use Rattle.logic_controllers.proofs.while_cursor.WhileCursor.enter.Goals as goal
+
+pub returns-clause-came : goal.returns-clause-came
+returns-clause-came g c = λ e condition is.
+    let de = same-element c.args.plan.now.elements c.args.self.now.element _ e c.in-Some.ensures is.there in
+    goes-same _ _ _ (ap (λ r. answers tt (record { element = c.args.self.now.element; rounds = r }) c.args.state.now)
+    (sym (c.before_first-self.ensures ∙ ap before_rounds (c.run_count.ensures ∙ ap (run_count c.args.plan.now.elements) de))))

@@ -1,0 +1,9 @@
+pub mod Step
+pub mod Children
+pub mod Rounds
+pub mod SimpleController
+pub mod OnceOnlyController
+pub mod LoopController
+pub mod IfController
+pub mod WhileController
+pub mod ForEachController

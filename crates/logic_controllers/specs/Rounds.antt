@@ -1,0 +1,37 @@
+-- The rounds of the Loop, While and ForEach Controllers.
+use Rattle.std.specs.Prelude.{ℕ, ◌+◌, ◌-◌, true, false, List, ◌++◌, Option, Some, codes, decimal, if◌then◌else◌}
+use Rattle.element_tree.specs.declared.package.Turn.{Turn}
+use Rattle.element_tree.specs.declared.package.Turn.TheVariants.{Child, Round, Over}
+use Rattle.var_functions.specs.Vars.{Variables, put_var}
+use Rattle.logic_controllers.specs.declared.rounds.Rounds.{Rounds}
+use Rattle.logic_controllers.specs.Children.{none_left, pass_over}
+
+-- a thread begins at most so many rounds
+abbrev pub most_rounds : ℕ
+most_rounds = 16777216
+
+-- before the first round
+abbrev pub before_rounds : ℕ → Rounds
+before_rounds children = record { begun = 0; opening = false; pass = none_left children }
+
+-- a round begins: its variables are still to be set, and all children are to be run
+abbrev pub round_begun : Rounds → Rounds
+round_begun r = record { begun = r.begun + 1; opening = true; pass = pass_over r.pass.children }
+
+-- how many rounds have begun after a turn
+abbrev pub begun_after : ℕ → Turn → ℕ
+begun_after begun (Child place) = begun
+begun_after begun Round = begun + 1
+begun_after begun Over = begun
+
+-- the index variable of a looping element of this name
+abbrev pub index_name : List ℕ → List ℕ
+index_name name = codes "__jm__" ++ name ++ codes "__idx"
+
+-- The variables where the round that began last is opened: its index, from 0, is set. There are none where they would
+-- be past their limit; and nothing is set where the round was opened already.
+abbrev pub opened_vars : List ℕ → Rounds → Variables → Option Variables
+opened_vars name r vars = if r.opening then put_var (index_name name) (decimal (r.begun - 1)) vars else Some vars
+
+abbrev pub opened : Rounds → Rounds
+opened r = record r { opening = false }

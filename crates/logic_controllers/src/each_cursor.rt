@@ -1,0 +1,259 @@
+// The cursor of a ForEach Controller.
+
+ghost use Rattle.std.specs.Prelude.{◌≡◌, ◌+◌, ◌<◌, ◌≤◌, slice_get, List, ℕ, IfOk, IfSome, OnOk, OnErr, None, Some};
+ghost use Rattle.jm_base.specs.Run.{Run};
+ghost use Rattle.jm_base.specs.Outside.{Account};
+ghost use Rattle.element_tree.specs.declared.kinds.Element.{Element};
+ghost use Rattle.var_functions.specs.Vars.{Puts, value_of};
+ghost use Rattle.var_functions.specs.State.{Functions};
+ghost use Rattle.var_functions.specs.Came.{CameTo};
+ghost use Rattle.logic_controllers.specs.Step.{Step, past_limit, StepsTo, IsThere};
+ghost use Rattle.logic_controllers.specs.Children.{IsAmong, run_count};
+ghost use Rattle.logic_controllers.specs.Rounds.{before_rounds, begun_after, opened};
+ghost use Rattle.logic_controllers.specs.ForEachController.{Row, kind_of, input_name, value_at, output_vars, each_enters, each_goes, each_opens, each_next, AllSet, EachKept};
+
+use crate::pass::run_count;
+use crate::rounds::{Rounds, decimal_text, put_text};
+use element_tree::{Kind, Plan, Turn};
+use jm_base::{M, Outside, Text};
+use std::alloc::Global;
+use var_functions::{UserState, VarError, Vars};
+
+/// What a ForEach Controller does next (the manual's "ForEach Controller"): it runs its children once for each variable
+/// of a numbered row, whose value goes to another variable.
+#[derive(Drop)]
+pub struct EachCursor {
+    /// The number of the controller's element.
+    pub element: u16,
+    pub rounds: Rounds,
+    /// The value of the round that began last, until it goes to the output.
+    pub value: Option<Text>,
+}
+
+/// The name of the variable of this number.
+fn input_name(alloc: Global, input: &[u8], separator: bool, number: u64) -> M<Text>
+    ensures { IfOk result (λ t. t ≡ input_name input.now separator number) }
+{
+    let digits = decimal_text(alloc, number)?;
+    let mut text = Vec::from_slice(alloc, input)?;
+    if separator {
+        text.extend_from_slice(b"_")?;
+    }
+    text.extend_from_slice(digits.bytes())?;
+    Ok(Text::of(text))
+}
+
+/// A copy of the value of a variable, where it is defined.
+fn copied_value(alloc: Global, vars: &Vars, name: &Text) -> M<Option<Text>>
+    ensures { IfOk result (λ v. v ≡ value_of name.now vars.now) }
+{
+    match vars.get(name.bytes()) {
+        Some(value) => {
+            let copy = value.copy(alloc)?;
+            Ok(Some(copy))
+        }
+        None => Ok(None),
+    }
+}
+
+/// Which variables of a row are read: whether `_` stands in front of their numbers, the number before the first one and
+/// the number of the last one.
+#[derive(Clone, Copy)]
+struct Span {
+    separator: bool,
+    start: u32,
+    end: u32,
+}
+
+/// The value of the round of this index, where there is one.
+fn value_at(alloc: Global, vars: &Vars, input: &Text, span: Span, index: u32) -> M<Option<Text>>
+    ensures value { IfOk result (λ v. v ≡ value_at (record { input = input.now; separator = span.separator; start = span.start; end = span.end }) index vars.now) }
+    ensures within { IfOk result (λ v. IfSome v (λ t. span.start + 1 + index ≤ span.end)) }
+{
+    let number = u64::from(span.start) + 1 + u64::from(index);
+    if number > u64::from(span.end) {
+        return Ok(None);
+    }
+    let name = input_name(alloc, input.bytes(), span.separator, number)?;
+    let value = copied_value(alloc, vars, &name)?;
+    Ok(value)
+}
+
+impl EachCursor {
+    /// The cursor of this element, before its first `enter`.
+    pub fn new(element: u16) -> EachCursor
+        ensures { result ≡ record { element = element; rounds = before_rounds 0; value = None } }
+    {
+        EachCursor {
+            element,
+            rounds: Rounds::before_first(0),
+            value: None,
+        }
+    }
+
+    /// Stands before the first round. It takes no memory.
+    pub fn enter<O: Outside>(
+        &mut self,
+        _alloc: Global,
+        plan: &Plan,
+        state: &mut UserState,
+        outside: &mut O,
+    ) -> Result<(), VarError>
+        requires { (e : Element) × (row : Row) × (output : List ℕ) × IsThere plan.now.elements self.old.element e (kind_of row output) }
+        ensures came { (e : Element) (row : Row) (output : List ℕ) → IsThere plan.now.elements self.old.element e (kind_of row output)
+            → StepsTo (O.account outside.old) (each_enters (run_count plan.now.elements e) self.old state.old)
+            (O.account outside.new) self.new state.new result }
+        ensures rounds { (e : Element) → slice_get plan.now.elements self.old.element ≡ Some e → self.new.rounds ≡ before_rounds (run_count plan.now.elements e) }
+        ensures same { self.new.element ≡ self.old.element }
+        ensures done { result ≡ Ok tt }
+    {
+        let Some(element) = plan.element(self.element) else {
+            unreachable!();
+        };
+        self.rounds = Rounds::before_first(run_count(plan, element));
+        self.value = None;
+        Ok(())
+    }
+
+    /// Opens the round that began last, where that is still to come: sets `__jm__NAME__idx` to the round's index, from
+    /// 0, and then the output to its value. Then it is the next child, or behind the last one, and before the first
+    /// round, the next variable is read: it is `Round` where it is defined and not past the end, and else `Over`.
+    ///
+    /// `ValueLimit` comes where a variable that is set would be past a limit.
+    pub fn next<O: Outside>(
+        &mut self,
+        alloc: Global,
+        plan: &Plan,
+        _round: u64,
+        state: &mut UserState,
+        outside: &mut O,
+    ) -> Result<Turn, VarError>
+        requires { (e : Element) × (row : Row) × (output : List ℕ) × IsThere plan.now.elements self.old.element e (kind_of row output) }
+        ensures came { (e : Element) (row : Row) (output : List ℕ) → IsThere plan.now.elements self.old.element e (kind_of row output)
+            → StepsTo (O.account outside.old) (each_next e.name row output self.old state.old) (O.account outside.new) self.new state.new result }
+        ensures child { IfOk result (λ turn. IsAmong self.old.rounds.pass.children turn) }
+        ensures begun { IfOk result (λ turn. self.new.rounds.begun ≡ begun_after self.old.rounds.begun turn) }
+        ensures children { self.new.rounds.pass.children ≡ self.old.rounds.pass.children }
+        ensures same { self.new.element ≡ self.old.element }
+        ensures kept { (e : Element) (row : Row) (output : List ℕ) → IsThere plan.now.elements self.old.element e (kind_of row output)
+            → OnErr result (EachKept e.name output self.old state.old.vars self.new state.new.vars) }
+        ensures fns { state.new.fns ≡ state.old.fns }
+    {
+        let Some(element) = plan.element(self.element) else {
+            unreachable!();
+        };
+        let Kind::ForEach {
+            end,
+            input,
+            output,
+            separator,
+            start,
+        } = &element.kind
+        else {
+            unreachable!();
+        };
+        let span = Span {
+            separator: *separator,
+            start: *start,
+            end: *end,
+        };
+        self.advance(
+            alloc,
+            element.name.bytes(),
+            input,
+            span,
+            output,
+            state,
+            outside,
+        )
+    }
+
+    // The same for an element of this name, over these variables.
+    fn advance<O: Outside>(
+        &mut self,
+        alloc: Global,
+        name: &[u8],
+        input: &Text,
+        span: Span,
+        output: &Text,
+        state: &mut UserState,
+        outside: &mut O,
+    ) -> Result<Turn, VarError>
+        ensures came { StepsTo (O.account outside.old)
+            (each_next name.now (record { input = input.now; separator = span.separator; start = span.start; end = span.end }) output.now self.old state.old)
+            (O.account outside.new) self.new state.new result }
+        ensures child { IfOk result (λ turn. IsAmong self.old.rounds.pass.children turn) }
+        ensures begun { IfOk result (λ turn. self.new.rounds.begun ≡ begun_after self.old.rounds.begun turn) }
+        ensures children { self.new.rounds.pass.children ≡ self.old.rounds.pass.children }
+        ensures same { self.new.element ≡ self.old.element }
+        ensures kept { OnErr result (EachKept name.now output.now self.old state.old.vars self.new state.new.vars) }
+        ensures fns { state.new.fns ≡ state.old.fns }
+    {
+        match self.open(alloc, name, output, &mut state.vars) {
+            Ok(()) => self.go_on(alloc, input, span, state),
+            Err(error) => Err(error),
+        }
+    }
+
+    // Opens the round that began last, where that is still to come.
+    fn open(
+        &mut self,
+        alloc: Global,
+        name: &[u8],
+        output: &Text,
+        vars: &mut Vars,
+    ) -> Result<(), VarError>
+        ensures came { (a : Account) (fns : Functions) (next : UserState → Run (Step Turn EachCursor))
+            → CameTo a (each_opens name.now output.now self.old (record { vars = vars.old; fns = fns }) next) a
+            (λ u. next (record { vars = vars.new; fns = fns })) (past_limit self.new (record { vars = vars.new; fns = fns })) result }
+        ensures opened { OnOk result (self.new ≡ record self.old { rounds = opened self.old.rounds; value = None }) }
+        ensures vars { OnOk result (AllSet name.now output.now self.old vars.old vars.new) }
+        ensures kept { OnErr result (EachKept name.now output.now self.old vars.old self.new vars.new) }
+    {
+        match self.rounds.open(alloc, name, vars) {
+            Ok(()) => self.put_out(alloc, output, vars),
+            Err(error) => Err(error),
+        }
+    }
+
+    // Sets the output to the value that is kept, where there is one. It is kept no more then.
+    fn put_out(&mut self, alloc: Global, output: &Text, vars: &mut Vars) -> Result<(), VarError>
+        ensures vars { Puts (output_vars output.now self.old.value vars.old) vars.old vars.new result }
+        ensures taken { self.new ≡ record self.old { value = None } }
+    {
+        match self.value.take() {
+            Some(value) => put_text(vars, output.copy(alloc), Ok(value)),
+            None => Ok(()),
+        }
+    }
+
+    // What comes next in a round that is open, or behind it.
+    fn go_on(
+        &mut self,
+        alloc: Global,
+        input: &Text,
+        span: Span,
+        state: &UserState,
+    ) -> Result<Turn, VarError>
+        ensures came { (a : Account) → StepsTo a
+            (each_goes (record { input = input.now; separator = span.separator; start = span.start; end = span.end }) self.old state.now) a self.new state.now result }
+        ensures child { IfOk result (λ turn. IsAmong self.old.rounds.pass.children turn) }
+        ensures begun { IfOk result (λ turn. self.new.rounds.begun ≡ begun_after self.old.rounds.begun turn) }
+        ensures children { self.new.rounds.pass.children ≡ self.old.rounds.pass.children }
+        ensures same { self.new.element ≡ self.old.element }
+        ensures kept { OnErr result (self.new ≡ self.old) }
+    {
+        if let Some(place) = self.rounds.pass.next_child() {
+            return Ok(Turn::Child(place));
+        }
+        match value_at(alloc, &state.vars, input, span, self.rounds.begun) {
+            Ok(Some(value)) => {
+                self.rounds.begin();
+                self.value = Some(value);
+                Ok(Turn::Round)
+            }
+            Ok(None) => Ok(Turn::Over),
+            Err(_) => Err(VarError::NoMemory),
+        }
+    }
+}

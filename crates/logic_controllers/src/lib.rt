@@ -1,0 +1,26 @@
+//! The cursors of the controllers that run their children in order: Simple, Once Only, Loop, If, While and ForEach.
+//!
+//! A cursor stands for one controller of a plan. `enter` begins a pass; after it each `next` says what the controller
+//! does next: it runs a child, begins a new round, or is over.
+#![tactic(auto)]
+
+pub mod each_cursor;
+pub mod if_cursor;
+pub mod loop_cursor;
+pub mod once_cursor;
+pub mod pass;
+pub mod rounds;
+pub mod simple_cursor;
+pub mod while_cursor;
+
+pub use each_cursor::EachCursor;
+pub use if_cursor::IfCursor;
+pub use loop_cursor::LoopCursor;
+pub use once_cursor::OnceCursor;
+pub use pass::Pass;
+pub use rounds::Rounds;
+pub use simple_cursor::SimpleCursor;
+pub use while_cursor::WhileCursor;
+
+#[cfg(test)]
+mod tests;

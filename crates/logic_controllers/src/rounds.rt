@@ -1,0 +1,110 @@
+// The rounds of a looping controller: how many have begun, and the children of the last one.
+
+ghost use Rattle.std.specs.Prelude.{◌≡◌, ◌+◌, ◌-◌, ◌^◌, ◌<◌, OnOk, OnErr, IfOk, decimal, List, ℕ};
+ghost use Rattle.var_functions.specs.Vars.{put_var, Puts};
+ghost use Rattle.logic_controllers.specs.Rounds.{before_rounds, round_begun, index_name, opened_vars, opened};
+
+use crate::pass::Pass;
+use jm_base::{M, Text};
+use std::alloc::Global;
+use var_functions::{VarError, Vars};
+
+/// The rounds of a Loop, While or ForEach.
+#[derive(Clone, Copy)]
+pub struct Rounds {
+    /// How many rounds have begun since the controller was entered.
+    pub begun: u32,
+    /// Whether the variables of the round that began last are still to be set.
+    pub opening: bool,
+    /// The children in this round.
+    pub pass: Pass,
+}
+
+/// Text of a number's decimal digits.
+pub(crate) fn decimal_text(alloc: Global, number: u64) -> M<Text>
+    ensures { IfOk result (λ t. t ≡ decimal number) }
+{
+    let text = format!(in alloc; "{number}")?;
+    Text::new(alloc, text.as_bytes())
+}
+
+/// The name of the index variable of an element of this name.
+fn index_name(alloc: Global, name: &[u8]) -> M<Text>
+    ensures { IfOk result (λ t. t ≡ index_name name.now) }
+{
+    let mut text = Vec::from_slice(alloc, b"__jm__")?;
+    text.extend_from_slice(name)?;
+    text.extend_from_slice(b"__idx")?;
+    Ok(Text::of(text))
+}
+
+/// Sets a variable whose name and value may have wanted memory.
+pub(crate) fn put_text(vars: &mut Vars, name: M<Text>, value: M<Text>) -> Result<(), VarError>
+    ensures { (n v : List ℕ) → IfOk name (λ t. t ≡ n) → IfOk value (λ t. t ≡ v) → Puts (put_var n v vars.old) vars.old vars.new result }
+{
+    let Ok(name) = name else {
+        return Err(VarError::NoMemory);
+    };
+    let Ok(value) = value else {
+        return Err(VarError::NoMemory);
+    };
+    vars.put(name, value)
+}
+
+/// Sets the index variable of an element of this name.
+fn set_index(alloc: Global, name: &[u8], index: u32, vars: &mut Vars) -> Result<(), VarError>
+    ensures { Puts (put_var (index_name name.now) (decimal index) vars.old) vars.old vars.new result }
+{
+    put_text(
+        vars,
+        index_name(alloc, name),
+        decimal_text(alloc, u64::from(index)),
+    )
+}
+
+impl Rounds {
+    /// Before the first round.
+    pub(crate) fn before_first(children: u16) -> Rounds
+        ensures { result ≡ before_rounds children }
+    {
+        Rounds {
+            begun: 0,
+            opening: false,
+            pass: Pass::none_left(children),
+        }
+    }
+
+    /// Begins one more round.
+    pub(crate) fn begin(&mut self)
+        requires { self.old.begun < 2 ^ 32 - 1 }
+        ensures { self.new ≡ round_begun self.old }
+    {
+        self.begun += 1;
+        self.opening = true;
+        self.pass = Pass::over(self.pass.children);
+    }
+
+    /// Opens the round that began last, where that is still to come: sets the index variable of the element of this
+    /// name. A call that refuses changes nothing.
+    pub(crate) fn open(
+        &mut self,
+        alloc: Global,
+        name: &[u8],
+        vars: &mut Vars,
+    ) -> Result<(), VarError>
+        ensures vars { Puts (opened_vars name.now self.old vars.old) vars.old vars.new result }
+        ensures opened { OnOk result (self.new ≡ opened self.old) }
+        ensures kept { OnErr result (self.new ≡ self.old) }
+    {
+        if !self.opening {
+            return Ok(());
+        }
+        match set_index(alloc, name, self.begun.saturating_sub(1), vars) {
+            Ok(()) => {
+                self.opening = false;
+                Ok(())
+            }
+            Err(error) => Err(error),
+        }
+    }
+}

@@ -1,0 +1,5 @@
+pub mod OrderLaws
+pub mod LineLaws
+pub mod MemberLaws
+pub mod PlanLaws
+pub mod ScopeLaws

@@ -1,0 +1,10 @@
+//! Which elements apply to a sampler, and in which order they act (the manual's "Scoping Rules" and "Execution order").
+#![tactic(auto)]
+
+mod levels;
+pub mod scope;
+
+pub use scope::package;
+
+#[cfg(test)]
+mod tests;
