@@ -1,6 +1,7 @@
 #!/bin/sh
 # Prints how fast `solo` runs: samples a second from the start of the process to its exit, the peak of its memory,
-# and how long a loop without end over an empty controller takes to meet its limit of rounds.
+# and how long a loop without end over an empty controller takes to meet its limit of rounds. Over nested Loops, an If
+# and a ForEach with templates at least 250,000 samples a second are wanted.
 # Usage: bench/solo.sh    (it needs python3, for the clock and the memory of a child process)
 cd "$(dirname "$0")/.." || exit 1
 ./jm solo </dev/null >/dev/null 2>&1
@@ -9,8 +10,11 @@ import json, os, subprocess, tempfile, time
 
 PROGRAM = ["crates/jm_program/out/jm_program", "solo"]
 
-def script(name, replies):
-    return {"type": "Script", "name": name, "props": {"replies": replies}}
+def script(name, replies, **props):
+    return {"type": "Script", "name": name, "props": {"replies": replies, **props}}
+
+def controller(kind, name, children, **props):
+    return {"type": kind, "name": name, "props": props, "children": children}
 
 def plan(children):
     group = {"type": "ThreadGroup", "name": "TG", "children": children}
@@ -54,6 +58,18 @@ def sampled(name, text):
 sampled("4,093 samplers of one reply", plan([script("S", [{}]) for _ in range(4093)]))
 loop = {"type": "Loop", "props": {"loops": 65536}, "children": [script("S", [{"ms": 1}])]}
 sampled("a loop of 65,536 samples", plan([loop]))
+
+# 64 rounds of 64 rounds, in each of them the If's sampler and the 15 values of the ForEach: 65,536 samples.
+values = [[f"u_{number}", f"value {number}"] for number in range(1, 16)]
+each = controller("ForEach", "E", [
+    script("S", [{"echo": True, "ms": 1}], request="${user}/${__jm__E__idx}/${__intSum(${__jm__I__idx},1)}?q=${o}"),
+], input="u", output="o")
+chosen = controller("If", "chosen", [script("T", [{"ms": 1}])], condition='${__jexl3("${user}" == "ann")}')
+inner = controller("Loop", "I", [chosen, each], loops="${rounds}")
+outer = controller("Loop", "O", [inner], loops="${__P(rounds,64)}")
+variables = {"type": "UserVariables", "props": {"vars": [["user", "ann"], ["rounds", "${__P(rounds,64)}"]] + values}}
+sampled("nested loops, an If and a ForEach with templates", plan([variables, outer]))
+
 took, report = seconds(plan([{"type": "Loop", "props": {"loops": -1}, "children": [{"type": "Simple"}]}]))
 print(f"a loop without end over an empty Simple: {took:.2f} s; {report}")
 PY

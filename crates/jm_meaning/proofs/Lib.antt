@@ -1,6 +1,4 @@
+pub mod PartLaws
 pub mod SamplingLaws
-pub mod TextLaws
+pub mod BeginningLaws
 pub mod ThreadLaws
-pub mod RoleLaws
-pub mod PlainLaws
-mod WorkedPlans

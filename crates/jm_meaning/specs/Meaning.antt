@@ -1,89 +1,57 @@
 -- The meaning of a plan.
-use Rattle.std.specs.Prelude.{ℕ, zero, suc, ◌+◌, Bool, true, nat_lt, List, [], ◌∷◌, Option, Some, None, slice_get, if◌then◌else◌}
+use Rattle.std.specs.Prelude.{ℕ, zero, suc, List, Option, Some, None, slice_get}
 use Rattle.jm_base.specs.declared.types.End.{End}
-use Rattle.jm_base.specs.declared.types.End.TheVariants.{Completed, RoundLimit}
+use Rattle.jm_base.specs.declared.types.End.TheVariants.{Completed, StopThread, StopTest}
 use Rattle.jm_base.specs.Run.{Run, over, give, wait, ◌>>=◌, Waited, Ended}
 use Rattle.element_tree.specs.declared.kinds.Element.{Element}
 use Rattle.element_tree.specs.declared.kinds.Kind.{Kind}
-use Rattle.element_tree.specs.declared.kinds.Kind.TheVariants.{ThreadGroup, Simple, Loop, Script}
+use Rattle.element_tree.specs.declared.kinds.Kind.TheVariants.{ThreadGroup, Simple, OnceOnly, Loop, If, While, ForEach, Script}
 use Rattle.element_tree.specs.declared.kinds.Loops.{Loops}
-use Rattle.element_tree.specs.declared.kinds.Loops.TheVariants.{Forever, Times}
+use Rattle.element_tree.specs.declared.kinds.OnError.{OnError}
+use Rattle.element_tree.specs.declared.kinds.OnError.TheVariants as on_error
 use Rattle.element_tree.specs.Tree.{Tree, group_of}
 use Rattle.element_tree.specs.Names.{label_of}
-use Rattle.jm_meaning.specs.State.{Ending, Part, normal, stopped, and_then, with_unit, with_round, Fine, Try, tried}
+use Rattle.logic_controllers.specs.LoopController.{loops_of}
 use Rattle.jm_meaning.specs.declared.signal.Signal.{Signal}
 use Rattle.jm_meaning.specs.declared.signal.Signal.TheVariants.{Normal, NextLoop, Stop}
+use Rattle.jm_meaning.specs.State.{Ending, Part, normal, and_then, with_unit, tried, text}
+use Rattle.jm_meaning.specs.Rounds.{rounds, loop_turns, while_turns, each_turns, group_turns, round_of_group}
+use Rattle.jm_meaning.specs.Children.{Below, children_of, in_order, once_only, if_part}
 use Rattle.jm_meaning.specs.Sampling.{sampling}
-use Rattle.jm_meaning.specs.Texts.{plain_text, loops_of_text}
+use Rattle.jm_meaning.specs.Beginning.{Options, max_rounds, first_of, set_first}
 use Rattle.jm_meaning.specs.RampUp.{pause_of}
-use Rattle.template_text.specs.Pieces.{Pieces}
 
--- what a thread's run is over: the plan, the element of its group, and how many rounds it has at most
+-- what a thread's run is over: the plan, and what a failed sample leads to
 pub record Here : Type 0 where
   pub plan : Tree
-  pub group : ℕ
-  pub limit : ℕ
+  pub at_failure : Signal
 
--- the meaning of an element by its number, in a round of its nearest looping ancestor
-abbrev pub Below : Type 0
-Below = ℕ → ℕ → Part
+-- what a failed sample leads to, by the action of the thread's group
+abbrev pub signal_of : OnError → Signal
+signal_of on_error.Continue = Normal
+signal_of on_error.NextLoop = NextLoop
+signal_of on_error.StopThread = Stop StopThread
+signal_of on_error.StopTest = Stop StopTest
 
--- children one after another, up to the first signal that isn't Normal
-abbrev pub in_order : Below → ℕ → List ℕ → Part
-in_order below round [] s = over (normal s)
-in_order below round (c ∷ cs) s = and_then (below c round s) (in_order below round cs)
+-- the children that run
+abbrev pub children_in : Here → Element → List ℕ
+children_in here e = children_of here.plan.elements e
 
--- whether a round of this index begins
-abbrev pub begins : Loops → ℕ → Bool
-begins Forever round = true
-begins (Times n) round = nat_lt round n
-
--- what a looping element decides before a round of this index, and what it does once the round has begun
-pub record Turns : Type 0 where
-  pub begins : ℕ → Try Bool
-  pub opens : ℕ → Part
-
--- Rounds from one of this index on: whether it begins is decided first, then it is taken from the rounds left.
--- There are at most so many, since each takes one of the rounds left.
-unfoldable pub rounds : ℕ → Turns → (ℕ → Part) → ℕ → Part
-rounds zero turns body round s = tried (turns.begins round s) (λ b s. if b then over (stopped RoundLimit s) else over (normal s))
-rounds (suc n) turns body round s = tried (turns.begins round s) (λ b s.
-    if b
-    then with_round s (λ s. and_then (turns.opens round s) (λ s. and_then (body round s) (rounds n turns body (round + 1))))
-    else over (normal s))
-
--- a number of rounds that is known, with nothing done as a round begins
-abbrev pub counted : Loops → Turns
-counted loops = record { begins = λ round s. over (Fine (begins loops round) s); opens = λ round s. over (normal s) }
-
--- in the group NextLoop ends the round alone
-abbrev pub caught : Ending → Ending
-caught e = elim e.signal [ Normal ↦ e | NextLoop ↦ normal e.state | Stop end ↦ e ]
-
-abbrev pub round_of_group : Run Ending → Run Ending
-round_of_group run = run >>= λ e. over (caught e)
-
--- what a failed sample leads to: the thread goes on, which is all that a group's action can be now
-abbrev pub at_failure : Here → Signal
-at_failure here = Normal
-
-abbrev pub with_text : Option (List ℕ) → (List ℕ → Part) → Part
-with_text None next s = over (normal s)
-with_text (Some text) next s = next text s
-
--- goes on with the text of a template that is plain text alone; another template means nothing yet
-abbrev pub with_plain : Pieces → (List ℕ → Part) → Part
-with_plain template next = with_text (plain_text template) next
-
--- An element by its kind, where below is the meaning of its children. The kinds that don't run yet mean nothing.
+-- An element by its kind, where below is the meaning of its children. A thread group stands below the plan alone, and
+-- has its rounds in the meaning of a thread. The other kinds mean nothing here, or don't run yet.
 abbrev pub kind_meaning : Here → Below → ℕ → Element → Kind → ℕ → Part
-kind_meaning here below number e (ThreadGroup loops on_error ramp_ms threads) round s =
-    rounds here.limit (counted loops) (λ i s. round_of_group (in_order below i e.children s)) 0 s
-kind_meaning here below number e Simple round s = in_order below round e.children s
+kind_meaning here below number e Simple round s = in_order below round (children_in here e) s
+kind_meaning here below number e OnceOnly round s = once_only below round (children_in here e) s
+kind_meaning here below number e (If all condition) round s = if_part all below round (children_in here e) (text condition) s
 kind_meaning here below number e (Loop loops) round s =
-    with_plain loops (λ text. rounds here.limit (counted (loops_of_text text)) (λ i s. in_order below i e.children s) 0) s
+    tried (text loops) s (λ x. rounds max_rounds (loop_turns e.name (loops_of x)) (λ i. in_order below i (children_in here e)) 0)
+kind_meaning here below number e (While condition) round s =
+    rounds max_rounds (while_turns e.name condition) (λ i. in_order below i (children_in here e)) 0 s
+kind_meaning here below number e (ForEach end input output separator start) round s =
+    rounds max_rounds (each_turns e.name (record { input = input; separator = separator; start = start; end = end }) output)
+    (λ i. in_order below i (children_in here e)) 0 s
 kind_meaning here below number e (Script replies request) round s =
-    with_plain request (λ text s. with_unit s (sampling (label_of here.plan.elements e.name) number text (at_failure here))) s
+    with_unit s (sampling (label_of here.plan.elements e.name) number request here.at_failure)
 kind_meaning here below number e kind round s = over (normal s)
 
 abbrev pub element_meaning : Here → Below → ℕ → Option Element → ℕ → Part
@@ -96,18 +64,36 @@ meaning here zero number round s = over (normal s)
 meaning here (suc depth) number round s =
     element_meaning here (meaning here depth) number (slice_get here.plan.elements number) round s
 
+-- the rounds of a thread group, so many at most, from one of this index on
+abbrev pub group_rounds : ℕ → Below → Loops → List ℕ → ℕ → Part
+group_rounds n below loops children = rounds n (group_turns loops) (λ i s. round_of_group (in_order below i children s))
+
+-- below a group, which stands below the plan, elements nest at most 30 deep
+abbrev pub group_meaning : Here → Element → Kind → Part
+group_meaning here e (ThreadGroup loops on_error ramp_ms threads) s = group_rounds max_rounds (meaning here 30) loops (children_in here e) 0 s
+group_meaning here e kind s = over (normal s)
+
+abbrev pub group_part : Here → Option Element → Part
+group_part here None s = over (normal s)
+group_part here (Some e) s = group_meaning here e e.kind s
+
 -- how a thread ends
 abbrev pub end_of : Signal → End
 end_of Normal = Completed
 end_of NextLoop = Completed
 end_of (Stop end) = end
 
--- a thread has at most this many rounds, over all loops and the group
-abbrev pub max_rounds : ℕ
-max_rounds = 16777216
+abbrev pub failure_in : Kind → Signal
+failure_in (ThreadGroup loops on_error ramp_ms threads) = signal_of on_error
+failure_in kind = Normal
 
-abbrev pub here_of : Tree → ℕ → Here
-here_of plan thread = record { plan = plan; group = group_of plan thread; limit = max_rounds }
+abbrev pub failure_of : Option Element → Signal
+failure_of None = Normal
+failure_of (Some e) = failure_in e.kind
+
+-- a thread of the group at this place
+abbrev pub here_at : Tree → ℕ → Here
+here_at plan group = record { plan = plan; at_failure = failure_of (slice_get plan.elements group) }
 
 -- behind the rounds of the group the thread ends
 abbrev pub and_end : Run Ending → Run Unit
@@ -118,8 +104,11 @@ abbrev pub behind_pause : {A : Type 0} → ℕ → Run A → Run A
 behind_pause zero run = run
 behind_pause (suc ms) run = wait (suc ms) (give (Waited (suc ms)) run)
 
--- the events of a thread by its number, with this sample budget: its ramp-up pause, the rounds of its group, and its end
-unfoldable pub events : Tree → ℕ → ℕ → Run (Unit {0})
-events plan thread budget =
-    behind_pause (pause_of plan thread)
-    (and_end (meaning (here_of plan thread) 31 (group_of plan thread) 0 (record { units = budget; rounds = max_rounds })))
+-- the first variables of a thread are set, and then come the rounds of its group
+abbrev pub thread_part : Tree → ℕ → Part
+thread_part plan group s = and_then (set_first plan.elements s) (group_part (here_at plan group) (slice_get plan.elements group))
+
+-- the events of a thread by its number: its ramp-up pause, its first variables, the rounds of its group, and its end
+unfoldable pub events : Tree → ℕ → Options → Run (Unit {0})
+events plan thread options =
+    behind_pause (pause_of plan thread) (and_end (thread_part plan (group_of plan thread) (first_of plan thread options)))

@@ -1,5 +1,5 @@
 -- What a sampler does: a reading, a request, a reading, and the sample that follows from them.
-use Rattle.std.specs.Prelude.{ℕ, ◌-◌, ◌^◌, Bool, true, false, ◌&&◌, nat_le, List, [], length, take, min, Option, Some, None, codes}
+use Rattle.std.specs.Prelude.{ℕ, ◌-◌, ◌^◌, Bool, true, false, ◌&&◌, nat_le, List, [], length, take, min, if◌then◌else◌, Option, Some, None, codes}
 use Rattle.std.specs.Option.{option_map}
 use Rattle.jm_base.specs.declared.types.Sample.{Sample}
 use Rattle.jm_base.specs.declared.types.Reply.{Reply}
@@ -9,7 +9,11 @@ use Rattle.jm_base.specs.declared.types.Request.TheVariants.{Script}
 use Rattle.jm_base.specs.declared.types.Outcome.{Outcome}
 use Rattle.jm_base.specs.declared.types.Outcome.TheVariants.{Reply as Replied, Null, Fault, Broken}
 use Rattle.jm_base.specs.Run.{Run, over, give, ◌>>=◌, reading, outcome_of, Sampled, Nothing, Sampler}
-use Rattle.jm_meaning.specs.State.{State, Ending, Part, normal}
+use Rattle.template_text.specs.Pieces.{Pieces}
+use Rattle.var_functions.specs.declared.state.UserState.{UserState}
+use Rattle.var_functions.specs.Vars.{Variables, put_var}
+use Rattle.jm_meaning.specs.State.{Part, normal, Tried, Try, fine, past_limit, on_tried, tried, text}
+use Rattle.jm_meaning.specs.Beginning.{last_sample_ok}
 use Rattle.jm_meaning.specs.declared.signal.Signal.{Signal}
 use Rattle.jm_meaning.specs.declared.signal.Signal.TheVariants.{Normal}
 
@@ -55,17 +59,37 @@ sampled label number request = do
   second ← reading
   over (option_map (sample_of label first second) (reply_of outcome))
 
+-- whether the last sample succeeded is set; a sampler that gave none leaves it
+abbrev pub truth_text : Bool → List ℕ
+truth_text ok = if ok then codes "true" else codes "false"
+
+abbrev pub with_last : UserState → Sample → Option Variables → Tried (Option Sample)
+with_last user sample None = past_limit user
+with_last user sample (Some vars) = fine (Some sample) (record { vars = vars; fns = user.fns })
+
+abbrev pub noted : UserState → Option Sample → Tried (Option Sample)
+noted user None = fine None user
+noted user (Some sample) = with_last user sample (put_var last_sample_ok (truth_text sample.ok) user.vars)
+
+-- a sampler asks with this text, and then it is set whether it succeeded
+abbrev pub asked : ℕ → ℕ → List ℕ → Try (Option Sample)
+asked label number text user = sampled label number text >>= λ sample. over (noted user sample)
+
+-- what a sampler does: its text is expanded, and then it asks
+unfoldable pub pipeline : ℕ → ℕ → Pieces → Try (Option Sample)
+pipeline label number request user = text request user >>= on_tried (asked label number)
+
 -- the signal after a sample
 abbrev pub after_sample : Bool → Signal → Signal
 after_sample true at_failure = Normal
 after_sample false at_failure = at_failure
 
 -- gives the sample, or says that there is none
-abbrev pub given_sample : ℕ → Signal → State → Option Sample → Run Ending
-given_sample number at_failure s None = give (Nothing number) (over (normal s))
-given_sample number at_failure s (Some sample) =
+abbrev pub given_sample : ℕ → Signal → Option Sample → Part
+given_sample number at_failure None s = give (Nothing number) (over (normal s))
+given_sample number at_failure (Some sample) s =
     give (Sampled Sampler sample) (over (record { state = s; signal = after_sample sample.ok at_failure }))
 
--- a sampler's part of the run
-abbrev pub sampling : ℕ → ℕ → List ℕ → Signal → Part
-sampling label number request at_failure s = sampled label number request >>= given_sample number at_failure s
+-- a sampler's part of the run, behind the unit that it uses
+abbrev pub sampling : ℕ → ℕ → Pieces → Signal → Part
+sampling label number request at_failure s = tried (pipeline label number request) s (given_sample number at_failure)

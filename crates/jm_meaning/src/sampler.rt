@@ -1,14 +1,99 @@
 // One sampler: its request, its two readings of the clock, and the sample that follows from them.
 
-ghost use Rattle.std.specs.Prelude.{IfSome, ◌≡◌, [], ◌∷◌, IfOk, OnOk, OnErr, Option};
+ghost use Rattle.std.specs.Prelude.{IfSome, ◌≡◌, [], IfOk, OnErr, Option, Some};
 ghost use Rattle.jm_base.specs.Run.{over};
+ghost use Rattle.jm_base.specs.Outside.{Account, Goes};
+ghost use Rattle.var_functions.specs.Came.{CameTo};
+ghost use Rattle.var_functions.specs.Vars.{put_var, Puts};
 ghost use Rattle.jm_meaning.specs.Left.{LeftOf};
-ghost use Rattle.jm_base.specs.Outside.{Goes};
-ghost use Rattle.jm_meaning.specs.Sampling.{sampled, sample_of, reply_of};
+ghost use Rattle.jm_meaning.specs.State.{fine, past_limit};
+ghost use Rattle.jm_meaning.specs.Sampling.{sampled, sample_of, reply_of, noted, asked, pipeline};
 ghost use Rattle.std.specs.Option.{option_map};
 
 use jm_base::{M, Outcome, Outside, Reply, Request, Sample, Text, Wire};
 use std::alloc::Global;
+use template_text::Template;
+use var_functions::{UserState, VarError, Vars, expand};
+
+/// Runs a sampler by its label, its element's number and its request: expands the request's text, asks once between two
+/// readings of the clock, and sets `JMeterThread.last_sample_ok` to whether the sample succeeded. There is no sample where
+/// the outcome is null, and then the variable stays.
+///
+/// `ValueLimit` comes where the text, or the variables with that one, would be past a limit.
+pub fn run_sampler<O: Outside>(
+    alloc: Global,
+    label: u16,
+    number: u16,
+    request: &Template,
+    state: &mut UserState,
+    outside: &mut O,
+) -> Result<Option<Sample>, VarError>
+    ensures came { CameTo (O.account outside.old) (pipeline label number request.now state.old) (O.account outside.new)
+        (λ sample. over (fine sample state.new)) (over (past_limit state.new)) result }
+    ensures label { IfOk result (λ r. IfSome r (λ s. s.label ≡ label)) }
+{
+    match expand(alloc, request, state, outside) {
+        Ok(text) => ask(alloc, label, number, &text, state, outside),
+        Err(error) => Err(error),
+    }
+}
+
+// Asks with this text, and sets whether the sample succeeded.
+fn ask<O: Outside>(
+    alloc: Global,
+    label: u16,
+    number: u16,
+    text: &Text,
+    state: &mut UserState,
+    outside: &mut O,
+) -> Result<Option<Sample>, VarError>
+    ensures came { CameTo (O.account outside.old) (asked label number text.now state.old) (O.account outside.new)
+        (λ sample. over (fine sample state.new)) (over (past_limit state.new)) result }
+    ensures label { IfOk result (λ r. IfSome r (λ s. s.label ≡ label)) }
+{
+    match sample_once(alloc, label, number, text.bytes(), outside) {
+        Ok(Some(sample)) => note(alloc, sample, state),
+        Ok(None) => Ok(None),
+        Err(_) => Err(VarError::NoMemory),
+    }
+}
+
+// Sets whether the sample succeeded.
+fn note(alloc: Global, sample: Sample, state: &mut UserState) -> Result<Option<Sample>, VarError>
+    ensures came { (a : Account) → CameTo a (over (noted state.old (Some sample))) a
+        (λ found. over (fine found state.new)) (over (past_limit state.new)) result }
+    ensures sample { IfOk result (λ found. found ≡ Some sample) }
+{
+    match put_copy(
+        alloc,
+        b"JMeterThread.last_sample_ok",
+        truth_text(sample.ok),
+        &mut state.vars,
+    ) {
+        Ok(()) => Ok(Some(sample)),
+        Err(error) => Err(error),
+    }
+}
+
+/// Sets a variable to copies of a name and a value. `ValueLimit` comes where the value or the variables would be past a
+/// limit. A call that refuses changes nothing.
+pub fn put_copy(alloc: Global, name: &[u8], value: &[u8], vars: &mut Vars) -> Result<(), VarError>
+    ensures { Puts (put_var name.now value.now vars.old) vars.old vars.new result }
+{
+    let Ok(name) = Text::new(alloc, name) else {
+        return Err(VarError::NoMemory);
+    };
+    let Ok(value) = Text::new(alloc, value) else {
+        return Err(VarError::NoMemory);
+    };
+    vars.put(name, value)
+}
+
+fn truth_text(ok: bool) -> &'static [u8]
+    ensures { result.now ≡ Rattle.jm_meaning.specs.Sampling.truth_text ok }
+{
+    if ok { b"true" } else { b"false" }
+}
 
 /// Runs a sampler by its label, its element's number and the text that it asks for: a reading of the clock, one request,
 /// a second reading, and the sample. There is none where the outcome is null.

@@ -1,5 +1,9 @@
 // How a part of a run ends.
 
+ghost use Rattle.std.specs.Prelude.{◌≡◌};
+ghost use Rattle.jm_meaning.specs.Meaning.{signal_of};
+
+use element_tree::OnError;
 use jm_base::End;
 
 /// Whether the run goes on behind a part of it.
@@ -11,4 +15,16 @@ pub enum Signal {
     NextLoop,
     /// The thread ends so.
     Stop(End),
+}
+
+/// What a failed sample leads to, by its group's action (the manual's "Action to be taken after a Sampler error").
+pub fn signal_of(on_error: OnError) -> Signal
+    ensures { result ≡ signal_of on_error }
+{
+    match on_error {
+        OnError::Continue => Signal::Normal,
+        OnError::NextLoop => Signal::NextLoop,
+        OnError::StopThread => Signal::Stop(End::StopThread),
+        OnError::StopTest => Signal::Stop(End::StopTest),
+    }
 }

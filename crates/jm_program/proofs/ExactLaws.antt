@@ -11,8 +11,8 @@ use Rattle.element_props.specs.Patterns.{Asked}
 use Rattle.element_props.specs.Reads.{Reads, over, outcome, Path, here, asked, Goes, Ends, refused, unread, too_large, Stops}
 use Rattle.element_tree.specs.Tree.{Tree}
 use Rattle.element_tree.specs.Walk.{reading}
-use Rattle.jm_program.specs.declared.words.Command.{Command}
-use Rattle.jm_program.specs.declared.words.Command.TheVariants.{Check, Solo}
+use Rattle.command_words.specs.declared.command.Command.{Command}
+use Rattle.command_words.specs.declared.command.Command.TheVariants.{Check, Solo}
 use Rattle.jm_program.specs.declared.refusal.Refusal.{Refusal}
 use Rattle.jm_program.specs.declared.refusal.Refusal.TheVariants as refusals
 use Rattle.jm_program.specs.declared.status.Status.{Status}

@@ -6,13 +6,13 @@ use Rattle.edge_io.specs.Edges.{TookAll, TookCount}
 use Rattle.edge_io.proofs.EdgeLaws.{Keeps-refl}
 use Rattle.element_props.specs.Patterns.{Asked}
 use Rattle.element_tree.specs.Tree.{Tree}
-use Rattle.jm_program.specs.declared.words.Command.{Command}
+use Rattle.command_words.specs.declared.command.Command.{Command}
 use Rattle.jm_program.specs.declared.refusal.Refusal.{Refusal}
 use Rattle.jm_program.specs.declared.refusal.Refusal.TheVariants.{TooLong, Shape, Build, NotBuilt, Unfit as Conditions}
 use Rattle.jm_program.specs.declared.judge.Judged.{Judged}
 use Rattle.jm_program.specs.declared.judge.Judged.TheVariants.{Fit, Unfit, NoMemory}
-use Rattle.jm_program.specs.declared.words.Command.TheVariants.{Solo}
-use Rattle.jm_program.specs.declared.words.Solo.{Solo as SoloOf}
+use Rattle.command_words.specs.declared.command.Command.TheVariants.{Solo}
+use Rattle.command_words.specs.declared.command.Solo.{Solo as SoloOf}
 use Rattle.plan_json.specs.Shape.{Raw, reading_of}
 use Rattle.element_props.specs.Reads.{over, Goes}
 use Rattle.element_tree.specs.Walk.{reading}

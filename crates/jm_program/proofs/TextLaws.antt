@@ -14,9 +14,9 @@ use Rattle.thread_machine.specs.declared.trace.TraceItem.{TraceItem}
 use Rattle.thread_machine.specs.declared.trace.TraceItem.TheVariants.{Ended as TracedEnd}
 use Rattle.thread_machine.specs.Bare.{bare}
 use Rattle.thread_machine.specs.Follows.{Follows, HasRun}
-use Rattle.jm_program.specs.declared.words.Solo.{Solo}
-use Rattle.jm_program.specs.declared.words.Command.TheVariants.{Solo as SoloCommand}
-use Rattle.jm_program.specs.Printed.{shown_of, results_of, report_of, last_end, end_is_whole, IsShown, AreTexts}
+use Rattle.command_words.specs.declared.command.Solo.{Solo}
+use Rattle.command_words.specs.declared.command.Command.TheVariants.{Solo as SoloCommand}
+use Rattle.jm_program.specs.Printed.{options_of, shown_of, results_of, report_of, last_end, end_is_whole, IsShown, AreTexts}
 
 last_end-append : (items : List Item) (end : End) → last_end (items ++ Ended end ∷ []) ≡ Some end
 last_end-append [] end = refl
@@ -38,11 +38,11 @@ whole_items plan s items ValueLimit is h = is.whole
 whole_items plan s items NoMemory is h = absurd (cc)
 
 module _ (plan : Tree) (s : Solo) (start now : Account) (trace : List TraceItem) (scripted : start.value ≡ Some (scripts_of plan)) where
-  whole : (end : End) → Follows start now plan s.thread s.samples trace end → bare trace ≡ shown_of plan s
+  whole : (end : End) → Follows start now plan s.thread (options_of s) trace end → bare trace ≡ shown_of plan s
   unfolding shown_of
   whole end f = sym (f.scripted (scripts_of plan) scripted).items
 
-  shown_by : (end : End) → HasRun start now plan s.thread s.samples trace end → IsShown plan s (bare trace) end
+  shown_by : (end : End) → HasRun start now plan s.thread (options_of s) trace end → IsShown plan s (bare trace) end
   shown_by Completed f = record { last = bare_end trace f.last.0 Completed f.last.1; whole = whole Completed f }
   shown_by StopThread f = record { last = bare_end trace f.last.0 StopThread f.last.1; whole = whole StopThread f }
   shown_by StopTest f = record { last = bare_end trace f.last.0 StopTest f.last.1; whole = whole StopTest f }
@@ -52,7 +52,7 @@ module _ (plan : Tree) (s : Solo) (start now : Account) (trace : List TraceItem)
   shown_by ValueLimit f = record { last = bare_end trace f.last.0 ValueLimit f.last.1; whole = whole ValueLimit f }
   shown_by NoMemory f = record { last = bare_end trace f.0 NoMemory f.1; whole = tt }
 
-  pub are_texts : (end : End) (results report front : List ℕ) (all : Bool) → HasRun start now plan s.thread s.samples trace end
+  pub are_texts : (end : End) (results report front : List ℕ) (all : Bool) → HasRun start now plan s.thread (options_of s) trace end
       → results ≡ results_of plan s.thread (bare trace) → front ≡ [] → report ≡ front ++ end_text plan s.thread end → all ≡ end_is_whole end
       → AreTexts (SoloCommand s) plan results report all
   are_texts end results report front all run results_are none report_is all_is =

@@ -12,8 +12,8 @@ use Rattle.element_tree.specs.Tree.{Tree}
 use Rattle.element_tree.specs.Walk.{reading}
 use Rattle.jm_program.specs.declared.status.Status.{Status}
 use Rattle.jm_program.specs.declared.status.Status.TheVariants.{Done, Usage, Refused, ReadFault, WriteFault, Memory}
-use Rattle.jm_program.specs.declared.words.Command.{Command}
-use Rattle.jm_program.specs.declared.words.Command.TheVariants.{Check, Solo}
+use Rattle.command_words.specs.declared.command.Command.{Command}
+use Rattle.command_words.specs.declared.command.Command.TheVariants.{Check, Solo}
 use Rattle.jm_program.specs.declared.refusal.Refusal.{Refusal}
 use Rattle.jm_program.specs.declared.refusal.Refusal.TheVariants.{TooLong}
 use Rattle.jm_program.specs.Refusals.{IsAccepted, IsRefused, not_built, solo_fault, refusal_line}

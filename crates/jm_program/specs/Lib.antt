@@ -1,4 +1,3 @@
-pub mod Words
 pub mod Refusals
 pub mod Printed
 pub mod Parts

@@ -7,9 +7,9 @@ use Rattle.element_props.specs.Patterns.{Asked}
 use Rattle.element_tree.specs.Tree.{Tree, threads_of}
 use Rattle.jm_program.specs.declared.status.Status.{Status}
 use Rattle.jm_program.specs.declared.status.Status.TheVariants.{Done, Usage, Refused, ReadFault, WriteFault, Memory}
-use Rattle.jm_program.specs.declared.words.Command.{Command}
-use Rattle.jm_program.specs.declared.words.Command.TheVariants.{Check, Solo as SoloCommand}
-use Rattle.jm_program.specs.declared.words.Solo.{Solo}
+use Rattle.command_words.specs.declared.command.Command.{Command}
+use Rattle.command_words.specs.declared.command.Command.TheVariants.{Check, Solo as SoloCommand}
+use Rattle.command_words.specs.declared.command.Solo.{Solo}
 use Rattle.plan_json.specs.Shape.{Raw}
 use Rattle.jm_program.specs.declared.refusal.Refusal.{Refusal}
 use Rattle.jm_program.specs.declared.refusal.Refusal.TheVariants.{TooLong, Shape, Build, NotBuilt, Unfit as Conditions}

@@ -8,19 +8,24 @@ use Rattle.jm_base.specs.Run.{over_value}
 use Rattle.jm_base.specs.Outside.{script_form}
 use Rattle.element_tree.specs.Tree.{Tree}
 use Rattle.element_tree.specs.Written.{plan_text}
-use Rattle.jm_program.specs.declared.words.Solo.{Solo}
-use Rattle.jm_program.specs.declared.words.Command.{Command}
-use Rattle.jm_program.specs.declared.words.Command.TheVariants.{Check, Solo as SoloCommand}
+use Rattle.command_words.specs.declared.command.Solo.{Solo}
+use Rattle.command_words.specs.declared.command.Command.{Command}
+use Rattle.command_words.specs.declared.command.Command.TheVariants.{Check, Solo as SoloCommand}
 use Rattle.jm_meaning.specs.declared.item.Item.{Item}
 use Rattle.jm_meaning.specs.declared.item.Item.TheVariants.{Paused, Sampled, Null, Entered, Left, Ended}
+use Rattle.jm_meaning.specs.Beginning.{Options}
 use Rattle.jm_meaning.specs.Meaning.{events}
 use Rattle.jm_meaning.specs.Shown.{shown}
 use Rattle.outside_world.specs.Scripted.{scripts_of}
 use Rattle.output_lines.specs.Lines.{header_text, result_text, end_text}
 
+-- the seed, the properties and the sample budget of a run of one thread
+abbrev pub options_of : Solo → Options
+options_of s = record { seed = s.seed; props = s.props; budget = s.samples }
+
 -- what a run of one thread of a plan shows, over the replies that the plan has itself
 unfoldable pub shown_of : Tree → Solo → List Item
-shown_of plan s = map shown (over_value script_form (events plan s.thread s.samples) (scripts_of plan)).events
+shown_of plan s = map shown (over_value script_form (events plan s.thread (options_of s)) (scripts_of plan)).events
 
 -- a sample's line, with interval 0
 abbrev pub item_text : Tree → ℕ → Item → List ℕ

@@ -1,6 +1,6 @@
 -- Why a plan is refused, and the line that says so.
 use Rattle.std.specs.Prelude.{◌≡◌, ℕ, ◌+◌, ◌*◌, Bool, not, nat_le, List, [], ◌∷◌, ◌++◌, length, slice_get, unwrap_or, position, Option, Some, None, Ok, Err, codes, if◌then◌else◌}
-use Rattle.std.specs.Option.{option_map, option_and_then}
+use Rattle.std.specs.Option.{option_map}
 use Rattle.plan_json.specs.Place.{Place, at, path_text}
 use Rattle.plan_json.specs.Shape.{Raw, raw, Raws, no_raws, raw_then, reading_of}
 use Rattle.plan_json.specs.declared.error.TreeError.{TreeError}
@@ -14,12 +14,10 @@ use Rattle.element_props.specs.Reads.{over, Goes, Stops}
 use Rattle.element_tree.specs.declared.kinds.Element.{Element}
 use Rattle.element_tree.specs.Tree.{Tree, threads_of}
 use Rattle.element_tree.specs.Walk.{is_enabled, reading}
-use Rattle.jm_meaning.specs.declared.running.Unbuilt.{Unbuilt}
-use Rattle.jm_meaning.specs.declared.running.Unbuilt.TheVariants as unbuilt
-use Rattle.jm_meaning.specs.Runs.{unbuilt_of, runs}
-use Rattle.jm_program.specs.declared.words.Command.{Command}
-use Rattle.jm_program.specs.declared.words.Command.TheVariants.{Check, Solo}
-use Rattle.jm_program.specs.declared.words.Solo.{Solo as SoloOf}
+use Rattle.jm_meaning.specs.Runs.{runs}
+use Rattle.command_words.specs.declared.command.Command.{Command}
+use Rattle.command_words.specs.declared.command.Command.TheVariants.{Check, Solo}
+use Rattle.command_words.specs.declared.command.Solo.{Solo as SoloOf}
 use Rattle.jm_program.specs.declared.refusal.Refusal.{Refusal}
 use Rattle.jm_program.specs.declared.refusal.Refusal.TheVariants as refusals
 
@@ -36,27 +34,16 @@ unfoldable mutual
   places_below here place (raw_then r rs) =
       (if is_enabled r then places_of (here ++ place ∷ []) r else []) ++ places_below here (place + 1) rs
 
--- the property that does not run yet, where it is one
-abbrev pub property_of : Unbuilt → Option (List ℕ)
-property_of unbuilt.Element = None
-property_of unbuilt.Loops = Some (codes "loops")
-property_of unbuilt.OnError = Some (codes "onError")
-property_of unbuilt.Request = Some (codes "request")
-
 abbrev pub does_not_run : Element → Bool
 does_not_run e = not (runs e.kind)
 
--- the property of the element of this number that does not run yet
-abbrev pub property_at : List Element → ℕ → Option (List ℕ)
-property_at elements n = option_and_then property_of (option_and_then (λ e. unbuilt_of e.kind) (slice_get elements n))
-
--- where the element of this number stands in the tree, and its property that does not run yet
-abbrev pub unbuilt_at : Raw → List Element → ℕ → Place
-unbuilt_at tree elements n = record { places = unwrap_or (slice_get (places_of [] tree) n) []; prop = property_at elements n }
+-- where the element of this number stands in the tree
+abbrev pub place_at : Raw → ℕ → Place
+place_at tree n = at (unwrap_or (slice_get (places_of [] tree) n) [])
 
 -- where the first element in tree order stands that does not run yet
 abbrev pub not_built : Raw → List Element → Option Place
-not_built tree elements = option_map (unbuilt_at tree elements) (position does_not_run elements)
+not_built tree elements = option_map (place_at tree) (position does_not_run elements)
 
 -- ---- what a command asks of a plan
 

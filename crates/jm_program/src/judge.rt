@@ -7,7 +7,7 @@ ghost use Rattle.jm_program.specs.Refusals.{solo_fault};
 
 use crate::refusal::Refusal;
 use crate::unbuilt::not_built;
-use crate::words::{Command, Solo};
+use command_words::{Command, Solo};
 use element_props::{BuildError, Patterns, What};
 use element_tree::{Plan, build};
 use plan_json::{Path, RawElement, TreeError, read_tree};
@@ -26,8 +26,13 @@ pub enum Judged {
 
 /// The plan that the bytes are, if it is fit for the command, or the first refusal: of the tree's shape, of its build,
 /// of what does not run yet, and of the command's own conditions.
-pub fn judge<G: Patterns>(alloc: Global, command: Command, bytes: &[u8], patterns: &mut G) -> Judged
-    ensures { Judges command bytes.now (G.account patterns.old) (G.account patterns.new) result }
+pub fn judge<G: Patterns>(
+    alloc: Global,
+    command: &Command,
+    bytes: &[u8],
+    patterns: &mut G,
+) -> Judged
+    ensures { Judges command.now bytes.now (G.account patterns.old) (G.account patterns.new) result }
 {
     let tree = match read_tree(alloc, bytes) {
         Ok(tree) => tree,
@@ -46,8 +51,8 @@ pub fn judge<G: Patterns>(alloc: Global, command: Command, bytes: &[u8], pattern
 }
 
 // The plan of a tree, if one thread of it can be run.
-fn fit_to_run(alloc: Global, solo: Solo, tree: &RawElement, plan: Plan) -> Judged
-    ensures { JudgesSolo solo (raw_view tree.now) plan result }
+fn fit_to_run(alloc: Global, solo: &Solo, tree: &RawElement, plan: Plan) -> Judged
+    ensures { JudgesSolo solo.now (raw_view tree.now) plan result }
 {
     match not_built(alloc, tree, &plan) {
         Ok(None) => {}
@@ -61,8 +66,8 @@ fn fit_to_run(alloc: Global, solo: Solo, tree: &RawElement, plan: Plan) -> Judge
 }
 
 // What of the plan does not meet the conditions of running one thread.
-fn solo_fault(alloc: Global, plan: &Plan, solo: Solo) -> Option<BuildError>
-    ensures { result ≡ solo_fault plan.now solo }
+fn solo_fault(alloc: Global, plan: &Plan, solo: &Solo) -> Option<BuildError>
+    ensures { result ≡ solo_fault plan.now solo.now }
 {
     if solo.thread >= plan.threads() {
         return Some(BuildError::NoThread);

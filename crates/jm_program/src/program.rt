@@ -1,8 +1,8 @@
 // The program as a function of its words, its source, its sinks and its maker of patterns.
 
-ghost use Rattle.std.specs.Prelude.{◌≡◌, ◌⊎◌, map, string_bytes, true, List, ℕ, Some, None};
-ghost use Rattle.jm_program.specs.declared.words.Command.{Command};
-ghost use Rattle.jm_program.specs.Words.{command_of};
+ghost use Rattle.std.specs.Prelude.{◌≡◌, ◌⊎◌, map, string_bytes, List, ℕ, Some, None};
+ghost use Rattle.command_words.specs.declared.command.Command.{Command};
+ghost use Rattle.command_words.specs.Commands.{command_of};
 ghost use Rattle.jm_program.specs.Command.{Says, IsStatus, IsDone, IsUsage, IsRefusal, IsUnread, IsUnwritten, NoRise, HasPatterns, status_for, edges};
 ghost use Rattle.jm_program.specs.Parts.{HasThread, LineSays, RefusalSays, TextsSay, PlanSays, BytesSay, WholeSays, sinks};
 
@@ -10,7 +10,8 @@ use crate::judge::{Judged, judge};
 use crate::refusal::{Refusal, refusal_line};
 use crate::status::Status;
 use crate::texts::{Texts, texts_of};
-use crate::words::{Command, command_of};
+use crate::words::command_of;
+use command_words::Command;
 use edge_io::{ReadError, Sink, Source, read_all, write_all};
 use element_props::Patterns;
 use element_tree::Plan;
@@ -99,7 +100,7 @@ fn run_command<S: Source, O: Sink, E: Sink, G: Patterns>(
         );
     };
     match read_all(alloc, plan, PLAN_LIMIT) {
-        Ok(bytes) => run_bytes(alloc, command, &bytes, results, reports, patterns),
+        Ok(bytes) => run_bytes(alloc, &command, &bytes, results, reports, patterns),
         Err(ReadError::ReadFault) => Status::ReadFault,
         Err(ReadError::TooLong) => refuse(alloc, &Refusal::TooLong, reports),
         Err(ReadError::NoMemory) => Status::Memory,
@@ -109,13 +110,13 @@ fn run_command<S: Source, O: Sink, E: Sink, G: Patterns>(
 // Does what the command says with the plan of these bytes, or refuses them.
 fn run_bytes<O: Sink, E: Sink, G: Patterns>(
     alloc: Global,
-    command: Command,
+    command: &Command,
     bytes: &[u8],
     results: &mut O,
     reports: &mut E,
     patterns: &mut G,
 ) -> Status
-    ensures { BytesSay command bytes.now (G.account patterns.old) (G.account patterns.new)
+    ensures { BytesSay command.now bytes.now (G.account patterns.old) (G.account patterns.new)
         (sinks (O.written results.old) (O.faults results.old) (E.written reports.old) (E.faults reports.old))
         (sinks (O.written results.new) (O.faults results.new) (E.written reports.new) (E.faults reports.new)) result }
 {
@@ -129,13 +130,13 @@ fn run_bytes<O: Sink, E: Sink, G: Patterns>(
 // Prints the texts of the command on a plan.
 fn run_plan<O: Sink, E: Sink>(
     alloc: Global,
-    command: Command,
+    command: &Command,
     plan: &Plan,
     results: &mut O,
     reports: &mut E,
 ) -> Status
-    requires { HasThread command plan.now }
-    ensures { PlanSays command plan.now
+    requires { HasThread command.now plan.now }
+    ensures { PlanSays command.now plan.now
         (sinks (O.written results.old) (O.faults results.old) (E.written reports.old) (E.faults reports.old))
         (sinks (O.written results.new) (O.faults results.new) (E.written reports.new) (E.faults reports.new)) result }
 {

@@ -1,6 +1,18 @@
 // The program over sources and sinks in memory.
 
+mod command_lines;
+mod controllers;
+mod limits;
+mod on_error;
+mod properties;
+mod shapes;
+mod sizes;
+mod tables;
+mod trees;
+mod variables;
+
 use crate::program::plain_command;
+use crate::tests::tables::fill;
 use edge_io::{MemSink, MemSource};
 use element_tree::RegexPatterns;
 use std::alloc::Global;
@@ -138,7 +150,7 @@ fn other_words_print_the_usage_line(rt: HostRuntime) -> Result<(), Fail> {
     Ok(())
 }
 
-// Command lines that are one command: the seed and the properties change nothing yet.
+// Command lines that are one command: the seed and the properties change nothing of a plan without references.
 const SAME_WORDS: &str =
     "solo --seed 7\nsolo --seed=18446744073709551615 --props a=1&b=2\nsolo --thread 0 --samples 65536\nsolo --props=& --samples=262144\n";
 
@@ -467,57 +479,92 @@ fn check_writes_the_plan_in_its_plain_form(rt: HostRuntime) -> Result<(), Fail> 
     Ok(())
 }
 
-// What does not run yet, with the line that says where it stands.
-const NOT_BUILT: [(&str, &str, &[u8]); 7] = [
+// Elements of each type that does not run yet.
+const UNBUILT: &str = r#"{"type":"Interleave"}
+{"type":"Random"}
+{"type":"RandomOrder"}
+{"type":"Switch"}
+{"type":"Transaction"}
+{"type":"CriticalSection","props":{"lock":"l"}}
+{"type":"Http"}
+{"type":"Http","props":{"replies":[{}]}}
+{"type":"HttpDefaults"}
+{"type":"HeaderManager","props":{"headers":[]}}
+{"type":"Counter","props":{"var":"c"}}
+{"type":"DataSet","props":{"names":["u"],"share":"thread","text":"a"}}
+{"type":"UserParameters","props":{"vars":[]}}
+{"type":"ConstantTimer"}
+{"type":"UniformTimer"}
+{"type":"RegexExtractor","props":{"ref":"x","pattern":"a"}}
+{"type":"JsonExtractor","props":{"ref":"x","path":"$.a"}}
+{"type":"BoundaryExtractor","props":{"ref":"x","left":"[","right":"]"}}
+{"type":"ResponseAssertion","props":{"test":"equals","patterns":["a"]}}
+{"type":"DurationAssertion","props":{"ms":1}}
+{"type":"SizeAssertion","props":{"size":1,"op":"="}}
+{"type":"Listener"}"#;
+
+// Where such an element stands as `@` among the children of a group with these properties, with the line that says so.
+const UNBUILT_PLACES: [(&str, &str, &[u8]); 5] = [
+    ("", "@", b"refused 15 NotBuilt /children/0/children/0\n"),
     (
-        "\"onError\":\"nextLoop\"",
-        "",
-        b"refused 15 NotBuilt /children/0/props/onError\n",
-    ),
-    (
-        "",
-        "{\"type\":\"Loop\",\"props\":{\"loops\":\"${n}\"}}",
-        b"refused 15 NotBuilt /children/0/children/0/props/loops\n",
-    ),
-    (
-        "",
-        "{\"type\":\"Script\",\"props\":{\"replies\":[{}],\"request\":\"a${v}\"}}",
-        b"refused 15 NotBuilt /children/0/children/0/props/request\n",
-    ),
-    (
-        "",
-        "{\"type\":\"OnceOnly\",\"enabled\":false},{\"type\":\"Simple\",\"children\":[{\"type\":\"Listener\"}]}",
-        b"refused 15 NotBuilt /children/0/children/1/children/0\n",
-    ),
-    (
-        "",
-        "{\"type\":\"Simple\",\"children\":[{\"type\":\"Simple\"}]},{\"type\":\"If\",\"props\":{\"condition\":\"true\"}}",
+        "\"onError\":\"stopTest\"",
+        "{\"type\":\"Simple\"},@,{\"type\":\"Listener\"}",
         b"refused 15 NotBuilt /children/0/children/1\n",
     ),
     (
         "",
-        "{\"type\":\"Http\"}",
-        b"refused 15 NotBuilt /children/0/children/0\n",
+        "{\"type\":\"OnceOnly\",\"children\":[{\"type\":\"Loop\",\"props\":{\"loops\":\"${n}\"}}]},{\"type\":\"While\",\"children\":[@]}",
+        b"refused 15 NotBuilt /children/0/children/1/children/0\n",
     ),
     (
-        "\"onError\":\"stopTest\"",
-        "{\"type\":\"Transaction\"}",
-        b"refused 15 NotBuilt /children/0/props/onError\n",
+        "",
+        "{\"type\":\"Listener\",\"enabled\":false},{\"type\":\"If\",\"props\":{\"condition\":\"false\"},\"children\":[{\"type\":\"Listener\",\"enabled\":false},@]}",
+        b"refused 15 NotBuilt /children/0/children/1/children/1\n",
+    ),
+    (
+        "\"loops\":0",
+        "{\"type\":\"UserVariables\",\"props\":{\"vars\":[]}},{\"type\":\"ForEach\",\"props\":{\"input\":\"u\",\"output\":\"o\"},\"children\":[{\"type\":\"Script\",\"props\":{\"replies\":[{}],\"request\":\"${v}\"}},@]}",
+        b"refused 15 NotBuilt /children/0/children/1/children/1\n",
     ),
 ];
 
 #[test]
 fn what_does_not_run_yet_is_refused_where_it_stands(rt: HostRuntime) -> Result<(), Fail> {
-    for (props, children, line) in NOT_BUILT {
-        let plan = plan_of(rt.alloc(), props, children)?;
-        let ran = run(rt.alloc(), &["solo"], &plan, NOTHING_FAILS)?;
-        expect(&rt, &ran, 3, b"", line);
-        let ran = run(rt.alloc(), &["check"], &plan, NOTHING_FAILS)?;
-        assert_eq!(rt; ran.status, 0);
+    let alloc = rt.alloc();
+    let mut count = 0_u32;
+    for element in UNBUILT.lines() {
+        for (props, children, line) in UNBUILT_PLACES {
+            let children = fill(alloc, children, "", element)?;
+            let plan = plan_of(alloc, props, std::str::from_utf8(&children)?)?;
+            let ran = run(alloc, &["solo"], &plan, NOTHING_FAILS)?;
+            expect(&rt, &ran, 3, b"", line);
+            let ran = run(alloc, &["check"], &plan, NOTHING_FAILS)?;
+            assert_eq!(rt; ran.status, 0, "{element}");
+        }
+        count = count.saturating_add(1);
     }
-    let plan = plan_of(rt.alloc(), "", "{\"type\":\"OnceOnly\",\"enabled\":false}")?;
-    let ran = run(rt.alloc(), &["solo"], &plan, NOTHING_FAILS)?;
-    expect(&rt, &ran, 0, HEADER, b"end,TG 1-1,Completed\n");
+    assert_eq!(rt; count, 22);
+    Ok(())
+}
+
+// What runs, and what is disabled, is not refused.
+const BUILT: [&str; 4] = [
+    "{\"type\":\"Transaction\",\"enabled\":false}",
+    "{\"type\":\"Simple\",\"enabled\":false,\"children\":[{\"type\":\"Listener\"}]}",
+    "{\"type\":\"OnceOnly\",\"children\":[{\"type\":\"If\",\"props\":{\"condition\":\"${c}\",\"all\":true}}]}",
+    "{\"type\":\"While\",\"props\":{\"condition\":\"false\"},\"children\":[{\"type\":\"ForEach\",\"props\":{\"input\":\"u\",\"output\":\"o\"}}]},{\"type\":\"Loop\",\"props\":{\"loops\":\"${n}\"}},{\"type\":\"UserVariables\",\"props\":{\"vars\":[]}}",
+];
+
+#[test]
+fn what_runs_is_not_refused(rt: HostRuntime) -> Result<(), Fail> {
+    for children in BUILT {
+        for action in ["continue", "nextLoop", "stopThread", "stopTest"] {
+            let props = format!(in rt.alloc(); "\"onError\":\"{action}\"")?;
+            let plan = plan_of(rt.alloc(), &props, children)?;
+            let ran = run(rt.alloc(), &["solo"], &plan, NOTHING_FAILS)?;
+            expect(&rt, &ran, 0, HEADER, b"end,TG 1-1,Completed\n");
+        }
+    }
     Ok(())
 }
 
@@ -644,24 +691,28 @@ fn any_thread_of_any_group_can_be_run(rt: HostRuntime) -> Result<(), Fail> {
 
 // Groups that are refused for the command's own conditions, with the line that names the first that does not hold. Sixteen
 // threads can have 262,144 samples each, and no more threads can.
-const UNFIT: [(&str, &str, &[u8]); 4] = [
+const UNFIT: [(&str, &str, &str, &[u8]); 4] = [
     (
-        "\"threads\":17,\"onError\":\"stopTest\"",
+        "\"threads\":17",
+        "{\"type\":\"Listener\"}",
         "solo --samples 262144 --thread 17",
-        b"refused 15 NotBuilt /children/0/props/onError\n",
+        b"refused 15 NotBuilt /children/0/children/0\n",
     ),
     (
         "\"threads\":17",
+        "",
         "solo --samples 262144 --thread 17",
         b"refused 14 NoThread -\n",
     ),
     (
         "\"threads\":17",
+        "",
         "solo --samples 262144 --thread 16",
         b"refused 8 TooMany / samples\n",
     ),
     (
         "\"threads\":17,\"rampMs\":-1",
+        "{\"type\":\"Listener\"}",
         "solo --samples 262144 --thread 17",
         b"refused 7 BadProp /children/0/props/rampMs\n",
     ),
@@ -669,8 +720,8 @@ const UNFIT: [(&str, &str, &[u8]); 4] = [
 
 #[test]
 fn the_first_condition_that_does_not_hold_is_named(rt: HostRuntime) -> Result<(), Fail> {
-    for (props, line, refusal) in UNFIT {
-        let plan = plan_of(rt.alloc(), props, "")?;
+    for (props, children, line, refusal) in UNFIT {
+        let plan = plan_of(rt.alloc(), props, children)?;
         let ran = run_line(rt.alloc(), line, &plan, NOTHING_FAILS)?;
         expect(&rt, &ran, 3, b"", refusal);
     }
@@ -683,13 +734,9 @@ fn the_first_condition_that_does_not_hold_is_named(rt: HostRuntime) -> Result<()
 
 #[test]
 fn a_sample_budget_of_two_ends_the_thread(rt: HostRuntime) -> Result<(), Fail> {
+    let mut text = Vec::from_slice(rt.alloc(), HEADER)?;
+    text.extend_from_slice(b"0,5,A,200,OK,TG 1-1,true,,0,0\n5,2,B,200,OK,TG 1-1,true,,2,0\n")?;
     let ran = run_line(rt.alloc(), "solo --samples 2", LOOP_PLAN, NOTHING_FAILS)?;
-    assert_eq!(rt; ran.status, 0);
-    assert!(rt;
-        ran.results
-            .bytes()
-            .ends_with(b"\n5,2,B,200,OK,TG 1-1,true,,2,0\n")
-    );
-    assert_eq!(rt; ran.reports.bytes(), b"end,TG 1-1,SampleLimit\n".as_slice());
+    expect(&rt, &ran, 0, &text, b"end,TG 1-1,SampleLimit\n");
     Ok(())
 }

@@ -5,10 +5,10 @@ ghost use Rattle.element_tree.specs.Tree.{threads_of};
 ghost use Rattle.element_tree.specs.Names.{labels_of};
 ghost use Rattle.jm_program.specs.Parts.{HasThread};
 ghost use Rattle.jm_program.specs.Printed.{AreTexts, end_is_whole, results_of, item_text};
-ghost use Rattle.jm_program.specs.declared.words.Command.TheVariants.{Check, Solo as SoloCommand};
+ghost use Rattle.command_words.specs.declared.command.Command.TheVariants.{Check, Solo as SoloCommand};
 ghost use Rattle.thread_machine.specs.Bare.{bare, bare_item, IsLabelled};
 
-use crate::words::{Command, Solo};
+use command_words::{Command, Solo};
 use element_tree::{Plan, write_plan};
 use jm_base::{End, M};
 use output_lines::{end_line, header_line, result_line};
@@ -28,9 +28,9 @@ pub struct Texts {
 }
 
 /// The texts of a command on a plan.
-pub fn texts_of(alloc: Global, command: Command, plan: &Plan) -> M<Texts>
-    requires { HasThread command plan.now }
-    ensures { IfOk result (λ texts. AreTexts command plan.now texts.results.items texts.report.items texts.whole) }
+pub fn texts_of(alloc: Global, command: &Command, plan: &Plan) -> M<Texts>
+    requires { HasThread command.now plan.now }
+    ensures { IfOk result (λ texts. AreTexts command.now plan.now texts.results.items texts.report.items texts.whole) }
 {
     match command {
         Command::Check => plan_texts(alloc, plan),
@@ -52,12 +52,20 @@ fn plan_texts(alloc: Global, plan: &Plan) -> M<Texts>
 }
 
 // Runs a thread of the plan over the plan's own replies.
-fn solo_texts(alloc: Global, solo: Solo, plan: &Plan) -> M<Texts>
-    requires { solo.thread < length (threads_of plan.now) }
-    ensures { IfOk result (λ texts. AreTexts (SoloCommand solo) plan.now texts.results.items texts.report.items texts.whole) }
+fn solo_texts(alloc: Global, solo: &Solo, plan: &Plan) -> M<Texts>
+    requires { solo.now.thread < length (threads_of plan.now) }
+    ensures { IfOk result (λ texts. AreTexts (SoloCommand solo.now) plan.now texts.results.items texts.report.items texts.whole) }
 {
     let mut outside = ScriptOutside::new(alloc, plan, false)?;
-    let ran = run_alone(alloc, plan, solo.thread, solo.samples, &mut outside)?;
+    let ran = run_alone(
+        alloc,
+        plan,
+        solo.thread,
+        solo.seed,
+        &solo.props,
+        solo.samples,
+        &mut outside,
+    )?;
     let results = result_lines(alloc, plan, solo.thread, &ran.trace)?;
     let mut report = Vec::new(alloc);
     end_line(alloc, &mut report, plan, solo.thread, ran.end)?;

@@ -1,13 +1,12 @@
 // Where the first element stands that does not run yet.
 
-ghost use Rattle.std.specs.Prelude.{◌≡◌, ◌++◌, ◌<◌, IfOk, OnOk, length, map, [], position, slice_get, unwrap_or, Some, None};
-ghost use Rattle.std.specs.Option.{option_map, option_and_then};
+ghost use Rattle.std.specs.Prelude.{◌≡◌, ◌++◌, IfOk, OnOk, [], position, slice_get, unwrap_or};
 ghost use Rattle.plan_json.specs.Seen.{raw_view};
-ghost use Rattle.jm_program.specs.Refusals.{places_of, property_of, property_at, does_not_run, unbuilt_at, not_built};
+ghost use Rattle.jm_program.specs.Refusals.{places_of, does_not_run, not_built};
 
 use element_tree::{Element, Plan};
-use jm_base::{Items, M, Text};
-use jm_meaning::{Unbuilt, unbuilt_of};
+use jm_base::{Items, M};
+use jm_meaning::runs;
 use plan_json::{Path, RawElement};
 use std::alloc::Global;
 
@@ -19,45 +18,17 @@ pub fn not_built(alloc: Global, tree: &RawElement, plan: &Plan) -> M<Option<Path
     let Some(number) = first_unbuilt(elements) else {
         return Ok(None);
     };
-    let places = places_at(alloc, tree, number)?;
-    let prop = property_at(alloc, elements, number)?;
-    Ok(Some(Path { places, prop }))
+    Ok(Some(Path {
+        places: places_at(alloc, tree, number)?,
+        prop: None,
+    }))
 }
 
 // The number of the first element that does not run yet.
 fn first_unbuilt(elements: &[Element]) -> Option<usize>
     ensures { result ≡ position does_not_run elements.now }
 {
-    elements
-        .iter()
-        .position(|element| unbuilt_of(&element.kind).is_some())
-}
-
-// The property of the element of this number that does not run yet.
-fn property_at(alloc: Global, elements: &[Element], number: usize) -> M<Option<Text>>
-    ensures { IfOk result (λ name. name ≡ property_at elements.now number) }
-{
-    let Some(element) = elements.get(number) else {
-        return Ok(None);
-    };
-    let Some(unbuilt) = unbuilt_of(&element.kind) else {
-        return Ok(None);
-    };
-    match property_of(unbuilt) {
-        Some(name) => Ok(Some(Text::new(alloc, name)?)),
-        None => Ok(None),
-    }
-}
-
-fn property_of(unbuilt: Unbuilt) -> Option<&'static [u8]>
-    ensures { option_map (λ name. name.now) result ≡ property_of unbuilt }
-{
-    match unbuilt {
-        Unbuilt::Element => None,
-        Unbuilt::Loops => Some(b"loops"),
-        Unbuilt::OnError => Some(b"onError"),
-        Unbuilt::Request => Some(b"request"),
-    }
+    elements.iter().position(|element| !runs(&element.kind))
 }
 
 // The steps from the root to the enabled element of this number.

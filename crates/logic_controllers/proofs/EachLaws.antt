@@ -9,13 +9,13 @@ use Rattle.var_functions.specs.Vars.{Variables, Puts}
 use Rattle.var_functions.specs.Came.{CameTo, Refused}
 use Rattle.element_tree.specs.declared.package.Turn.{Turn}
 use Rattle.element_tree.specs.declared.package.Turn.TheVariants.{Child, Round, Over}
-use Rattle.logic_controllers.specs.declared.pass.Pass.{Pass}
+use Rattle.cursor_steps.specs.declared.pass.Pass.{Pass}
 use Rattle.logic_controllers.specs.declared.rounds.Rounds.{Rounds}
-use Rattle.logic_controllers.specs.Step.{Step, answers, past_limit, with_vars}
-use Rattle.logic_controllers.specs.Children.{is_left, behind_child}
+use Rattle.cursor_steps.specs.Step.{Step, answers, past_limit, with_vars}
+use Rattle.cursor_steps.specs.Children.{is_left, behind_child}
 use Rattle.logic_controllers.specs.Rounds.{round_begun, opened_vars, opened}
-use Rattle.logic_controllers.proofs.Steps.{vars-refused, puts-came}
-use Rattle.logic_controllers.proofs.Passes.{some-left, none-left}
+use Rattle.cursor_steps.proofs.Steps.{vars-refused, puts-came}
+use Rattle.cursor_steps.proofs.Passes.{some-left, none-left}
 use Rattle.logic_controllers.specs.declared.each_cursor.EachCursor.{EachCursor}
 use Rattle.logic_controllers.specs.ForEachController.{Row, value_at, output_vars, each_goes, each_opens}
 

@@ -9,11 +9,11 @@ use Rattle.var_functions.specs.declared.state.UserState.{UserState}
 use Rattle.var_functions.specs.Expansion.{expanded, expansion}
 use Rattle.var_functions.specs.Came.{Refused}
 use Rattle.element_tree.specs.declared.package.Turn.TheVariants.{Child, Over}
-use Rattle.logic_controllers.specs.declared.pass.Pass.{Pass}
-use Rattle.logic_controllers.specs.Step.{answers, past_limit, expanding}
-use Rattle.logic_controllers.specs.Children.{is_left, behind_child, pass_over}
-use Rattle.logic_controllers.proofs.Steps.{text-came, text-refused}
-use Rattle.logic_controllers.proofs.Passes.{some-left, none-left}
+use Rattle.cursor_steps.specs.declared.pass.Pass.{Pass}
+use Rattle.cursor_steps.specs.Step.{answers, past_limit, expanding}
+use Rattle.cursor_steps.specs.Children.{is_left, behind_child, pass_over}
+use Rattle.cursor_steps.proofs.Steps.{text-came, text-refused}
+use Rattle.cursor_steps.proofs.Passes.{some-left, none-left}
 use Rattle.logic_controllers.specs.declared.if_cursor.IfCursor.{IfCursor}
 use Rattle.logic_controllers.specs.IfController.{is_true, if_enters, if_runs, if_next}
 

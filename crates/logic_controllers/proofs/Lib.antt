@@ -1,5 +1,3 @@
-pub mod Numerals
-pub mod Steps
 pub mod Passes
 pub mod LoopLaws
 pub mod IfLaws

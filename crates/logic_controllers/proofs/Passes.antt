@@ -1,29 +1,17 @@
--- What is next in a pass.
+-- What is next in a pass of a Simple or Once Only Controller.
 use Rattle.std.proofs.Common.{◌≡◌, ℕ, ◌<◌, ◌≤◌, true, false, refl, arith}
-use Rattle.std.specs.Prelude.{nat_lt, ◌==◌}
+use Rattle.std.specs.Prelude.{◌==◌}
 use Rattle.std.proofs.lemmas.Bool.Decides.{nat_tests}
 use Rattle.var_functions.specs.declared.state.UserState.{UserState}
 use Rattle.element_tree.specs.declared.package.Turn.TheVariants.{Child, Over}
-use Rattle.logic_controllers.specs.declared.pass.Pass.{Pass}
+use Rattle.cursor_steps.specs.declared.pass.Pass.{Pass}
 use Rattle.logic_controllers.specs.declared.simple_cursor.SimpleCursor.{SimpleCursor}
 use Rattle.logic_controllers.specs.declared.once_cursor.OnceCursor.{OnceCursor}
-use Rattle.logic_controllers.specs.Step.{answers}
-use Rattle.logic_controllers.specs.Children.{is_left, behind_child}
+use Rattle.cursor_steps.specs.Step.{answers}
+use Rattle.cursor_steps.specs.Children.{is_left, behind_child}
+use Rattle.cursor_steps.proofs.Passes.{some-left, none-left}
 use Rattle.logic_controllers.specs.SimpleController.{simple_next}
 use Rattle.logic_controllers.specs.OnceOnlyController.{once_next}
-
-below : (m n : ℕ) → m < n → nat_lt m n ≡ true
-below m n h = grind (arith, nat_tests)
-
-above : (m n : ℕ) → n ≤ m → nat_lt m n ≡ false
-above m n h = grind (arith, nat_tests)
-
--- a child is left, or none
-pub some-left : (p : Pass) → p.next < p.children → is_left p ≡ true
-some-left p h = below p.next p.children h
-
-pub none-left : (p : Pass) → p.children ≤ p.next → is_left p ≡ false
-none-left p h = above p.next p.children h
 
 -- ---- Simple
 

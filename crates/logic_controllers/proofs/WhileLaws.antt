@@ -11,13 +11,13 @@ use Rattle.var_functions.specs.Expansion.{expanded, expansion}
 use Rattle.var_functions.specs.Came.{Refused}
 use Rattle.element_tree.specs.declared.package.Turn.{Turn}
 use Rattle.element_tree.specs.declared.package.Turn.TheVariants.{Child, Round, Over}
-use Rattle.logic_controllers.specs.declared.pass.Pass.{Pass}
+use Rattle.cursor_steps.specs.declared.pass.Pass.{Pass}
 use Rattle.logic_controllers.specs.declared.rounds.Rounds.{Rounds}
-use Rattle.logic_controllers.specs.Step.{Step, answers, past_limit, expanding}
-use Rattle.logic_controllers.specs.Children.{is_left, behind_child}
+use Rattle.cursor_steps.specs.Step.{Step, answers, past_limit, expanding}
+use Rattle.cursor_steps.specs.Children.{is_left, behind_child}
 use Rattle.logic_controllers.specs.Rounds.{round_begun, opened_vars, opened}
-use Rattle.logic_controllers.proofs.Steps.{text-came, text-refused, vars-refused}
-use Rattle.logic_controllers.proofs.Passes.{some-left, none-left}
+use Rattle.cursor_steps.proofs.Steps.{text-came, text-refused, vars-refused}
+use Rattle.cursor_steps.proofs.Passes.{some-left, none-left}
 use Rattle.logic_controllers.specs.declared.while_cursor.WhileCursor.{WhileCursor}
 use Rattle.logic_controllers.specs.WhileController.{last_ok, goes_on, while_goes, while_next}
 

@@ -8,8 +8,8 @@ use Rattle.element_tree.specs.declared.kinds.Kind.TheVariants.{ForEach}
 use Rattle.element_tree.specs.declared.package.Turn.{Turn}
 use Rattle.element_tree.specs.declared.package.Turn.TheVariants.{Child, Round, Over}
 use Rattle.logic_controllers.specs.declared.each_cursor.EachCursor.{EachCursor}
-use Rattle.logic_controllers.specs.Step.{Step, answers, with_vars}
-use Rattle.logic_controllers.specs.Children.{is_left, behind_child}
+use Rattle.cursor_steps.specs.Step.{Step, answers, with_vars}
+use Rattle.cursor_steps.specs.Children.{is_left, behind_child}
 use Rattle.logic_controllers.specs.Rounds.{before_rounds, round_begun, opened_vars, opened}
 
 -- the variables that it reads: the first part of their names, whether `_` stands behind it, the number before the first

@@ -7,8 +7,8 @@ use Rattle.var_functions.specs.declared.state.UserState.{UserState}
 use Rattle.element_tree.specs.declared.package.Turn.{Turn}
 use Rattle.element_tree.specs.declared.package.Turn.TheVariants.{Child, Over}
 use Rattle.logic_controllers.specs.declared.if_cursor.IfCursor.{IfCursor}
-use Rattle.logic_controllers.specs.Step.{Step, answers, expanding}
-use Rattle.logic_controllers.specs.Children.{pass_over, is_left, behind_child}
+use Rattle.cursor_steps.specs.Step.{Step, answers, expanding}
+use Rattle.cursor_steps.specs.Children.{pass_over, is_left, behind_child}
 
 -- a condition is true where its text is `true`, in capitals or not
 abbrev pub is_true : List ℕ → Bool

@@ -1,5 +1,3 @@
-pub mod Step
-pub mod Children
 pub mod Rounds
 pub mod SimpleController
 pub mod OnceOnlyController

@@ -1,7 +1,5 @@
 -- The Loop Controller runs its children for a number of rounds.
-use Rattle.std.specs.Prelude.{ℕ, ◌-◌, ◌^◌, min, nat_eq, nat_lt, Bool, true, not, ◌&&◌, ◌==◌, List, length, codes, if◌then◌else◌}
-use Rattle.std.specs.List.{list_all}
-use Rattle.std.specs.Char.{is_ascii_digit}
+use Rattle.std.specs.Prelude.{ℕ, ◌-◌, ◌^◌, min, nat_eq, nat_lt, Bool, true, List, codes, if◌then◌else◌}
 use Rattle.std.specs.Str.Parse.{digits_value}
 use lib.Pointwise.{pointwise}
 use Rattle.jm_base.specs.Run.{Run}
@@ -12,12 +10,10 @@ use Rattle.element_tree.specs.declared.kinds.Loops.TheVariants.{Forever, Times}
 use Rattle.element_tree.specs.declared.package.Turn.{Turn}
 use Rattle.element_tree.specs.declared.package.Turn.TheVariants.{Child, Round, Over}
 use Rattle.logic_controllers.specs.declared.loop_cursor.LoopCursor.{LoopCursor}
-use Rattle.logic_controllers.specs.Step.{Step, answers, expanding, with_vars}
-use Rattle.logic_controllers.specs.Children.{is_left, behind_child}
+use Rattle.cursor_steps.specs.Step.{Step, answers, expanding, with_vars}
+use Rattle.cursor_steps.specs.Children.{is_left, behind_child}
+use Rattle.cursor_steps.specs.Numeral.{is_decimal}
 use Rattle.logic_controllers.specs.Rounds.{before_rounds, round_begun, opened_vars, opened}
-
-abbrev pub is_decimal : List ℕ → Bool
-is_decimal text = not (length text == 0) && list_all is_ascii_digit text
 
 -- The rounds that a text asks for: `-1` for ever, a decimal number so many, any other text none. No thread comes to
 -- more than 16,777,216 rounds, so that a number past 32 bits asks for as many as the greatest of 32 bits.

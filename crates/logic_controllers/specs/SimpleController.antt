@@ -5,8 +5,8 @@ use Rattle.var_functions.specs.declared.state.UserState.{UserState}
 use Rattle.element_tree.specs.declared.package.Turn.{Turn}
 use Rattle.element_tree.specs.declared.package.Turn.TheVariants.{Child, Over}
 use Rattle.logic_controllers.specs.declared.simple_cursor.SimpleCursor.{SimpleCursor}
-use Rattle.logic_controllers.specs.Step.{Step, answers}
-use Rattle.logic_controllers.specs.Children.{pass_over, is_left, behind_child}
+use Rattle.cursor_steps.specs.Step.{Step, answers}
+use Rattle.cursor_steps.specs.Children.{pass_over, is_left, behind_child}
 
 -- a pass over so many children begins
 abbrev pub simple_enters : ℕ → SimpleCursor → UserState → Run (Step (Unit {0}) SimpleCursor)

@@ -10,8 +10,8 @@ use Rattle.var_functions.specs.Vars.{Variables, value_of}
 use Rattle.element_tree.specs.declared.package.Turn.{Turn}
 use Rattle.element_tree.specs.declared.package.Turn.TheVariants.{Child, Round, Over}
 use Rattle.logic_controllers.specs.declared.while_cursor.WhileCursor.{WhileCursor}
-use Rattle.logic_controllers.specs.Step.{Step, answers, expanding, with_vars}
-use Rattle.logic_controllers.specs.Children.{is_left, behind_child}
+use Rattle.cursor_steps.specs.Step.{Step, answers, expanding, with_vars}
+use Rattle.cursor_steps.specs.Children.{is_left, behind_child}
 use Rattle.logic_controllers.specs.Rounds.{before_rounds, round_begun, opened_vars, opened}
 
 -- spaces only

@@ -7,13 +7,13 @@ ghost use Rattle.element_tree.specs.declared.kinds.Element.{Element};
 ghost use Rattle.var_functions.specs.Vars.{Puts, value_of};
 ghost use Rattle.var_functions.specs.State.{Functions};
 ghost use Rattle.var_functions.specs.Came.{CameTo};
-ghost use Rattle.logic_controllers.specs.Step.{Step, past_limit, StepsTo, IsThere};
-ghost use Rattle.logic_controllers.specs.Children.{IsAmong, run_count};
+ghost use Rattle.cursor_steps.specs.Step.{Step, past_limit, StepsTo, IsThere};
+ghost use Rattle.cursor_steps.specs.Children.{IsAmong, run_count, Passes};
 ghost use Rattle.logic_controllers.specs.Rounds.{before_rounds, begun_after, opened};
 ghost use Rattle.logic_controllers.specs.ForEachController.{Row, kind_of, input_name, value_at, output_vars, each_enters, each_goes, each_opens, each_next, AllSet, EachKept};
 
-use crate::pass::run_count;
 use crate::rounds::{Rounds, decimal_text, put_text};
+use cursor_steps::run_count;
 use element_tree::{Kind, Plan, Turn};
 use jm_base::{M, Outside, Text};
 use std::alloc::Global;
@@ -132,6 +132,7 @@ impl EachCursor {
         ensures came { (e : Element) (row : Row) (output : List ℕ) → IsThere plan.now.elements self.old.element e (kind_of row output)
             → StepsTo (O.account outside.old) (each_next e.name row output self.old state.old) (O.account outside.new) self.new state.new result }
         ensures child { IfOk result (λ turn. IsAmong self.old.rounds.pass.children turn) }
+        ensures pass { IfOk result (Passes self.old.rounds.pass self.new.rounds.pass) }
         ensures begun { IfOk result (λ turn. self.new.rounds.begun ≡ begun_after self.old.rounds.begun turn) }
         ensures children { self.new.rounds.pass.children ≡ self.old.rounds.pass.children }
         ensures same { self.new.element ≡ self.old.element }
@@ -183,6 +184,7 @@ impl EachCursor {
             (each_next name.now (record { input = input.now; separator = span.separator; start = span.start; end = span.end }) output.now self.old state.old)
             (O.account outside.new) self.new state.new result }
         ensures child { IfOk result (λ turn. IsAmong self.old.rounds.pass.children turn) }
+        ensures pass { IfOk result (Passes self.old.rounds.pass self.new.rounds.pass) }
         ensures begun { IfOk result (λ turn. self.new.rounds.begun ≡ begun_after self.old.rounds.begun turn) }
         ensures children { self.new.rounds.pass.children ≡ self.old.rounds.pass.children }
         ensures same { self.new.element ≡ self.old.element }
@@ -238,6 +240,7 @@ impl EachCursor {
         ensures came { (a : Account) → StepsTo a
             (each_goes (record { input = input.now; separator = span.separator; start = span.start; end = span.end }) self.old state.now) a self.new state.now result }
         ensures child { IfOk result (λ turn. IsAmong self.old.rounds.pass.children turn) }
+        ensures pass { IfOk result (Passes self.old.rounds.pass self.new.rounds.pass) }
         ensures begun { IfOk result (λ turn. self.new.rounds.begun ≡ begun_after self.old.rounds.begun turn) }
         ensures children { self.new.rounds.pass.children ≡ self.old.rounds.pass.children }
         ensures same { self.new.element ≡ self.old.element }

@@ -4,11 +4,11 @@ ghost use Rattle.std.specs.Prelude.{◌≡◌, ◌<◌, ◌≤◌, slice_get, So
 ghost use Rattle.template_text.specs.Pieces.{Pieces};
 ghost use Rattle.element_tree.specs.declared.kinds.Element.{Element};
 ghost use Rattle.var_functions.specs.State.{IsLater};
-ghost use Rattle.logic_controllers.specs.Step.{StepsTo, IsThere};
-ghost use Rattle.logic_controllers.specs.Children.{IsAmong, run_count, pass_over};
+ghost use Rattle.cursor_steps.specs.Step.{StepsTo, IsThere};
+ghost use Rattle.cursor_steps.specs.Children.{IsAmong, run_count, pass_over, Passes};
 ghost use Rattle.logic_controllers.specs.IfController.{is_true, if_enters, if_next};
 
-use crate::pass::{Pass, run_count};
+use cursor_steps::{Pass, run_count};
 use element_tree::{Kind, Plan, Turn};
 use jm_base::Outside;
 use std::alloc::Global;
@@ -132,6 +132,7 @@ impl IfCursor {
         ensures came { (e : Element) (all : Bool) (condition : Pieces) → IsThere plan.now.elements self.old.element e (Kind.If all condition)
             → StepsTo (O.account outside.old) (if_next all condition self.old state.old) (O.account outside.new) self.new state.new result }
         ensures child { IfOk result (λ turn. IsAmong self.old.pass.children turn) }
+        ensures pass { IfOk result (Passes self.old.pass self.new.pass) }
         ensures children { self.new.pass.children ≡ self.old.pass.children }
         ensures same { self.new.element ≡ self.old.element }
         ensures kept { OnErr result (self.new ≡ self.old) }
@@ -158,6 +159,7 @@ impl IfCursor {
     ) -> Result<Turn, VarError>
         ensures came { StepsTo (O.account outside.old) (if_next all condition.now self.old state.old) (O.account outside.new) self.new state.new result }
         ensures child { IfOk result (λ turn. IsAmong self.old.pass.children turn) }
+        ensures pass { IfOk result (Passes self.old.pass self.new.pass) }
         ensures children { self.new.pass.children ≡ self.old.pass.children }
         ensures same { self.new.element ≡ self.old.element }
         ensures kept { OnErr result (self.new ≡ self.old) }

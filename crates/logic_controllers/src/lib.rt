@@ -8,16 +8,15 @@ pub mod each_cursor;
 pub mod if_cursor;
 pub mod loop_cursor;
 pub mod once_cursor;
-pub mod pass;
 pub mod rounds;
 pub mod simple_cursor;
 pub mod while_cursor;
 
+pub use cursor_steps::Pass;
 pub use each_cursor::EachCursor;
 pub use if_cursor::IfCursor;
 pub use loop_cursor::LoopCursor;
 pub use once_cursor::OnceCursor;
-pub use pass::Pass;
 pub use rounds::Rounds;
 pub use simple_cursor::SimpleCursor;
 pub use while_cursor::WhileCursor;

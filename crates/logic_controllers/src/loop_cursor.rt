@@ -1,18 +1,17 @@
 // The cursor of a Loop Controller.
 
-ghost use Rattle.std.specs.Prelude.{◌≡◌, ◌+◌, ◌<◌, ◌≤◌, ◌-◌, ◌^◌, slice_get, Some, IfOk, OnOk, OnErr, min, if◌then◌else◌};
-ghost use Rattle.std.specs.Str.Parse.{digits_value};
+ghost use Rattle.std.specs.Prelude.{◌≡◌, ◌<◌, ◌≤◌, ◌-◌, slice_get, Some, IfOk, OnOk, OnErr};
 ghost use Rattle.template_text.specs.Pieces.{Pieces};
 ghost use Rattle.var_functions.specs.declared.state.UserState.{UserState};
 ghost use Rattle.element_tree.specs.declared.kinds.Element.{Element};
 ghost use Rattle.var_functions.specs.State.{IsLater};
-ghost use Rattle.logic_controllers.specs.Step.{StepsTo, IsThere, answers};
-ghost use Rattle.logic_controllers.specs.Children.{IsAmong, run_count};
+ghost use Rattle.cursor_steps.specs.Step.{StepsTo, IsThere, answers};
+ghost use Rattle.cursor_steps.specs.Children.{IsAmong, run_count, Passes};
 ghost use Rattle.logic_controllers.specs.Rounds.{most_rounds, before_rounds, begun_after};
-ghost use Rattle.logic_controllers.specs.LoopController.{is_decimal, loops_of, round_begins, loop_enters, loop_goes, loop_next};
+ghost use Rattle.logic_controllers.specs.LoopController.{loops_of, round_begins, loop_enters, loop_goes, loop_next};
 
-use crate::pass::run_count;
 use crate::rounds::Rounds;
+use cursor_steps::{decimal_number, run_count};
 use element_tree::{Kind, Loops, Plan, Turn};
 use jm_base::Outside;
 use std::alloc::Global;
@@ -30,20 +29,6 @@ pub struct LoopCursor {
     pub rounds: Rounds,
 }
 
-/// The number that decimal digits write, at most the greatest of 32 bits, and 0 of any other text.
-fn count_of(text: &[u8]) -> u32
-    ensures { result ≡ (if is_decimal text.now then min (digits_value 10 text.now) (2 ^ 32 - 1) else 0) }
-{
-    let mut number: u64 = 0;
-    for byte in text {
-        if !byte.is_ascii_digit() {
-            return 0;
-        }
-        number = (number * 10 + u64::from(*byte - b'0')).min(u64::from(u32::MAX));
-    }
-    number as u32
-}
-
 /// How many rounds a text asks for.
 fn loops_of(text: &[u8]) -> Loops
     ensures { result ≡ loops_of text.now }
@@ -51,7 +36,7 @@ fn loops_of(text: &[u8]) -> Loops
     if text == b"-1".as_slice() {
         return Loops::Forever;
     }
-    Loops::Times(count_of(text))
+    Loops::Times(decimal_number(text).unwrap_or(0))
 }
 
 /// Whether a round of this index begins.
@@ -148,6 +133,7 @@ impl LoopCursor {
         ensures came { (e : Element) → slice_get plan.now.elements self.old.element ≡ Some e
             → StepsTo (O.account outside.old) (loop_next e.name self.old state.old) (O.account outside.new) self.new state.new result }
         ensures child { IfOk result (λ turn. IsAmong self.old.rounds.pass.children turn) }
+        ensures pass { IfOk result (Passes self.old.rounds.pass self.new.rounds.pass) }
         ensures begun { IfOk result (λ turn. self.new.rounds.begun ≡ begun_after self.old.rounds.begun turn) }
         ensures children { self.new.rounds.pass.children ≡ self.old.rounds.pass.children }
         ensures same { self.new.element ≡ self.old.element }
@@ -171,6 +157,7 @@ impl LoopCursor {
         requires { self.old.rounds.begun ≤ most_rounds }
         ensures came { StepsTo (O.account outside.old) (loop_next name.now self.old state.old) (O.account outside.new) self.new state.new result }
         ensures child { IfOk result (λ turn. IsAmong self.old.rounds.pass.children turn) }
+        ensures pass { IfOk result (Passes self.old.rounds.pass self.new.rounds.pass) }
         ensures begun { IfOk result (λ turn. self.new.rounds.begun ≡ begun_after self.old.rounds.begun turn) }
         ensures children { self.new.rounds.pass.children ≡ self.old.rounds.pass.children }
         ensures same { self.new.element ≡ self.old.element }
@@ -188,6 +175,7 @@ impl LoopCursor {
         requires { self.old.rounds.begun ≤ most_rounds }
         ensures goes { (state : UserState) → answers result self.new state ≡ loop_goes self.old state }
         ensures child { IsAmong self.old.rounds.pass.children result }
+        ensures pass { Passes self.old.rounds.pass self.new.rounds.pass result }
         ensures begun { self.new.rounds.begun ≡ begun_after self.old.rounds.begun result }
         ensures children { self.new.rounds.pass.children ≡ self.old.rounds.pass.children }
         ensures same { self.new.element ≡ self.old.element }

@@ -4,7 +4,7 @@ ghost use Rattle.std.specs.Prelude.{◌≡◌, ◌+◌, ◌-◌, ◌^◌, ◌<�
 ghost use Rattle.var_functions.specs.Vars.{put_var, Puts};
 ghost use Rattle.logic_controllers.specs.Rounds.{before_rounds, round_begun, index_name, opened_vars, opened};
 
-use crate::pass::Pass;
+use cursor_steps::Pass;
 use jm_base::{M, Text};
 use std::alloc::Global;
 use var_functions::{VarError, Vars};
@@ -25,14 +25,15 @@ pub(crate) fn decimal_text(alloc: Global, number: u64) -> M<Text>
     ensures { IfOk result (λ t. t ≡ decimal number) }
 {
     let text = format!(in alloc; "{number}")?;
-    Text::new(alloc, text.as_bytes())
+    Ok(Text::of(text.into_bytes()))
 }
 
 /// The name of the index variable of an element of this name.
 fn index_name(alloc: Global, name: &[u8]) -> M<Text>
     ensures { IfOk result (λ t. t ≡ index_name name.now) }
 {
-    let mut text = Vec::from_slice(alloc, b"__jm__")?;
+    let mut text = Vec::with_capacity(alloc, name.len() + 11)?;
+    text.extend_from_slice(b"__jm__")?;
     text.extend_from_slice(name)?;
     text.extend_from_slice(b"__idx")?;
     Ok(Text::of(text))

@@ -2,11 +2,11 @@
 
 ghost use Rattle.std.specs.Prelude.{◌≡◌, ◌<◌, slice_get, Some, IsOkAnd};
 ghost use Rattle.element_tree.specs.declared.kinds.Element.{Element};
-ghost use Rattle.logic_controllers.specs.Step.{StepsTo, IsThere};
-ghost use Rattle.logic_controllers.specs.Children.{IsAmong, run_count, pass_over};
+ghost use Rattle.cursor_steps.specs.Step.{StepsTo, IsThere};
+ghost use Rattle.cursor_steps.specs.Children.{IsAmong, run_count, pass_over, Passes};
 ghost use Rattle.logic_controllers.specs.SimpleController.{simple_enters, simple_next};
 
-use crate::pass::{Pass, run_count};
+use cursor_steps::{Pass, run_count};
 use element_tree::{Kind, Plan, Turn};
 use jm_base::Outside;
 use std::alloc::Global;
@@ -65,6 +65,7 @@ impl SimpleCursor {
     ) -> Result<Turn, VarError>
         ensures came { StepsTo (O.account outside.old) (simple_next self.old state.old) (O.account outside.new) self.new state.new result }
         ensures child { IsOkAnd result (λ turn. IsAmong self.old.pass.children turn) }
+        ensures pass { IsOkAnd result (Passes self.old.pass self.new.pass) }
         ensures children { self.new.pass.children ≡ self.old.pass.children }
         ensures same { self.new.element ≡ self.old.element }
     {

@@ -4,13 +4,13 @@ ghost use Rattle.std.specs.Prelude.{◌≡◌, ◌<◌, ◌≤◌, slice_get, So
 ghost use Rattle.template_text.specs.Pieces.{Pieces};
 ghost use Rattle.element_tree.specs.declared.kinds.Element.{Element};
 ghost use Rattle.var_functions.specs.State.{IsLater};
-ghost use Rattle.logic_controllers.specs.Step.{StepsTo, IsThere};
-ghost use Rattle.logic_controllers.specs.Children.{IsAmong, run_count};
+ghost use Rattle.cursor_steps.specs.Step.{StepsTo, IsThere};
+ghost use Rattle.cursor_steps.specs.Children.{IsAmong, run_count, Passes};
 ghost use Rattle.logic_controllers.specs.Rounds.{most_rounds, before_rounds, begun_after};
 ghost use Rattle.logic_controllers.specs.WhileController.{is_blank, last_ok, goes_on, while_enters, while_goes, while_next, WhileKept};
 
-use crate::pass::run_count;
 use crate::rounds::Rounds;
+use cursor_steps::run_count;
 use element_tree::{Kind, Plan, Turn};
 use jm_base::Outside;
 use std::alloc::Global;
@@ -109,6 +109,7 @@ impl WhileCursor {
         ensures came { (e : Element) (condition : Pieces) → IsThere plan.now.elements self.old.element e (Kind.While condition)
             → StepsTo (O.account outside.old) (while_next e.name condition self.old state.old) (O.account outside.new) self.new state.new result }
         ensures child { IfOk result (λ turn. IsAmong self.old.rounds.pass.children turn) }
+        ensures pass { IfOk result (Passes self.old.rounds.pass self.new.rounds.pass) }
         ensures begun { IfOk result (λ turn. self.new.rounds.begun ≡ begun_after self.old.rounds.begun turn) }
         ensures children { self.new.rounds.pass.children ≡ self.old.rounds.pass.children }
         ensures same { self.new.element ≡ self.old.element }
@@ -137,6 +138,7 @@ impl WhileCursor {
         requires { self.old.rounds.begun ≤ most_rounds }
         ensures came { StepsTo (O.account outside.old) (while_next name.now condition.now self.old state.old) (O.account outside.new) self.new state.new result }
         ensures child { IfOk result (λ turn. IsAmong self.old.rounds.pass.children turn) }
+        ensures pass { IfOk result (Passes self.old.rounds.pass self.new.rounds.pass) }
         ensures begun { IfOk result (λ turn. self.new.rounds.begun ≡ begun_after self.old.rounds.begun turn) }
         ensures children { self.new.rounds.pass.children ≡ self.old.rounds.pass.children }
         ensures same { self.new.element ≡ self.old.element }
@@ -160,6 +162,7 @@ impl WhileCursor {
         requires { self.old.rounds.begun ≤ most_rounds }
         ensures came { StepsTo (O.account outside.old) (while_goes condition.now self.old state.old) (O.account outside.new) self.new state.new result }
         ensures child { IfOk result (λ turn. IsAmong self.old.rounds.pass.children turn) }
+        ensures pass { IfOk result (Passes self.old.rounds.pass self.new.rounds.pass) }
         ensures begun { IfOk result (λ turn. self.new.rounds.begun ≡ begun_after self.old.rounds.begun turn) }
         ensures children { self.new.rounds.pass.children ≡ self.old.rounds.pass.children }
         ensures same { self.new.element ≡ self.old.element }

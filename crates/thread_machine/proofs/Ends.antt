@@ -13,6 +13,7 @@ use Rattle.jm_base.proofs.RunLaws.{path-value, list-replays, goes-append, goes-n
 use Rattle.element_tree.specs.Tree.{Tree}
 use Rattle.jm_meaning.specs.declared.item.Item.{Item}
 use Rattle.jm_meaning.specs.declared.item.Item.TheVariants.{Paused as PausedItem, Sampled as SampledItem, Null as NullItem, Ended as EndedItem}
+use Rattle.jm_meaning.specs.Beginning.{Options}
 use Rattle.jm_meaning.specs.Meaning.{events}
 use Rattle.jm_meaning.specs.Shown.{shown}
 use Rattle.thread_machine.specs.declared.trace.TraceItem.{TraceItem}
@@ -49,9 +50,9 @@ module _ (start now : Account) (run : Run (Unit {0})) (items : List Item) (ran :
       let m' : MatchOption (Some v) (now.value ≡ None) (λ v. (w : Scripts) × (now.value ≡ Some w) × Replays script_form v ran.goes.heard w) = rw is at m in
       (m'.0, path-value script_form ran.goes.path v m'.0 m'.2)
 
-follows : (start now : Account) (plan : Tree) (thread budget : ℕ) (trace front : List TraceItem) (end : End) → trace ≡ front ++ TracedEnd end ∷ []
-    → Ran start now (events plan thread budget) (bare trace) → Follows start now plan thread budget trace end
-follows start now plan thread budget trace front end last ran = record {
+follows : (start now : Account) (plan : Tree) (thread : ℕ) (options : Options) (trace front : List TraceItem) (end : End) → trace ≡ front ++ TracedEnd end ∷ []
+    → Ran start now (events plan thread options) (bare trace) → Follows start now plan thread options trace end
+follows start now plan thread options trace front end last ran = record {
   last = (front, last);
   told = λ nothing. (ran.goes.heard, told_all nothing, over_list);
   scripted = λ v is. record {
@@ -62,7 +63,7 @@ follows start now plan thread budget trace front end last ran = record {
   told_all : start.told ≡ Some [] → now.told ≡ Some ran.goes.heard
   told_all nothing = ran.goes.hears.told ∙ ap (option_map (λ t. t ++ ran.goes.heard)) nothing
 
-  over_list : FollowsWhole plan thread budget ran.goes.heard trace
+  over_list : FollowsWhole plan thread options ran.goes.heard trace
   over_list = record {
     items = ap (λ g. map shown g.events) (given_list start now _ _ ran) ∙ shown_all start now _ _ ran;
     used = ap (λ g. g.value) (given_list start now _ _ ran);
@@ -70,19 +71,19 @@ follows start now plan thread budget trace front end last ran = record {
   }
 
 -- the run of a thread by its plan and its number
-same_thread : (start now : Account) (budget : ℕ) (w new : Standing) (given : List Event) (left : Run (Unit {0})) → new.plan ≡ w.plan → new.thread ≡ w.thread
-    → Goes start (events w.plan w.thread budget) given left now → Goes start (events new.plan new.thread budget) given left now
-same_thread start now budget w new given left plan thread g = rw (plan, thread) g
+same_thread : (start now : Account) (options : Options) (w new : Standing) (given : List Event) (left : Run (Unit {0})) → new.plan ≡ w.plan → new.thread ≡ w.thread
+    → Goes start (events w.plan w.thread options) given left now → Goes start (events new.plan new.thread options) given left now
+same_thread start now options w new given left plan thread g = rw (plan, thread) g
 
-nothing_given : (a : Account) (plan : Tree) (thread budget : ℕ) (w : Standing) (left : Run (Unit {0})) → w.plan ≡ plan → w.thread ≡ thread → left ≡ events plan thread budget
-    → Goes a (events w.plan w.thread budget) [] left a
-nothing_given a plan thread budget w left plan_is thread_is is = rw (plan_is, thread_is, is) (goes-nothing a (events plan thread budget))
+nothing_given : (a : Account) (plan : Tree) (thread : ℕ) (options : Options) (w : Standing) (left : Run (Unit {0})) → w.plan ≡ plan → w.thread ≡ thread → left ≡ events plan thread options
+    → Goes a (events w.plan w.thread options) [] left a
+nothing_given a plan thread options w left plan_is thread_is is = rw (plan_is, thread_is, is) (goes-nothing a (events plan thread options))
 
 -- before the first step nothing was given
-pub stands_first : (a : Account) (plan : Tree) (thread budget : ℕ) (w : Standing) → IsAtStart plan thread budget w → Stands a a budget w
-stands_first a plan thread budget w is = record {
+pub stands_first : (a : Account) (plan : Tree) (thread : ℕ) (options : Options) (w : Standing) → IsAtStart plan thread options w → Stands a a options w
+stands_first a plan thread options w is = record {
   so_far = [];
-  goes = nothing_given a plan thread budget w (rest w) is.plan_is is.thread_is is.left;
+  goes = nothing_given a plan thread options w (rest w) is.plan_is is.thread_is is.left;
   shows = rw (is.no_items, is.owes_nothing) refl;
 }
 
@@ -92,31 +93,31 @@ shown-append xs ys = map-append shown xs ys
 bare-append : (xs ys : List TraceItem) → bare (xs ++ ys) ≡ bare xs ++ bare ys
 bare-append xs ys = map-append _ xs ys
 
-module _ (start now later : Account) (budget : ℕ) (w new : Standing) (stands : Stands start now budget w) (none : w.owed ≡ None) where
+module _ (start now later : Account) (options : Options) (w new : Standing) (stands : Stands start now options w) (none : w.owed ≡ None) where
   shows_so_far : map shown stands.so_far ≡ bare w.trace
   shows_so_far = stands.shows ∙ ap (λ o. bare w.trace ++ owed_items o) none ∙ append-nil (bare w.trace)
 
   -- a sample was given and is owed
-  pub stands_sample : (entry : Entry) → GivesSample now later w new entry → Stands start later budget new
+  pub stands_sample : (entry : Entry) → GivesSample now later (rest w) w new entry → Stands start later options new
   stands_sample entry g = record {
     so_far = stands.so_far ++ Sampled Sampler g.sample ∷ [];
-    goes = same_thread start later budget w new _ (rest new) (ap (λ s. s.plan) g.new_is) (ap (λ s. s.thread) g.new_is) (goes-append stands.goes g.goes);
+    goes = same_thread start later options w new _ (rest new) (ap (λ s. s.plan) g.new_is) (ap (λ s. s.thread) g.new_is) (goes-append stands.goes g.goes);
     shows = shown-append stands.so_far (Sampled Sampler g.sample ∷ []) ∙ ap (λ xs. xs ++ SampledItem g.sample ∷ []) shows_so_far
         ∙ sym (ap (λ s. bare s.trace ++ owed_items s.owed) g.new_is);
   }
 
   -- none was given
-  pub stands_none : GivesNone now later w new → Stands start later budget new
+  pub stands_none : GivesNone now later (rest w) w new → Stands start later options new
   stands_none g = record {
     so_far = stands.so_far ++ Nothing g.number ∷ [];
-    goes = same_thread start later budget w new _ (rest new) (ap (λ s. s.plan) g.new_is) (ap (λ s. s.thread) g.new_is) (goes-append stands.goes g.goes);
+    goes = same_thread start later options w new _ (rest new) (ap (λ s. s.plan) g.new_is) (ap (λ s. s.thread) g.new_is) (goes-append stands.goes g.goes);
     shows = shown-append stands.so_far (Nothing g.number ∷ []) ∙ ap (λ xs. xs ++ NullItem g.number ∷ []) shows_so_far
         ∙ sym (ap (λ s. bare s.trace ++ owed_items s.owed) g.new_is ∙ ap (λ o. bare (w.trace ++ TracedNull g.number ∷ []) ++ owed_items o) none
         ∙ append-nil (bare (w.trace ++ TracedNull g.number ∷ [])) ∙ bare-append w.trace (TracedNull g.number ∷ []));
   }
 
-  ran_over : (end : End) → IsOver now later w new end → Follows start later w.plan w.thread budget new.trace end
-  ran_over end o = follows start later w.plan w.thread budget new.trace w.trace end (ap (λ s. s.trace) o.new_is) (record {
+  ran_over : (end : End) → IsOver now later (rest w) w new end → Follows start later w.plan w.thread options new.trace end
+  ran_over end o = follows start later w.plan w.thread options new.trace w.trace end (ap (λ s. s.trace) o.new_is) (record {
     all_events = stands.so_far ++ Ended end ∷ [];
     goes = goes-append stands.goes o.goes;
     shows = shown-append stands.so_far (Ended end ∷ []) ∙ ap (λ xs. xs ++ EndedItem end ∷ []) shows_so_far
@@ -124,7 +125,7 @@ module _ (start now later : Account) (budget : ℕ) (w new : Standing) (stands :
   })
 
   -- the thread has ended
-  pub has_run : (end : End) → Ends now later w new end → HasRun start later w.plan w.thread budget new.trace end
+  pub has_run : (end : End) → Ends now later (rest w) w new end → HasRun start later w.plan w.thread options new.trace end
   has_run Completed o = ran_over Completed o
   has_run StopThread o = ran_over StopThread o
   has_run StopTest o = ran_over StopTest o
@@ -135,17 +136,17 @@ module _ (start now later : Account) (budget : ℕ) (w new : Standing) (stands :
   has_run NoMemory o = (w.trace, ap (λ s. s.trace) o.new_is)
 
 -- the sample that was owed is in the trace
-pub stands_noted : (start now : Account) (budget interval : ℕ) (w new : Standing) (sample : Sample) → w.owed ≡ Some sample
+pub stands_noted : (start now : Account) (options : Options) (interval : ℕ) (w new : Standing) (sample : Sample) → w.owed ≡ Some sample
     → new ≡ record w { owed = None; trace = w.trace ++ TracedSample sample interval ∷ [] }
-    → Stands start now budget w → Stands start now budget new
-stands_noted start now budget interval w new sample owed is stands = record {
+    → Stands start now options w → Stands start now options new
+stands_noted start now options interval w new sample owed is stands = record {
   so_far = stands.so_far;
   goes = rw is (going w.ended refl);
   shows = stands.shows ∙ ap (λ o. bare w.trace ++ owed_items o) owed
       ∙ sym (ap (λ s. bare s.trace ++ owed_items s.owed) is ∙ append-nil (bare (w.trace ++ TracedSample sample interval ∷ []))
       ∙ bare-append w.trace (TracedSample sample interval ∷ []));
 } where
-  going : (e : Bool) → w.ended ≡ e → Goes start (events w.plan w.thread budget) stands.so_far (rest (record w { owed = None; trace = w.trace ++ TracedSample sample interval ∷ [] })) now
+  going : (e : Bool) → w.ended ≡ e → Goes start (events w.plan w.thread options) stands.so_far (rest (record w { owed = None; trace = w.trace ++ TracedSample sample interval ∷ [] })) now
   going e h = stands.goes
 
 -- what a sample that is noted leaves as it was
@@ -166,8 +167,8 @@ noted_is interval old new sample owed h = rw owed at h
 
 -- until it has ended, what a thread shows is a front of its events over what was told
 pub shows_a_front : ShowsAFront
-shows_a_front start now budget w stands nothing =
-    let run : Run (Unit {0}) = events w.plan w.thread budget in
+shows_a_front start now options w stands nothing =
+    let run : Run (Unit {0}) = events w.plan w.thread options in
     let heard = stands.goes.heard in
     let tail : List Event = (over_value list_form (rest w) []).events in
     let e : (over_value list_form run (heard ++ [])).events ≡ stands.so_far ++ tail =
@@ -197,49 +198,49 @@ begun_on a b old new h = elim h [
   | inr s ↦ record { owed = ap (λ s. s.owed) s.standing; ended = ap (λ s. s.ended) s.standing; plan = ap (λ s. s.plan) s.standing; thread = ap (λ s. s.thread) s.standing; units = ap (λ s. s.units) s.standing }
 ]
 
-stands_paused : (start now later : Account) (budget : ℕ) (w new : Standing) → w.owed ≡ None → HasPaused now later w new → Stands start now budget w → Stands start later budget new
-stands_paused start now later budget w new none p stands = record {
+stands_paused : (start now later : Account) (options : Options) (w new : Standing) → w.owed ≡ None → HasPaused now later w new → Stands start now options w → Stands start later options new
+stands_paused start now later options w new none p stands = record {
   so_far = stands.so_far ++ Waited w.pause ∷ [];
-  goes = same_thread start later budget w new _ (rest new) (ap (λ s. s.plan) p.new_is) (ap (λ s. s.thread) p.new_is) (goes-append stands.goes p.goes);
-  shows = shown-append stands.so_far (Waited w.pause ∷ []) ∙ ap (λ xs. xs ++ PausedItem w.pause ∷ []) (shows_so_far start now later budget w new stands none)
+  goes = same_thread start later options w new _ (rest new) (ap (λ s. s.plan) p.new_is) (ap (λ s. s.thread) p.new_is) (goes-append stands.goes p.goes);
+  shows = shown-append stands.so_far (Waited w.pause ∷ []) ∙ ap (λ xs. xs ++ PausedItem w.pause ∷ []) (shows_so_far start now later options w new stands none)
       ∙ sym (ap (λ s. bare s.trace ++ owed_items s.owed) p.new_is ∙ ap (λ o. bare (w.trace ++ TracedPause w.pause ∷ []) ++ owed_items o) none
       ∙ append-nil (bare (w.trace ++ TracedPause w.pause ∷ [])) ∙ bare-append w.trace (TracedPause w.pause ∷ []));
 }
 
-stands_begun : (start now later : Account) (budget : ℕ) (w new : Standing) → w.owed ≡ None → Begins now later w new → Stands start now budget w → Stands start later budget new
-stands_begun start now later budget w new none h stands = elim h [
-  | inl p ↦ stands_paused start now later budget w new none p stands
+stands_begun : (start now later : Account) (options : Options) (w new : Standing) → w.owed ≡ None → Begins now later w new → Stands start now options w → Stands start later options new
+stands_begun start now later options w new none h stands = elim h [
+  | inl p ↦ stands_paused start now later options w new none p stands
   | inr s ↦ rw (s.account, s.standing) stands
 ]
 
 -- a step, whatever it answers
-gives_behind : (start now later : Account) (budget : ℕ) (w new : Standing) (step : Step) → w.owed ≡ None → Gives now later w new step
-    → Stands start now budget w → StandsBehind start later budget w new step
-gives_behind start now later budget w new (StepSampled entry) none s stands = stands_sample start now later budget w new stands none entry s
-gives_behind start now later budget w new StepNull none s stands = stands_none start now later budget w new stands none s
-gives_behind start now later budget w new (StepEnter lock) none s stands = absurd s
-gives_behind start now later budget w new (StepLeave lock) none s stands = absurd s
-gives_behind start now later budget w new (StepEnded end) none s stands = has_run start now later budget w new stands none end s
+gives_behind : (start now later : Account) (options : Options) (w new : Standing) (step : Step) → w.owed ≡ None → Gives now later (rest w) w new step
+    → Stands start now options w → StandsBehind start later options w new step
+gives_behind start now later options w new (StepSampled entry) none s stands = stands_sample start now later options w new stands none entry s
+gives_behind start now later options w new StepNull none s stands = stands_none start now later options w new stands none s
+gives_behind start now later options w new (StepEnter lock) none s stands = absurd s
+gives_behind start now later options w new (StepLeave lock) none s stands = absurd s
+gives_behind start now later options w new (StepEnded end) none s stands = has_run start now later options w new stands none end s
 
 -- the answer speaks of the thread alone
-behind_same : (start later : Account) (budget : ℕ) (w between new : Standing) (step : Step) → BegunOn w between → StandsBehind start later budget between new step → StandsBehind start later budget w new step
-behind_same start later budget w between new (StepSampled entry) on h = h
-behind_same start later budget w between new StepNull on h = h
-behind_same start later budget w between new (StepEnter lock) on h = h
-behind_same start later budget w between new (StepLeave lock) on h = h
-behind_same start later budget w between new (StepEnded end) on h = rw (← on.plan, ← on.thread) h
+behind_same : (start later : Account) (options : Options) (w between new : Standing) (step : Step) → BegunOn w between → StandsBehind start later options between new step → StandsBehind start later options w new step
+behind_same start later options w between new (StepSampled entry) on h = h
+behind_same start later options w between new StepNull on h = h
+behind_same start later options w between new (StepEnter lock) on h = h
+behind_same start later options w between new (StepLeave lock) on h = h
+behind_same start later options w between new (StepEnded end) on h = rw (← on.plan, ← on.thread) h
 
-pub stands_behind : (start now later : Account) (budget : ℕ) (w new : Standing) (step : Step) → w.owed ≡ None → Steps now later w new step
-    → Stands start now budget w → StandsBehind start later budget w new step
-stands_behind start now later budget w new step none s stands =
+pub stands_behind : (start now later : Account) (options : Options) (w new : Standing) (step : Step) → w.owed ≡ None → Steps now later w new step
+    → Stands start now options w → StandsBehind start later options w new step
+stands_behind start now later options w new step none s stands =
     let on = begun_on now s.begun w s.between s.begins in
-    behind_same start later budget w s.between new step on
-    (gives_behind start s.begun later budget s.between new step (on.owed ∙ none) s.gives (stands_begun start now s.begun budget w s.between none s.begins stands))
+    behind_same start later options w s.between new step on
+    (gives_behind start s.begun later options s.between new step (on.owed ∙ none) s.gives (stands_begun start now s.begun options w s.between none s.begins stands))
 
 -- a sample that is noted, where it is known that there is one
-pub stands_noted_some : (start now : Account) (budget interval : ℕ) (w new : Standing) → IsSome w.owed
-    → IfSome w.owed (λ s. new ≡ record w { owed = None; trace = w.trace ++ TracedSample s interval ∷ [] }) → Stands start now budget w → Stands start now budget new
-stands_noted_some start now budget interval w new some is stands = by_owed w.owed refl some where
-  by_owed : (o : Option Sample) → w.owed ≡ o → IsSome o → Stands start now budget new
+pub stands_noted_some : (start now : Account) (options : Options) (interval : ℕ) (w new : Standing) → IsSome w.owed
+    → IfSome w.owed (λ s. new ≡ record w { owed = None; trace = w.trace ++ TracedSample s interval ∷ [] }) → Stands start now options w → Stands start now options new
+stands_noted_some start now options interval w new some is stands = by_owed w.owed refl some where
+  by_owed : (o : Option Sample) → w.owed ≡ o → IsSome o → Stands start now options new
   by_owed None e h = absurd (cc)
-  by_owed (Some sample) e h = stands_noted start now budget interval w new sample e (noted_is interval w new sample e is) stands
+  by_owed (Some sample) e h = stands_noted start now options interval w new sample e (noted_is interval w new sample e is) stands

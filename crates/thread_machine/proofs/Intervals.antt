@@ -5,13 +5,14 @@ use Rattle.std.proofs.lemmas.List.Elements.{All-push}
 use Rattle.jm_base.specs.declared.types.Sample.{Sample}
 use Rattle.jm_base.specs.declared.types.End.{End}
 use Rattle.jm_base.specs.declared.types.End.TheVariants.{Completed, StopThread, StopTest, Stopped, SampleLimit, RoundLimit, ValueLimit, NoMemory}
+use Rattle.jm_base.specs.Run.{Run}
 use Rattle.jm_base.specs.Outside.{Account}
 use Rattle.thread_machine.specs.declared.trace.TraceItem.{TraceItem}
 use Rattle.thread_machine.specs.declared.trace.TraceItem.TheVariants.{Paused as PausedItem, Sampled as SampledItem, Null as NullItem, Ended as EndedItem}
 use Rattle.thread_machine.specs.declared.step.Step.{Step}
 use Rattle.thread_machine.specs.declared.step.Step.TheVariants.{Sampled, Null, Enter, Leave, Ended}
 use Rattle.thread_machine.specs.Bare.{IsCountedIn}
-use Rattle.thread_machine.specs.Standing.{Standing}
+use Rattle.thread_machine.specs.Standing.{Standing, rest}
 use Rattle.thread_machine.specs.Stepped.{Begins, IsOver, Ends, Gives, Steps}
 
 module _ (k : ℕ) where
@@ -30,11 +31,11 @@ module _ (k : ℕ) where
     | inr s ↦ rw s.standing all
   ]
 
-  module _ (a b : Account) (old new : Standing) where
-    over_counted : (end : End) → IsOver a b old new end → Counted old.trace → Counted new.trace
+  module _ (a b : Account) (run : Run (Unit {0})) (old new : Standing) where
+    over_counted : (end : End) → IsOver a b run old new end → Counted old.trace → Counted new.trace
     over_counted end o = one_more old.trace new.trace (EndedItem end) (ap (λ s. s.trace) o.new_is) (tt {0})
 
-    ends_counted : (end : End) → Ends a b old new end → Counted old.trace → Counted new.trace
+    ends_counted : (end : End) → Ends a b run old new end → Counted old.trace → Counted new.trace
     ends_counted Completed o = over_counted Completed o
     ends_counted StopThread o = over_counted StopThread o
     ends_counted StopTest o = over_counted StopTest o
@@ -44,7 +45,7 @@ module _ (k : ℕ) where
     ends_counted ValueLimit o = over_counted ValueLimit o
     ends_counted NoMemory o = one_more old.trace new.trace (EndedItem NoMemory) (ap (λ s. s.trace) o.new_is) (tt {0})
 
-    gives_counted : (step : Step) → Gives a b old new step → Counted old.trace → Counted new.trace
+    gives_counted : (step : Step) → Gives a b run old new step → Counted old.trace → Counted new.trace
     gives_counted (Sampled entry) g all = rw (ap (λ s. s.trace) g.new_is) all
     gives_counted Null g all = one_more old.trace new.trace (NullItem g.number) (ap (λ s. s.trace) g.new_is) (tt {0}) all
     gives_counted (Enter lock) g all = absurd g
@@ -52,4 +53,4 @@ module _ (k : ℕ) where
     gives_counted (Ended end) g all = ends_counted end g all
 
   pub counted_behind : (a b : Account) (old new : Standing) (step : Step) → Steps a b old new step → Counted old.trace → Counted new.trace
-  counted_behind a b old new step s all = gives_counted s.begun b s.between new step s.gives (counted_begun a s.begun old s.between s.begins all)
+  counted_behind a b old new step s all = gives_counted s.begun b (rest s.between) s.between new step s.gives (counted_begun a s.begun old s.between s.begins all)

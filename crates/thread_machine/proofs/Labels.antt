@@ -10,9 +10,7 @@ use Rattle.element_tree.specs.declared.kinds.Kind.{Kind}
 use Rattle.element_tree.specs.declared.kinds.Kind.TheVariants as kinds
 use Rattle.element_tree.specs.declared.types.Class.TheVariants as classes
 use Rattle.element_tree.specs.Types.{class_of}
-use Rattle.jm_meaning.specs.declared.running.Role.TheVariants.{Sample}
-use Rattle.jm_meaning.specs.Texts.{plain_text}
-use Rattle.jm_meaning.specs.Runs.{role_of, loop_role}
+use Rattle.control_machine.specs.Left.{IsScript}
 use Rattle.element_tree.specs.Names.{gives_samples, sample_name, with_text, distinct_after, labels_of, label_of}
 
 no_fewer : (seen : List (List ℕ)) (x : List ℕ) → length seen ≤ length (with_text seen x)
@@ -64,11 +62,7 @@ label_within elements n e there class_is =
     let name : sample_name e ≡ Some e.name = ap (λ b. if b then Some e.name else None) (gives_by_class e.kind class_is) in
     within (same_bytes e.name) _ (some_distinct _ (named elements n e e.name there name))
 
--- what runs as a sampler is one
-pub sampler_class : (k : Kind) → role_of k ≡ Sample → class_of k ≡ classes.Sampler
-sampler_class (kinds.Script replies request) h = refl
-sampler_class (kinds.Loop loops) h = absurd (by_text (plain_text loops) h) where
-  by_text : (o : Option (List ℕ)) → loop_role o ≡ Sample → ⊥
-  by_text None h = cc
-  by_text (Some text) h = cc
-sampler_class k h = absurd (cc)
+-- a Script sampler is a sampler
+pub script_class : (k : Kind) → IsScript k → class_of k ≡ classes.Sampler
+script_class (kinds.Script replies request) h = refl
+script_class k h = absurd h

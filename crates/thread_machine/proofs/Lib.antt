@@ -1,8 +1,8 @@
-pub mod Frames
-pub mod Turns
-pub mod Loads
+pub mod StackLaws
+pub mod FirstLaws
 pub mod Labels
 pub mod Steps
-pub mod Sound
+pub mod Samplers
 pub mod Ends
+pub mod Sound
 pub mod Intervals

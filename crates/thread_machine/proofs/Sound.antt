@@ -4,6 +4,7 @@ use Rattle.std.specs.Prelude.{All}
 use Rattle.std.proofs.lemmas.List.Elements.{All-push}
 use Rattle.jm_base.specs.declared.types.End.{End}
 use Rattle.jm_base.specs.declared.types.End.TheVariants.{Completed, StopThread, StopTest, Stopped, SampleLimit, RoundLimit, ValueLimit, NoMemory}
+use Rattle.jm_base.specs.Run.{Run}
 use Rattle.jm_base.specs.Outside.{Account}
 use Rattle.element_tree.specs.Tree.{Tree}
 use Rattle.element_tree.specs.Names.{labels_of}
@@ -13,10 +14,11 @@ use Rattle.thread_machine.specs.declared.runner.Runner.{Runner}
 use Rattle.thread_machine.specs.declared.step.Step.{Step}
 use Rattle.thread_machine.specs.declared.step.Step.TheVariants.{Sampled, Null, Enter, Leave, Ended}
 use Rattle.thread_machine.specs.Bare.{IsLabelled}
-use Rattle.thread_machine.specs.Standing.{Standing}
+use Rattle.thread_machine.specs.Standing.{Standing, rest}
 use Rattle.thread_machine.specs.Stepped.{IsSampler, Begins, IsOver, Ends, Gives, Steps}
+use Rattle.thread_machine.specs.Recorded.{Recorded}
 use Rattle.thread_machine.specs.Inside.{standing_of, IsSound}
-use Rattle.thread_machine.specs.Ran.{is_end, GoesOnBehind}
+use Rattle.thread_machine.specs.Ran.{is_end, IsCutBehind, GoesOnBehind}
 use Rattle.thread_machine.proofs.Labels.{label_within}
 use Rattle.thread_machine.proofs.Ends.{begun_on}
 
@@ -28,7 +30,7 @@ labels_kept plan new items is same all = rw (is, same) all
 owed_within : (plan : Tree) (number label : ℕ) → IsSampler plan number label → label < length (labels_of plan.elements)
 owed_within plan number label s = rw s.label_is (label_within plan.elements number s.element s.there s.class_is)
 
-module _ (a b : Account) (s : Standing) (new : Runner) (none : s.owed ≡ None) (labels_so_far : All (IsLabelled (length (labels_of s.plan.elements))) s.trace) where
+module _ (a b : Account) (run : Run (Unit {0})) (s : Standing) (new : Runner) (none : s.owed ≡ None) (labels_so_far : All (IsLabelled (length (labels_of s.plan.elements))) s.trace) where
   abbrev labels : ℕ
   labels = length (labels_of s.plan.elements)
 
@@ -40,10 +42,10 @@ module _ (a b : Account) (s : Standing) (new : Runner) (none : s.owed ≡ None) 
     owed_label = rw nothing tt;
   }
 
-  behind_end : (end : End) → IsOver a b s (standing_of new true) end → new.owed ≡ None → IsSound new true
+  behind_end : (end : End) → IsOver a b run s (standing_of new true) end → new.owed ≡ None → IsSound new true
   behind_end end over nothing = ended end (ap (λ s. s.plan) over.new_is) (ap (λ s. s.trace) over.new_is) nothing
 
-  by_end : (end : End) → Ends a b s (standing_of new true) end → new.owed ≡ None → IsSound new true
+  by_end : (end : End) → Ends a b run s (standing_of new true) end → new.owed ≡ None → IsSound new true
   by_end Completed over nothing = behind_end Completed over nothing
   by_end StopThread over nothing = behind_end StopThread over nothing
   by_end StopTest over nothing = behind_end StopTest over nothing
@@ -53,7 +55,7 @@ module _ (a b : Account) (s : Standing) (new : Runner) (none : s.owed ≡ None) 
   by_end ValueLimit over nothing = behind_end ValueLimit over nothing
   by_end NoMemory cut nothing = ended NoMemory (ap (λ s. s.plan) cut.new_is) (ap (λ s. s.trace) cut.new_is) nothing
 
-  gives_sound : (step : Step) → Gives a b s (standing_of new (is_end step)) step → GoesOnBehind new step → IsSound new (is_end step)
+  gives_sound : (step : Step) → Gives a b run s (standing_of new (is_end step)) step → GoesOnBehind new step → IsSound new (is_end step)
   gives_sound (Sampled entry) g on = record {
     going = λ h. on;
     settled = λ h. absurd (cc);
@@ -82,5 +84,14 @@ begun_labels a b old new h all = elim h [
 pub sound_behind : (a b : Account) (w new : Runner) → IsSound w false → w.owed ≡ None → (step : Step) → Steps a b (standing_of w false) (standing_of new (is_end step)) step
     → GoesOnBehind new step → IsSound new (is_end step)
 sound_behind a b w new sound none step s on =
-    gives_sound s.begun b s.between new ((begun_on a s.begun (standing_of w false) s.between s.begins).owed ∙ none)
+    gives_sound s.begun b (rest s.between) s.between new ((begun_on a s.begun (standing_of w false) s.between s.begins).owed ∙ none)
     (begun_labels a s.begun (standing_of w false) s.between s.begins sound.labels) step s.gives on
+
+-- a thread that was cut has ended
+pub sound_cut : (a b : Account) (w new : Runner) (t : Recorded) → IsSound w false → w.owed ≡ None → IsCutBehind a b w new → t.items ≡ new.trace.items ++ EndedItem NoMemory ∷ []
+    → IsSound (record new { trace = t }) true
+sound_cut a b w new t sound none cut items =
+    let on = begun_on a cut.begun (standing_of w false) (standing_of cut.between false) cut.begins in
+    ended a b (rest (standing_of cut.between false)) (standing_of cut.between false) (record new { trace = t }) (on.owed ∙ none)
+    (begun_labels a cut.begun (standing_of w false) (standing_of cut.between false) cut.begins sound.labels)
+    NoMemory cut.cut.same.plan (items ∙ ap (λ xs. xs ++ EndedItem NoMemory ∷ []) cut.cut.items) (cut.cut.same.owed ∙ on.owed ∙ none)

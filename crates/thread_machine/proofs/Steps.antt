@@ -1,135 +1,255 @@
--- What a move and a sampler make of a thread.
-use Rattle.std.proofs.Common.{◌≡◌, inl, inr, ℕ, zero, suc, ◌+◌, ◌-◌, ◌≤◌, length, Bool, true, false, List, [], ◌∷◌, ◌++◌, Option, Some, None, refl, sym, ap, ◌∙◌, subst, arith}
-use Rattle.std.specs.Prelude.{slice_get, Result, Ok, Err, OnErr, IfSome}
-use Rattle.std.proofs.lemmas.List.{append-nil}
+-- What the parts of a step make of a thread.
+use Rattle.std.proofs.Common.{◌≡◌, inl, inr, ℕ, zero, suc, Bool, true, false, List, [], ◌∷◌, ◌++◌, Some, None, refl, sym, ap, ◌∙◌, subst}
+use Rattle.std.specs.Prelude.{slice_get, unwrap_or, Result, Ok, Err, OnErr, if◌then◌else◌}
+use Rattle.std.specs.Option.{option_map}
 use Rattle.jm_base.specs.declared.types.End.{End}
-use Rattle.jm_base.specs.declared.types.End.TheVariants.{Completed, StopThread, StopTest, Stopped, SampleLimit, RoundLimit, ValueLimit, NoMemory}
-use Rattle.jm_base.specs.declared.types.Sample.{Sample}
-use Rattle.jm_base.specs.Run.{Run, over, give, wait, ◌>>=◌, Event, Waited, Sampled, Nothing, Ended, Sampler}
+use Rattle.jm_base.specs.declared.types.End.TheVariants.{Completed, StopThread, StopTest, Stopped, SampleLimit, RoundLimit, ValueLimit as PastValueLimit, NoMemory as EndNoMemory}
+use Rattle.jm_base.specs.Run.{Run, over, give, wait, Waited, Ended}
 use Rattle.jm_base.specs.Outside.{Account, Goes, TellsNothing}
 use Rattle.jm_base.proofs.RunLaws.{goes-append, goes-bind, goes-give, goes-nothing, goes-tells_nothing}
+use Rattle.var_functions.specs.declared.error.VarError.{VarError}
+use Rattle.var_functions.specs.declared.error.VarError.TheVariants.{ValueLimit, NoMemory}
+use Rattle.var_functions.specs.declared.state.UserState.{UserState}
+use Rattle.var_functions.specs.Vars.{Variables}
+use Rattle.var_functions.specs.State.{Functions, first_functions}
+use Rattle.var_functions.specs.Came.{CameTo, Refused, by_limit, by_memory}
+use Rattle.var_functions.proofs.CameLaws.{came-bind, refused-first}
+use Rattle.element_tree.specs.declared.threads.Thread.{Thread}
 use Rattle.element_tree.specs.declared.kinds.Element.{Element}
-use Rattle.jm_meaning.specs.declared.running.Role.{Role}
-use Rattle.jm_meaning.specs.declared.running.Role.TheVariants as roles
-use Rattle.jm_meaning.specs.declared.running.Role.TheVariants.{Group, Rounds, Children}
-use Rattle.jm_meaning.specs.Runs.{role_of, request_of}
+use Rattle.element_tree.specs.Tree.{Tree, threads_of, group_of}
+use Rattle.jm_meaning.specs.State.{State, Own, Ending, Part, state_of, at_rounds, normal, stopped, on_normal, and_then}
+use Rattle.jm_meaning.specs.Beginning.{Options, max_rounds, first_of, set_first}
 use Rattle.jm_meaning.specs.RampUp.{pause_of}
-use Rattle.element_tree.specs.Tree.{IsGroup, group_of}
-use Rattle.element_tree.specs.Names.{label_of}
-use Rattle.jm_meaning.specs.declared.signal.Signal.TheVariants.{Normal}
-use Rattle.jm_meaning.specs.State.{State, Ending, normal, with_unit}
-use Rattle.jm_meaning.specs.Sampling.{sampled, sampling, given_sample, after_sample}
-use Rattle.jm_meaning.specs.Meaning.{Here, meaning, and_end, behind_pause, at_failure, end_of, here_of, events, max_rounds}
-use Rattle.jm_meaning.specs.Left.{LeftOf}
-use Rattle.thread_machine.specs.declared.stack.Frame.{Frame}
-use Rattle.thread_machine.specs.declared.machine.Machine.{Machine}
+use Rattle.jm_meaning.specs.Meaning.{and_end, behind_pause, end_of, events, thread_part, group_part, here_at}
+use Rattle.control_machine.specs.declared.machine.Machine.{Machine}
+use Rattle.control_machine.specs.declared.moves.Move.{Move}
+use Rattle.control_machine.specs.declared.moves.Move.TheVariants.{Iteration, RunSampler, EnterSection, LeaveSection, TransactionSample, Finished}
+use Rattle.control_machine.specs.Moves.{past}
+use Rattle.control_machine.specs.Left.{left_of, moved, ended, IsMove, IsFinish}
 use Rattle.thread_machine.specs.declared.trace.TraceItem.TheVariants.{Paused as PausedItem, Ended as EndedItem}
 use Rattle.thread_machine.specs.declared.runner.Runner.{Runner}
 use Rattle.thread_machine.specs.declared.step.Step.{Step}
-use Rattle.thread_machine.specs.declared.step.Step.TheVariants.{Ended as EndedStep}
+use Rattle.thread_machine.specs.declared.step.Step.TheVariants.{Sampled as SampledStep, Null as NullStep, Enter, Leave, Ended as EndedStep}
 use Rattle.thread_machine.specs.Recorded.{Recorded}
-use Rattle.thread_machine.specs.Stack.{around_role, around_element, rest_of, Led, AreOpen}
-use Rattle.thread_machine.specs.Turned.{IsOver, RunsSampler, is_given}
-use Rattle.thread_machine.specs.Standing.{Standing, IsAtStart}
-use Rattle.thread_machine.specs.Stepped.{HasPaused, IsSampler, IsOver as Over, Ends, Gives, Steps}
-use Rattle.thread_machine.proofs.Labels.{sampler_class}
-use Rattle.thread_machine.specs.Inside.{depth_of, left_of, standing_of, GoesOn}
-use Rattle.thread_machine.specs.Ran.{is_end, step_of, items_of, RanOne, IsSameThread, IsBegun, IsCutAt, IsCutBehind, GoesOnBehind}
-use Rattle.thread_machine.proofs.Turns.{state, stop_through, first}
-use Rattle.thread_machine.proofs.Loads.{height}
+use Rattle.thread_machine.specs.Standing.{Standing, state_in, rest, IsAtStart}
+use Rattle.thread_machine.specs.Stepped.{HasPaused, IsOver, Ends, Gives, Steps}
+use Rattle.thread_machine.specs.Inside.{standing_of}
+use Rattle.thread_machine.specs.Ran.{is_end, left_to, IsTaken, IsSameThread, IsRefusedAt, IsBegun, IsCutAt, IsCutBehind}
+use Rattle.thread_machine.proofs.FirstLaws.{first_alike}
 
--- what goes on inside the open elements goes on in the whole
-module _ (here : Here) {a b : Account} {events : List Event} where
-  goes_role : (depth : ℕ) (f : Frame) (cs : List ℕ) (r : Role) {x y : Run Ending} → Goes a x events y b
-      → Goes a (around_role here (meaning here depth) f cs r x) events (around_role here (meaning here depth) f cs r y) b
-  goes_role depth f cs (Group loops) g = goes-bind _ (goes-bind _ (goes-bind _ g))
-  goes_role depth f cs (Rounds loops) g = goes-bind _ (goes-bind _ g)
-  goes_role depth f cs Children g = goes-bind _ g
-  goes_role depth f cs roles.Sample g = goes-bind _ g
-  goes_role depth f cs roles.Nothing g = goes-bind _ g
+-- behind the pause, and behind the first variables
+pub rest_on : (w : Runner) → w.pause ≡ 0 → rest (standing_of w false) ≡ and_end (left_to w)
+rest_on w paused = ap (λ n. behind_pause n (and_end (left_to w))) paused
 
-  goes_element : (depth : ℕ) (f : Frame) (o : Option Element) {x y : Run Ending} → Goes a x events y b
-      → Goes a (around_element here (meaning here depth) f o x) events (around_element here (meaning here depth) f o y) b
-  goes_element depth f None g = g
-  goes_element depth f (Some e) g = goes_role depth f e.children f.role g
+pub left_on : (w : Runner) → w.begun ≡ true → left_to w ≡ left_of w.plan.now w.machine (state_in (standing_of w false))
+left_on w begun =
+    let later : Run Ending = left_of w.plan.now w.machine (state_in (standing_of w false)) in
+    let sooner : Run Ending = and_then (set_first w.plan.now.elements (state_in (standing_of w false))) (left_of w.plan.now w.machine) in
+    ap (λ b. if b then later else sooner) begun
 
-  goes_inside : (depth : ℕ) (fs : List Frame) {x y : Run Ending} → Goes a x events y b → Goes a (rest_of here depth fs x) events (rest_of here depth fs y) b
-  unfolding rest_of
-  goes_inside depth [] g = g
-  goes_inside depth (f ∷ fs) g = goes_inside (suc depth) fs (goes_element depth f (slice_get here.plan.elements f.element) g)
+left_first : (w : Runner) → w.begun ≡ false → left_to w ≡ and_then (set_first w.plan.now.elements (state_in (standing_of w false))) (left_of w.plan.now w.machine)
+left_first w begun =
+    let later : Run Ending = left_of w.plan.now w.machine (state_in (standing_of w false)) in
+    let sooner : Run Ending = and_then (set_first w.plan.now.elements (state_in (standing_of w false))) (left_of w.plan.now w.machine) in
+    ap (λ b. if b then later else sooner) begun
 
-  pub goes_left : (depth : ℕ) (fs : List Frame) {x y : Run Ending} → Goes a x events y b → Goes a (and_end (rest_of here depth fs x)) events (and_end (rest_of here depth fs y)) b
-  goes_left depth fs g = goes-bind _ (goes_inside depth fs g)
+-- ---- from move to move
 
--- the run is over, and its end is given
-pub over_ends : (a : Account) (run : Run Ending) (s : State) (end : End) → IsOver run s end → Goes a (and_end run) (Ended end ∷ []) (over tt) a
-over_ends a run s end o = rw (o.same, ← o.end_is) (goes-give a (Ended (end_of o.signal)) (over tt))
+-- nothing has happened yet, with these rounds left
+pub no_move : (a : Account) (f : Part) (user : UserState) (own : Own) (n : ℕ) → own.rounds ≡ n → Goes a (f (state_of user own)) [] (f (state_of user (at_rounds own n))) a
+no_move a f user own n same = subst (λ k. Goes a (f (state_of user own)) [] (f (state_of user (at_rounds own k))) a) same (goes-nothing a (f (state_of user own)))
 
--- no unit is left
-no_unit : (here : Here) (run : Run Ending) (rounds : ℕ) (fs : List Frame) (number : ℕ) → RunsSampler here run (state 0 rounds) fs number → IsOver run (state 0 rounds) SampleLimit
-no_unit here run rounds fs number r = record {
-  signal = _;
-  same = r.led.same ∙ stop_through here r.led.depth fs SampleLimit (state 0 rounds);
-  end_is = refl;
-  given = refl;
+-- behind the begin of a round nothing is given
+pub round_goes : (a b : Account) (plan : Tree) (m : Machine) (s : State) (run : Run Ending) (move : Move) (index : ℕ) → move ≡ Iteration index
+    → Goes a run [] (moved plan m s move) b → Goes a run [] (left_of plan m s) b
+round_goes a b plan m s run move index is g = subst (λ k. Goes a run [] (moved plan m s k) b) is g
+
+-- another move is one that ends a step
+pub taken : (elements : List Element) (move : Move) → IsMove elements move → ((index : ℕ) → move ≡ Iteration index → ⊥) → IsTaken elements move
+taken elements (Iteration index) is other = absurd (other index refl)
+taken elements (RunSampler number) is other = is
+taken elements (EnterSection lock) is other = is
+taken elements (LeaveSection lock) is other = is
+taken elements (TransactionSample element tally) is other = is
+taken elements (Finished end) is other = is
+
+-- ---- the first variables
+
+pub set_already : (a : Account) (w : Runner) → w.begun ≡ true → Goes a (left_to w) [] (left_of w.plan.now w.machine (state_in (standing_of w false))) a
+set_already a w begun = subst (λ r. Goes a (left_to w) [] r a) (left_on w begun) (goes-nothing a (left_to w))
+
+-- they are set now
+pub set_now : (a b : Account) (w : Runner) (user : UserState) (res : Result (Unit {0}) VarError) → w.begun ≡ false
+    → ((own : Own) → CameTo a (set_first w.plan.now.elements (state_of w.user own)) b (λ (u : Unit {0}). over (normal (state_of user own))) (over (stopped PastValueLimit (state_of user own))) res)
+    → CameTo a (left_to w) b (λ (u : Unit {0}). left_of w.plan.now w.machine (state_of user (record { units = w.units; rounds = w.machine.rounds })))
+    (past (state_of user (record { units = w.units; rounds = w.machine.rounds }))) res
+set_now a b w user res begun came =
+    let own : Own = record { units = w.units; rounds = w.machine.rounds } in
+    subst (λ r. CameTo a r b (λ (u : Unit {0}). left_of w.plan.now w.machine (state_of user own)) (past (state_of user own)) res) (sym (left_first w begun))
+    (came-bind a b (set_first w.plan.now.elements (state_of w.user own)) (λ (u : Unit {0}). over (normal (state_of user own))) (over (stopped PastValueLimit (state_of user own))) res
+    (on_normal (left_of w.plan.now w.machine)) (came own))
+
+-- ---- the end of a thread
+
+-- an end is given
+pub end_goes : (a b : Account) (run : Run Ending) (s : State) (end : End) → Goes a run [] (over (stopped end s)) b → Goes a (and_end run) (Ended end ∷ []) (over tt) b
+end_goes a b run s end g = goes-append (goes-bind (λ e. give (Ended (end_of e.signal)) (over tt)) g) (goes-give b (Ended end) (over tt))
+
+finish_goes : (a b : Account) (run : Run Ending) (s : State) (end : End) → IsFinish end → Goes a run [] (over (ended end s)) b → Goes a (and_end run) (Ended end ∷ []) (over tt) b
+finish_goes a b run s Completed is g = goes-append (goes-bind (λ e. give (Ended (end_of e.signal)) (over tt)) g) (goes-give b (Ended Completed) (over tt))
+finish_goes a b run s StopThread is g = end_goes a b run s StopThread g
+finish_goes a b run s StopTest is g = end_goes a b run s StopTest g
+finish_goes a b run s Stopped is g = absurd is
+finish_goes a b run s SampleLimit is g = absurd is
+finish_goes a b run s RoundLimit is g = end_goes a b run s RoundLimit g
+finish_goes a b run s PastValueLimit is g = absurd is
+finish_goes a b run s EndNoMemory is g = absurd is
+
+-- an end that a machine finishes with is no want of memory and no stop
+ends : (a b : Account) (run : Run (Unit {0})) (old new : Standing) (end : End) → IsFinish end → IsOver a b run old new end → Ends a b run old new end
+ends a b run old new Completed is h = h
+ends a b run old new StopThread is h = h
+ends a b run old new StopTest is h = h
+ends a b run old new Stopped is h = absurd is
+ends a b run old new SampleLimit is h = absurd is
+ends a b run old new RoundLimit is h = h
+ends a b run old new PastValueLimit is h = absurd is
+ends a b run old new EndNoMemory is h = absurd is
+
+-- what a thread's end keeps
+pub same_kept : (w new : Runner) → new ≡ record w { trace = new.trace } → IsSameThread w new
+same_kept w new kept = record { plan = ap (λ r. r.plan.now) kept; thread = ap (λ r. r.thread) kept; pause = ap (λ r. r.pause) kept; owed = ap (λ r. r.owed) kept }
+
+-- the run is over, and the trace says so
+pub over_at : (a b : Account) (run : Run (Unit {0})) (w new : Runner) (end : End) → Goes a run (Ended end ∷ []) (over tt) b → IsSameThread w new
+    → new.trace.items ≡ w.trace.items ++ EndedItem end ∷ [] → IsOver a b run (standing_of w false) (standing_of new true) end
+over_at a b run w new end goes same items = record {
+  goes = goes;
+  new_is = rw (same.plan, same.thread, same.pause, same.owed, items) refl;
 }
 
-pub none_left : (here : Here) (run : Run Ending) (units rounds : ℕ) (fs : List Frame) (number : ℕ) → units ≡ 0
-    → RunsSampler here run (state units rounds) fs number → IsOver run (state units rounds) SampleLimit
-none_left here run units rounds fs number h =
-    subst (λ n. RunsSampler here run (state n rounds) fs number → IsOver run (state n rounds) SampleLimit) (sym h) (no_unit here run rounds fs number)
+-- the thread's rounds are over
+pub finished : (a b : Account) (w mid new : Runner) (s : State) (end : End) (move : Move) (step : Step) → move ≡ Finished end → IsFinish end
+    → Goes a (left_to w) [] (moved mid.plan.now mid.machine s move) b
+    → mid ≡ record w { begun = mid.begun; user = mid.user; machine = mid.machine } → new ≡ record mid { trace = new.trace } → new.trace.items ≡ mid.trace.items ++ EndedItem end ∷ []
+    → step ≡ EndedStep end → Gives a b (and_end (left_to w)) (standing_of w false) (standing_of new (is_end step)) step
+finished a b w mid new s end move step move_is is goes mid_is new_is items step_is =
+    let same : IsSameThread mid new = same_kept mid new new_is in
+    let at_end : Goes a (left_to w) [] (over (ended end s)) b = subst (λ k. Goes a (left_to w) [] (moved mid.plan.now mid.machine s k) b) move_is goes in
+    let done : IsOver a b (and_end (left_to w)) (standing_of w false) (standing_of new true) end =
+    over_at a b (and_end (left_to w)) w new end (finish_goes a b (left_to w) s end is at_end)
+    (record {
+      plan = same.plan ∙ ap (λ r. r.plan.now) mid_is;
+      thread = same.thread ∙ ap (λ r. r.thread) mid_is;
+      pause = same.pause ∙ ap (λ r. r.pause) mid_is;
+      owed = same.owed ∙ ap (λ r. r.owed) mid_is;
+    }) (items ∙ ap (λ r. r.trace.items ++ EndedItem end ∷ []) mid_is) in
+    subst (λ k. Gives a b (and_end (left_to w)) (standing_of w false) (standing_of new (is_end k)) k) (sym step_is)
+    (ends a b (and_end (left_to w)) (standing_of w false) (standing_of new true) end is done)
 
--- a sampler's event, and what is left behind it
-abbrev event_of : ℕ → Option Sample → Event
-event_of number None = Nothing number
-event_of number (Some sample) = Sampled Sampler sample
+-- ---- a step behind what came before it
 
-always : (ok : Bool) → after_sample ok Normal ≡ Normal
-always true = refl
-always false = refl
+ends_behind : (a m b : Account) (run run' : Run (Unit {0})) (w : Standing) (begun : Bool) (user : UserState) (machine : Machine) (new : Standing) (end : End) → Goes a run [] run' m
+    → Ends m b run' (record w { begun = begun; user = user; machine = machine }) new end → Ends a b run w new end
+ends_behind a m b run run' w begun user machine new Completed go g = record { goes = goes-append go g.goes; new_is = g.new_is }
+ends_behind a m b run run' w begun user machine new StopThread go g = record { goes = goes-append go g.goes; new_is = g.new_is }
+ends_behind a m b run run' w begun user machine new StopTest go g = record { goes = goes-append go g.goes; new_is = g.new_is }
+ends_behind a m b run run' w begun user machine new Stopped go g = g
+ends_behind a m b run run' w begun user machine new SampleLimit go g = record { goes = goes-append go g.goes; new_is = g.new_is }
+ends_behind a m b run run' w begun user machine new RoundLimit go g = record { goes = goes-append go g.goes; new_is = g.new_is }
+ends_behind a m b run run' w begun user machine new PastValueLimit go g = record { goes = goes-append go g.goes; new_is = g.new_is }
+ends_behind a m b run run' w begun user machine new EndNoMemory go g = record { left = g.left; goes = goes-append go g.goes; new_is = g.new_is }
 
-given : (here : Here) (a : Account) (number : ℕ) (s : State) (o : Option Sample) → Goes a (given_sample number (at_failure here) s o) (event_of number o ∷ []) (over (normal s)) a
-given here a number s None = goes-give a (Nothing number) (over (normal s))
-given here a number s (Some sample) = subst (λ signal. Goes a (give (Sampled Sampler sample) (over (record { state = s; signal = signal }))) (Sampled Sampler sample ∷ []) (over (normal s)) a) (sym (always sample.ok))
-    (goes-give a (Sampled Sampler sample) (over (normal s)))
+step_behind : (a m b : Account) (run run' : Run (Unit {0})) (w : Standing) (begun : Bool) (user : UserState) (machine : Machine) (new : Standing) (step : Step) → Goes a run [] run' m
+    → Gives m b run' (record w { begun = begun; user = user; machine = machine }) new step → Gives a b run w new step
+step_behind a m b run run' w begun user machine new (SampledStep entry) go g = record {
+  sample = g.sample;
+  number = g.number;
+  sampler = g.sampler;
+  goes = goes-append go g.goes;
+  entry_is = g.entry_is;
+  unit = g.unit;
+  new_is = g.new_is;
+}
+step_behind a m b run run' w begun user machine new NullStep go g = record {
+  number = g.number;
+  label = g.label;
+  sampler = g.sampler;
+  goes = goes-append go g.goes;
+  unit = g.unit;
+  new_is = g.new_is;
+}
+step_behind a m b run run' w begun user machine new (Enter lock) go g = g
+step_behind a m b run run' w begun user machine new (Leave lock) go g = g
+step_behind a m b run run' w begun user machine new (EndedStep end) go g = ends_behind a m b run run' w begun user machine new end go g
 
--- a unit is used and the sampler has run
-ran : (here : Here) (a b : Account) (run : Run Ending) (units rounds : ℕ) (fs : List Frame) (number : ℕ) (r : RunsSampler here run (state (suc units) rounds) fs number) (o : Option Sample)
-    → Goes a (sampled (label_of here.plan.elements r.element.name) number (request_of r.element.kind)) [] (over o) b
-    → Goes a (and_end run) (event_of number o ∷ []) (and_end (rest_of here r.led.depth fs (over (normal (state units rounds))))) b
-ran here a b run units rounds fs number r o g =
-    let label : ℕ = label_of here.plan.elements r.element.name in
-    let q : List ℕ = request_of r.element.kind in
-    let one : Goes a (sampling label number q (at_failure here) (state units rounds)) [] (given_sample number (at_failure here) (state units rounds) o) b = goes-bind _ g in
-    let two : Goes a (sampling label number q (at_failure here) (state units rounds)) (event_of number o ∷ []) (over (normal (state units rounds))) b =
-    goes-append one (given here b number (state units rounds) o) in
-    rw r.led.same (goes_left here r.led.depth fs two)
+-- the sampler that the move names
+pub gives_behind : (a m b : Account) (w mid new : Runner) (s : State) (move : Move) (number : ℕ) (step : Step) → move ≡ RunSampler number
+    → Goes a (left_to w) [] (moved mid.plan.now mid.machine s move) m → mid ≡ record w { begun = mid.begun; user = mid.user; machine = mid.machine }
+    → Gives m b (and_end (moved mid.plan.now mid.machine s (RunSampler number))) (standing_of mid false) (standing_of new (is_end step)) step
+    → Gives a b (and_end (left_to w)) (standing_of w false) (standing_of new (is_end step)) step
+gives_behind a m b w mid new s move number step move_is goes mid_is g =
+    let run' : Run Ending = moved mid.plan.now mid.machine s (RunSampler number) in
+    let at_sampler : Goes a (left_to w) [] run' m = subst (λ k. Goes a (left_to w) [] (moved mid.plan.now mid.machine s k) m) move_is goes in
+    step_behind a m b (and_end (left_to w)) (and_end run') (standing_of w false) mid.begun mid.user mid.machine (standing_of new (is_end step)) step
+    (goes-bind (λ e. give (Ended (end_of e.signal)) (over tt)) at_sampler)
+    (subst (λ v. Gives m b (and_end run') v (standing_of new (is_end step)) step) (ap (λ r. standing_of r false) mid_is) g)
 
-abbrev run_of : Runner → Run Ending
-run_of w = rest_of (here_of w.plan.now w.thread) (depth_of w) w.machine.stack (over (normal (state w.units w.machine.rounds)))
+pub refused_behind : (a m b : Account) (w mid new : Runner) (s : State) (move : Move) (number : ℕ) (error : VarError) → move ≡ RunSampler number
+    → Goes a (left_to w) [] (moved mid.plan.now mid.machine s move) m → mid ≡ record w { begun = mid.begun; user = mid.user; machine = mid.machine }
+    → IsRefusedAt m (moved mid.plan.now mid.machine s (RunSampler number)) b mid new error → IsRefusedAt a (left_to w) b w new error
+refused_behind a m b w mid new s move number error move_is goes mid_is r = record {
+  state = r.state;
+  refused = refused-first (subst (λ k. Goes a (left_to w) [] (moved mid.plan.now mid.machine s k) m) move_is goes) r.refused;
+  same = record {
+    plan = r.same.plan ∙ ap (λ r. r.plan.now) mid_is;
+    thread = r.same.thread ∙ ap (λ r. r.thread) mid_is;
+    pause = r.same.pause ∙ ap (λ r. r.pause) mid_is;
+    owed = r.same.owed ∙ ap (λ r. r.owed) mid_is;
+  };
+  trace = r.trace ∙ ap (λ r. r.trace) mid_is;
+}
 
--- an end that the meaning gives is no want of memory and no stop
-ends : (a b : Account) (old new : Standing) (end : End) → is_given end ≡ true → Over a b old new end → Ends a b old new end
-ends a b old new Completed g h = h
-ends a b old new StopThread g h = h
-ends a b old new StopTest g h = h
-ends a b old new Stopped g h = absurd (cc)
-ends a b old new SampleLimit g h = h
-ends a b old new RoundLimit g h = h
-ends a b old new ValueLimit g h = h
-ends a b old new NoMemory g h = absurd (cc)
+-- ---- a refusal
 
--- the thread has ended
-pub finished : (a : Account) (w new : Runner) (s : State) (end : End) (step : Step) → IsOver (run_of w) s end → w.owed ≡ None → step ≡ EndedStep end
-    → IsSameThread w new → new.units ≡ w.units → new.owed ≡ w.owed → new.trace.items ≡ w.trace.items ++ EndedItem end ∷ [] → w.pause ≡ 0
-    → Gives a a (standing_of w false) (standing_of new (is_end step)) step
-finished a w new s end step is none step_is same units owed items paused =
-    rw step_is (ends a a (standing_of w false) (standing_of new true) end is.given (record {
-      goes = subst (λ n. Goes a (behind_pause n (and_end (run_of w))) (Ended end ∷ []) (over tt) a) (sym paused) (over_ends a (run_of w) s end is);
-      new_is = rw (same.plan, same.thread, same.pause, units, owed, items) refl;
-    }))
+limit_of : {A : Type 0} (a b : Account) (run limit : Run A) (error : VarError) → error ≡ ValueLimit → Refused a run b limit error → Goes a run [] limit b
+limit_of a b run limit error is (by_limit g) = g
+limit_of a b run limit error is (by_memory h) = absurd (cc)
 
--- ---- the pause before the first round
+memory_of : {A : Type 0} (a b : Account) (run limit : Run A) (error : VarError) → error ≡ NoMemory → Refused a run b limit error → (left : Run A) × Goes a run [] left b
+memory_of a b run limit error is (by_limit g) = absurd (cc)
+memory_of a b run limit error is (by_memory h) = h
+
+-- past a limit the thread ends
+pub past_the_limit : (a b : Account) (w mid new : Runner) (error : VarError) (step : Step) → w.pause ≡ 0 → error ≡ ValueLimit → IsRefusedAt a (left_to w) b w mid error
+    → new ≡ record mid { trace = new.trace } → new.trace.items ≡ mid.trace.items ++ EndedItem PastValueLimit ∷ [] → step ≡ EndedStep PastValueLimit
+    → Gives a b (rest (standing_of w false)) (standing_of w false) (standing_of new (is_end step)) step
+past_the_limit a b w mid new error step paused is r new_is items step_is =
+    let same : IsSameThread mid new = same_kept mid new new_is in
+    let stop : Goes a (left_to w) [] (past r.state) b = limit_of a b (left_to w) (past r.state) error is r.refused in
+    let goes : Goes a (rest (standing_of w false)) (Ended PastValueLimit ∷ []) (over tt) b =
+    subst (λ k. Goes a k (Ended PastValueLimit ∷ []) (over tt) b) (sym (rest_on w paused)) (end_goes a b (left_to w) r.state PastValueLimit stop) in
+    subst (λ k. Gives a b (rest (standing_of w false)) (standing_of w false) (standing_of new (is_end k)) k) (sym step_is)
+    (over_at a b (rest (standing_of w false)) w new PastValueLimit goes
+    (record {
+      plan = same.plan ∙ r.same.plan;
+      thread = same.thread ∙ r.same.thread;
+      pause = same.pause ∙ r.same.pause;
+      owed = same.owed ∙ r.same.owed;
+    }) (items ∙ ap (λ t. t.items ++ EndedItem PastValueLimit ∷ []) r.trace))
+
+-- for want of memory it is cut
+pub cut_there : (a b : Account) (w mid : Runner) (error : VarError) → w.pause ≡ 0 → error ≡ NoMemory → IsRefusedAt a (left_to w) b w mid error → IsCutAt a b w mid
+cut_there a b w mid error paused is r =
+    let h : (left : Run Ending) × Goes a (left_to w) [] left b = memory_of a b (left_to w) (past r.state) error is r.refused in
+    record {
+      left = and_end h.0;
+      goes = subst (λ k. Goes a k [] (and_end h.0) b) (sym (rest_on w paused)) (goes-bind (λ e. give (Ended (end_of e.signal)) (over tt)) h.1);
+      same = r.same;
+      items = ap (λ t. t.items) r.trace;
+    }
+
+-- ---- the pause before the first variables
 
 pause_goes : (a b : Account) (run : Run (Unit {0})) (ms : ℕ) → (ms ≡ 0 → ⊥) → Goes {A = Unit {0}} a (wait ms (over tt)) [] (over tt) b
     → Goes a (behind_pause ms run) (Waited ms ∷ []) run b
@@ -140,163 +260,79 @@ pub has_begun : (a b : Account) (w new : Runner) → (w.pause ≡ 0 → ⊥) →
     → new ≡ record w { pause = 0; trace = new.trace } → new.trace.items ≡ w.trace.items ++ PausedItem w.pause ∷ [] → IsBegun a b w new
 has_begun a b w new some g kept items = record {
   begins = inl (subst (λ n. HasPaused a b (standing_of w false) (standing_of n false)) (sym kept)
-      (record { goes = pause_goes a b (and_end (run_of w)) w.pause some g; new_is = rw items refl }));
+      (record { goes = pause_goes a b (and_end (left_to w)) w.pause some g; new_is = rw items refl }));
   kept = kept;
 }
 
-pub cut_before : (a b : Account) (w new : Runner) → TellsNothing a b → IsSameThread w new → new.trace.items ≡ w.trace.items → new.owed ≡ w.owed → IsCutBehind a b w new
-cut_before a b w new still same items owed = record {
+pub cut_before : (a b : Account) (w new : Runner) → TellsNothing a b → IsSameThread w new → new.trace.items ≡ w.trace.items → IsCutBehind a b w new
+cut_before a b w new still same items = record {
   begun = a;
   between = w;
   begins = inr (record { account = refl; standing = refl });
-  cut = record { rest = left_of w; goes = goes-tells_nothing (goes-nothing a (left_of w)) still; same = same; items = items; owed = owed };
+  cut = record { left = rest (standing_of w false); goes = goes-tells_nothing (goes-nothing a (rest (standing_of w false))) still; same = same; items = items };
 }
 
-pub cut_at_once : (a : Account) (w new : Runner) → IsSameThread w new → new.trace.items ≡ w.trace.items → new.owed ≡ w.owed → IsCutBehind a a w new
-cut_at_once a w new same items owed = record {
+pub cut_at_once : (a : Account) (w new : Runner) → IsSameThread w new → new.trace.items ≡ w.trace.items → IsCutBehind a a w new
+cut_at_once a w new same items = record {
   begun = a;
   between = w;
   begins = inr (record { account = refl; standing = refl });
-  cut = record { rest = left_of w; goes = goes-nothing a (left_of w); same = same; items = items; owed = owed };
+  cut = record { left = rest (standing_of w false); goes = goes-nothing a (rest (standing_of w false)); same = same; items = items };
 }
 
 -- a thread that was cut has ended for want of memory
-pub cut_ended : (a b : Account) (w new : Runner) (t : Recorded) → IsCutBehind a b w new → t.items ≡ new.trace.items ++ EndedItem NoMemory ∷ []
-    → Steps a b (standing_of w false) (standing_of (record new { trace = t }) true) (EndedStep NoMemory)
+pub cut_ended : (a b : Account) (w new : Runner) (t : Recorded) → IsCutBehind a b w new → t.items ≡ new.trace.items ++ EndedItem EndNoMemory ∷ []
+    → Steps a b (standing_of w false) (standing_of (record new { trace = t }) true) (EndedStep EndNoMemory)
 cut_ended a b w new t h items = record {
   begun = h.begun;
   between = standing_of h.between false;
   begins = h.begins;
   gives = record {
-    left = h.cut.rest;
+    left = h.cut.left;
     goes = h.cut.goes;
-    new_is = rw (h.cut.same.plan, h.cut.same.thread, h.cut.same.pause, h.cut.owed, items, h.cut.items) refl;
+    new_is = rw (h.cut.same.plan, h.cut.same.thread, h.cut.same.pause, h.cut.same.owed, items, h.cut.items) refl;
   };
 }
 
-module _ (a b : Account) (w : Runner) (paused : w.pause ≡ 0) (m : Machine) (number : ℕ) (units : w.units ≡ 0 → ⊥)
-    (r : RunsSampler (here_of w.plan.now w.thread) (run_of w) (state w.units m.rounds) m.stack number) where
-  abbrev here : Here
-  here = here_of w.plan.now w.thread
+-- ---- a thread before its first step
 
-  abbrev label : ℕ
-  label = label_of w.plan.now.elements r.element.name
+pub first_is : (plan : Tree) (thread : ℕ) (options : Options) (t : Thread) (vars : Variables) (fns : Functions) (stream rounds : ℕ) → slice_get (threads_of plan) thread ≡ Some t
+    → vars ≡ [] → fns ≡ first_functions options.props t.number stream options.seed → stream ≡ thread → rounds ≡ max_rounds
+    → state_of (record { vars = vars; fns = fns }) (record { units = options.budget; rounds = rounds }) ≡ first_of plan thread options
+first_is plan thread options t vars fns stream rounds there vars_are fns_are stream_is rounds_are =
+    let number : unwrap_or (option_map (λ (t : Thread). t.number) (slice_get (threads_of plan) thread)) 0 ≡ t.number = ap (λ o. unwrap_or (option_map (λ (t : Thread). t.number) o) 0) there in
+    ap (λ vs. state_of (record { vars = vs; fns = fns }) (record { units = options.budget; rounds = rounds })) vars_are
+    ∙ ap (λ f. state_of (record { vars = []; fns = f }) (record { units = options.budget; rounds = rounds })) fns_are
+    ∙ ap (λ n. state_of (record { vars = []; fns = first_functions options.props t.number n options.seed }) (record { units = options.budget; rounds = rounds })) stream_is
+    ∙ ap (λ n. state_of (record { vars = []; fns = first_functions options.props t.number thread options.seed }) (record { units = options.budget; rounds = n })) rounds_are
+    ∙ ap (λ n. state_of (record { vars = []; fns = first_functions options.props n thread options.seed }) (record { units = options.budget; rounds = max_rounds })) (sym number)
 
-  abbrev request : List ℕ
-  request = request_of r.element.kind
+module _ (w : Runner) (options : Options) (pause : w.pause ≡ pause_of w.plan.now w.thread) (begun : w.begun ≡ false)
+    (first : state_in (standing_of w false) ≡ first_of w.plan.now w.thread options)
+    (whole : (user : UserState) (own : Own) → own.rounds ≡ max_rounds
+    → left_of w.plan.now w.machine (state_of user own)
+    ≡ group_part (here_at w.plan.now (group_of w.plan.now w.thread)) (slice_get w.plan.now.elements (group_of w.plan.now w.thread)) (state_of user own)) where
+  abbrev group : ℕ
+  group = group_of w.plan.now w.thread
 
-  some_units : w.units ≡ suc (w.units - 1)
-  some_units = omega arith
+  part_is : left_to w ≡ thread_part w.plan.now group (first_of w.plan.now w.thread options)
+  part_is =
+      left_first w begun
+      ∙ ap (λ s. and_then (set_first w.plan.now.elements s) (left_of w.plan.now w.machine)) first
+      ∙ first_alike (record { units = options.budget; rounds = max_rounds }) w.plan.now.elements (left_of w.plan.now w.machine)
+      (group_part (here_at w.plan.now group) (slice_get w.plan.now.elements group))
+      (λ user. whole user (record { units = options.budget; rounds = max_rounds }) refl) (first_of w.plan.now w.thread options).user
 
-  with_units : RunsSampler here (run_of w) (state (suc (w.units - 1)) m.rounds) m.stack number
-  with_units = record {
-    element = r.element;
-    there = r.there;
-    samples = r.samples;
-    led = subst (λ n. Led here (run_of w) (state n m.rounds) m.stack (λ s. with_unit s (sampling label number request (at_failure here)))) some_units r.led;
-  }
+  whole_is : rest (standing_of w false) ≡ events w.plan.now w.thread options
+  unfolding events
+  whole_is = ap (λ n. behind_pause n (and_end (left_to w))) pause ∙ ap (λ r. behind_pause (pause_of w.plan.now w.thread) (and_end r)) part_is
 
-  depth_is : with_units.led.depth ≡ 31 - length m.stack
-  depth_is = omega (arith, height w.plan.now.elements max_rounds with_units.led.depth m.rounds m.stack with_units.led.open_)
-
-  abbrev after : Option Sample → Recorded → Runner
-  after o t = record w { machine = m; units = w.units - 1; owed = o; trace = t }
-
-  goes_on : (o : Option Sample) (t : Recorded) → Goes a (sampled label number request) [] (over o) b → Goes a (left_of w) (event_of number o ∷ []) (left_of (after o t)) b
-  unfolding with_units
-  goes_on o t g =
-      let one = ran here a b (run_of w) (w.units - 1) m.rounds m.stack number with_units o g in
-      let two = subst (λ d. Goes a (and_end (run_of w)) (event_of number o ∷ []) (and_end (rest_of here d m.stack (over (normal (state (w.units - 1) m.rounds))))) b) depth_is one in
-      subst (λ n. Goes a (behind_pause n (and_end (run_of w))) (event_of number o ∷ [])
-      (behind_pause n (and_end (rest_of here (31 - length m.stack) m.stack (over (normal (state (w.units - 1) m.rounds)))))) b) (sym paused) two
-
-  sampler_is : (l : ℕ) → l ≡ label → IsSampler w.plan.now number l
-  sampler_is l is = record { element = r.element; there = r.there; class_is = sampler_class r.element.kind r.samples; label_is = is }
-
-  by_sample : (o : Option Sample) (t : Recorded) → w.owed ≡ None → Goes a (sampled label number request) [] (over o) b → IfSome o (λ s. s.label ≡ label)
-      → t.items ≡ w.trace.items ++ items_of number o
-      → Gives a b (standing_of w false) (standing_of (after o t) (is_end (step_of o))) (step_of o)
-  by_sample None t none g labelled items = record {
-    number = number;
-    label = label;
-    sampler = sampler_is label refl;
-    goes = goes_on None t g;
-    unit = omega (arith, some_units);
-    new_is = rw (none, items) refl;
-  }
-  by_sample (Some sample) t none g labelled items = record {
-    sample = sample;
-    number = number;
-    sampler = sampler_is sample.label labelled;
-    goes = goes_on (Some sample) t g;
-    entry_is = refl;
-    unit = omega (arith, some_units);
-    new_is = rw (items, append-nil w.trace.items) refl;
-  }
-
-  -- a sampler has run
-  pub gave : (new : Runner) (made : Recorded) (step : Step) → w.owed ≡ None → made.items ≡ w.trace.items
-      → RanOne a b (record w { machine = m; trace = made }) label number request step new
-      → Gives a b (standing_of w false) (standing_of new (is_end step)) step
-  gave new made step none same one =
-      let at = by_sample one.sample new.trace none one.goes one.labelled (one.items ∙ ap (λ xs. xs ++ items_of number one.sample) same) in
-      rw one.step_is (subst (λ n. Gives a b (standing_of w false) (standing_of n (is_end (step_of one.sample))) (step_of one.sample)) (sym one.kept) at)
-
-  open_at : AreOpen w.plan.now.elements max_rounds (31 - length m.stack) m.rounds m.stack
-  open_at = subst (λ d. AreOpen w.plan.now.elements max_rounds d m.rounds m.stack) depth_is with_units.led.open_
-
-  on_by_sample : (o : Option Sample) (t : Recorded) → 2 ≤ t.room + length (items_of number o) → GoesOnBehind (after o t) (step_of o)
-  on_by_sample None t room = record { room = omega arith; open_ = open_at }
-  on_by_sample (Some sample) t room = record { room = omega arith; open_ = open_at }
-
-  pub gave_on : (new : Runner) (made : Recorded) (step : Step) → 2 ≤ made.room → RanOne a b (record w { machine = m; trace = made }) label number request step new → GoesOnBehind new step
-  gave_on new made step room one =
-      let at = on_by_sample one.sample new.trace (omega (arith, one.room, room)) in
-      rw one.step_is (subst (λ n. GoesOnBehind n (step_of one.sample)) (sym one.kept) at)
-
-  -- the sampler was cut on its way
-  pub cut_sampler : (new : Runner) → LeftOf a label number request b → IsSameThread w new → new.trace.items ≡ w.trace.items → new.owed ≡ w.owed → IsCutAt a b w new
-  unfolding with_units
-  cut_sampler new left same items owed =
-      let u : ℕ = w.units - 1 in
-      let inside : Goes a (sampling label number request (at_failure here) (state u m.rounds)) [] (left.0 >>= given_sample number (at_failure here) (state u m.rounds)) b = goes-bind _ left.1 in
-      let on : Goes a (and_end (run_of w)) [] (and_end (rest_of here with_units.led.depth m.stack (left.0 >>= given_sample number (at_failure here) (state u m.rounds)))) b =
-      rw with_units.led.same (goes_left here with_units.led.depth m.stack inside) in
-      let all = subst (λ n. Goes a (behind_pause n (and_end (run_of w))) [] (and_end (rest_of here with_units.led.depth m.stack (left.0 >>= given_sample number (at_failure here) (state u m.rounds)))) b) (sym paused) on in
-      record { rest = _; goes = all; same = same; items = items; owed = owed }
-
--- nothing was heard since
-pub cut_still : (a : Account) (w new : Runner) → IsSameThread w new → new.trace.items ≡ w.trace.items → new.owed ≡ w.owed → IsCutAt a a w new
-cut_still a w new same items owed = record { rest = left_of w; goes = goes-nothing a (left_of w); same = same; items = items; owed = owed }
-
--- a thread before its first step
-module _ (w : Runner) (group : ℕ) (number : group ≡ group_of w.plan.now w.thread) (pause : w.pause ≡ pause_of w.plan.now w.thread) (is : IsGroup w.plan.now.elements group)
-    (made : (e : Element) → slice_get w.plan.now.elements group ≡ Some e
-    → (w.machine.stack ≡ record { element = group; role = role_of e.kind; next = length e.children; round = 0; begun = 0 } ∷ []) × (w.machine.rounds ≡ max_rounds)) where
-  stack : w.machine.stack ≡ record { element = group; role = role_of is.element.kind; next = length is.element.children; round = 0; begun = 0 } ∷ []
-  stack = (made is.element is.there).0
-
-  rounds_are : w.machine.rounds ≡ max_rounds
-  rounds_are = (made is.element is.there).1
-
-  pub first_on : w.owed ≡ None → 1 ≤ w.trace.room → GoesOn w
-  first_on owed room = record {
-    room = rw owed room;
-    open_ = rw (stack, rounds_are) (record { below = rw is.there is.nests; round = omega arith }, refl);
-  }
-
-  first_left : left_of w ≡ events w.plan.now w.thread w.units
-  unfolding events rest_of meaning
-  first_left = rw (stack, rounds_are, ← number, pause) (sym (ap (λ r. behind_pause (pause_of w.plan.now w.thread) (and_end r))
-      (first (here_of w.plan.now w.thread) group 30 w.units max_rounds is.element is.loops is.on_error is.ramp_ms is.threads is.there is.kind)))
-
-  pub starts : w.owed ≡ None → w.trace.items ≡ [] → IsAtStart w.plan.now w.thread w.units (standing_of w false)
+  pub starts : w.owed ≡ None → w.trace.items ≡ [] → IsAtStart w.plan.now w.thread options (standing_of w false)
   starts owed items = record {
     plan_is = refl;
     thread_is = refl;
-    pause_is = pause;
-    units_are = refl;
-    left = first_left;
+    units_are = ap (λ s. s.own.units) first;
+    left = whole_is;
     owes_nothing = owed;
     no_items = items;
     goes_on = refl;
@@ -305,11 +341,3 @@ module _ (w : Runner) (group : ℕ) (number : group ≡ group_of w.plan.now w.th
 pub on_err : {X E : Type 0} (r : Result X E) (P : Type 0) → P → OnErr r P
 on_err (Ok x) P p = tt
 on_err (Err e) P p = p
-
-pub on_err_weaker : {X E : Type 0} (r : Result X E) (P Q : Type 0) → (P → Q) → OnErr r P → OnErr r Q
-on_err_weaker (Ok x) P Q f p = tt
-on_err_weaker (Err e) P Q f p = f p
-
-pub on_err_both : {X E : Type 0} (r : Result X E) (P Q R : Type 0) → (P → Q → R) → OnErr r P → OnErr r Q → OnErr r R
-on_err_both (Ok x) P Q R f p q = tt
-on_err_both (Err e) P Q R f p q = f p q

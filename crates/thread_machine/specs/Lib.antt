@@ -1,8 +1,4 @@
-pub mod Stack
-pub mod Turned
-pub mod Moves
 pub mod Recorded
-pub mod Load
 pub mod Bare
 pub mod Standing
 pub mod Stepped

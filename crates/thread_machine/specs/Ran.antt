@@ -1,16 +1,24 @@
 -- What the parts of a step say of a worker's fields.
-use Rattle.std.specs.Prelude.{◌≡◌, ℕ, ◌+◌, ◌-◌, ◌≤◌, Bool, true, false, List, [], ◌∷◌, ◌++◌, length, Option, Some, None, IfSome}
-use Rattle.jm_base.specs.declared.types.Sample.{Sample}
-use Rattle.jm_base.specs.Run.{Run, over}
+use Rattle.std.specs.Prelude.{◌≡◌, Bool, true, false, List, [], None}
+use Rattle.jm_base.specs.Run.{Run}
 use Rattle.jm_base.specs.Outside.{Account, Goes}
-use Rattle.jm_meaning.specs.Sampling.{sampled}
-use Rattle.thread_machine.specs.declared.trace.TraceItem.{TraceItem}
-use Rattle.thread_machine.specs.declared.trace.TraceItem.TheVariants.{Null as NullItem}
+use Rattle.template_text.specs.Pieces.{Pieces}
+use Rattle.var_functions.specs.declared.error.VarError.{VarError}
+use Rattle.var_functions.specs.Came.{Refused}
+use Rattle.element_tree.specs.declared.kinds.Element.{Element}
+use Rattle.element_tree.specs.declared.kinds.Kind.{Kind}
+use Rattle.element_tree.specs.declared.kinds.Kind.TheVariants.{Script}
+use Rattle.jm_meaning.specs.State.{State, Ending}
+use Rattle.control_machine.specs.declared.moves.Move.{Move}
+use Rattle.control_machine.specs.declared.moves.Move.TheVariants.{Iteration, RunSampler, EnterSection, LeaveSection, TransactionSample, Finished}
+use Rattle.control_machine.specs.Moves.{past}
+use Rattle.control_machine.specs.Left.{IsSampler, IsFinish}
 use Rattle.thread_machine.specs.declared.runner.Runner.{Runner}
 use Rattle.thread_machine.specs.declared.step.Step.{Step}
 use Rattle.thread_machine.specs.declared.step.Step.TheVariants.{Sampled, Null, Enter, Leave, Ended}
-use Rattle.thread_machine.specs.Stepped.{entry_of, Begins}
-use Rattle.thread_machine.specs.Inside.{standing_of, left_of, GoesOn}
+use Rattle.thread_machine.specs.Standing.{rest, part_left}
+use Rattle.thread_machine.specs.Stepped.{Begins}
+use Rattle.thread_machine.specs.Inside.{standing_of, GoesOn}
 
 abbrev pub is_end : Step → Bool
 is_end (Sampled entry) = false
@@ -19,40 +27,46 @@ is_end (Enter lock) = false
 is_end (Leave lock) = false
 is_end (Ended end) = true
 
--- what is answered for a sampler's sample, and what the trace gets at once
-abbrev pub step_of : Option Sample → Step
-step_of None = Null
-step_of (Some sample) = Sampled (entry_of sample)
+-- the moves that end a step: a sampler runs, or the thread's rounds are over
+abbrev pub IsTaken : List Element → Move → Type 0
+IsTaken elements (Iteration index) = ⊥
+IsTaken elements (RunSampler number) = IsSampler elements number
+IsTaken elements (EnterSection lock) = ⊥
+IsTaken elements (LeaveSection lock) = ⊥
+IsTaken elements (TransactionSample element tally) = ⊥
+IsTaken elements (Finished end) = IsFinish end
 
-abbrev pub items_of : ℕ → Option Sample → List TraceItem
-items_of number None = NullItem number ∷ []
-items_of number (Some sample) = []
+-- this is what a Script sampler asks for
+abbrev pub IsRequest : Pieces → Kind → Type 0
+IsRequest asks (Script replies request) = asks ≡ request
+IsRequest asks kind = ⊥
 
--- one sampler has run
-pub record RanOne (before after : Account) (old : Runner) (label number : ℕ) (request : List ℕ) (step : Step) (new : Runner) : Type 0 where
-  pub sample : Option Sample
-  pub goes : Goes before (sampled label number request) [] (over sample) after
-  pub labelled : IfSome sample (λ s. s.label ≡ label)
-  pub kept : new ≡ record old { units = old.units - 1; owed = sample; trace = new.trace }
-  pub step_is : step ≡ step_of sample
-  pub items : new.trace.items ≡ old.trace.items ++ items_of number sample
-  pub room : old.trace.room ≤ new.trace.room + length (items_of number sample)
+-- what is left of a thread's part of the plan
+abbrev pub left_to : Runner → Run Ending
+left_to r = part_left (standing_of r false)
 
--- the plan and the thread of a worker stay, and the pause that is still to come
+-- the plan and the thread of a worker stay, the pause that is still to come, and the sample that is owed
 pub record IsSameThread (old new : Runner) : Type 0 where
   pub plan : new.plan.now ≡ old.plan.now
   pub thread : new.thread ≡ old.thread
   pub pause : new.pause ≡ old.pause
+  pub owed : new.owed ≡ old.owed
+
+-- The run was refused on its way: past a limit, or cut for want of memory. The trace stays, and what is owed to it.
+pub record IsRefusedAt (before : Account) (run : Run Ending) (after : Account) (old new : Runner) (error : VarError) : Type 0 where
+  pub state : State
+  pub refused : Refused before run after (past state) error
+  pub same : IsSameThread old new
+  pub trace : new.trace ≡ old.trace
 
 -- nothing was given, and the run was cut somewhere on its way
 pub record IsCutAt (before after : Account) (old new : Runner) : Type 0 where
-  pub rest : Run (Unit {0})
-  pub goes : Goes before (left_of old) [] rest after
+  pub left : Run (Unit {0})
+  pub goes : Goes before (rest (standing_of old false)) [] left after
   pub same : IsSameThread old new
   pub items : new.trace.items ≡ old.trace.items
-  pub owed : new.owed ≡ old.owed
 
--- the pause before the first round, which belongs to the worker
+-- the pause before the first variables, which belongs to the worker
 pub record IsBegun (before after : Account) (old new : Runner) : Type 0 where
   pub begins : Begins before after (standing_of old false) (standing_of new false)
   pub kept : new ≡ record old { pause = 0; trace = new.trace }

@@ -1,9 +1,10 @@
 -- How a thread's trace stands behind a step.
-use Rattle.std.specs.Prelude.{◌≡◌, ℕ, List, [], ◌++◌, map, Some}
+use Rattle.std.specs.Prelude.{◌≡◌, List, [], ◌++◌, map, Some}
 use Rattle.jm_base.specs.declared.types.Heard.{Heard}
 use Rattle.jm_base.specs.Run.{over_value}
 use Rattle.jm_base.specs.Outside.{Account, list_form}
 use Rattle.jm_meaning.specs.declared.item.Item.{Item}
+use Rattle.jm_meaning.specs.Beginning.{Options}
 use Rattle.jm_meaning.specs.Meaning.{events}
 use Rattle.jm_meaning.specs.Shown.{shown}
 use Rattle.thread_machine.specs.declared.step.Step.{Step}
@@ -13,19 +14,19 @@ use Rattle.thread_machine.specs.Standing.{Standing, owed_items, Stands}
 use Rattle.thread_machine.specs.Follows.{HasRun}
 
 -- until the thread has ended it stands as before; then its trace is that of a thread that has run
-abbrev pub StandsBehind : Account → Account → ℕ → Standing → Standing → Step → Type 0
-StandsBehind start now budget old new (Sampled entry) = Stands start now budget new
-StandsBehind start now budget old new Null = Stands start now budget new
-StandsBehind start now budget old new (Enter lock) = ⊥
-StandsBehind start now budget old new (Leave lock) = ⊥
-StandsBehind start now budget old new (Ended end) = HasRun start now old.plan old.thread budget new.trace end
+abbrev pub StandsBehind : Account → Account → Options → Standing → Standing → Step → Type 0
+StandsBehind start now options old new (Sampled entry) = Stands start now options new
+StandsBehind start now options old new Null = Stands start now options new
+StandsBehind start now options old new (Enter lock) = ⊥
+StandsBehind start now options old new (Leave lock) = ⊥
+StandsBehind start now options old new (Ended end) = HasRun start now old.plan old.thread options new.trace end
 
 -- Over what the outside was told since the thread began, the events begin with the bare trace and the sample that is owed.
-pub record IsFront (told : List Heard) (budget : ℕ) (w : Standing) : Type 0 where
+pub record IsFront (told : List Heard) (options : Options) (w : Standing) : Type 0 where
   pub more : List Item
-  pub items : map shown (over_value list_form (events w.plan w.thread budget) told).events ≡ (bare w.trace ++ owed_items w.owed) ++ more
+  pub items : map shown (over_value list_form (events w.plan w.thread options) told).events ≡ (bare w.trace ++ owed_items w.owed) ++ more
 
 -- A thread that stands shows a front of its events over what was told.
 abbrev pub ShowsAFront : Type 0
-ShowsAFront = (start now : Account) (budget : ℕ) (w : Standing) → Stands start now budget w → start.told ≡ Some []
-    → (told : List Heard) × (now.told ≡ Some told) × IsFront told budget w
+ShowsAFront = (start now : Account) (options : Options) (w : Standing) → Stands start now options w → start.told ≡ Some []
+    → (told : List Heard) × (now.told ≡ Some told) × IsFront told options w

@@ -20,7 +20,7 @@ use Rattle.thread_machine.specs.Standing.{Standing, rest}
 abbrev pub entry_of : Sample → Entry
 entry_of s = record { label = s.label; ok = s.ok; elapsed = s.elapsed; bytes = s.bytes }
 
--- The pause before the first round has been made and is in the trace.
+-- The pause before the first variables has been made and is in the trace.
 pub record HasPaused (before after : Account) (old new : Standing) : Type 0 where
   pub goes : Goes before (rest old) (Waited old.pause ∷ []) (rest new) after
   pub new_is : new ≡ record old { pause = 0; trace = old.trace ++ PausedItem old.pause ∷ [] }
@@ -30,7 +30,7 @@ pub record IsStill (before after : Account) (old new : Standing) : Type 0 where
   pub account : after ≡ before
   pub standing : new ≡ old
 
--- the pause before the first round has been made, or nothing has happened yet
+-- the pause before the first variables has been made, or nothing has happened yet
 abbrev pub Begins : Account → Account → Standing → Standing → Type 0
 Begins before after old new = HasPaused before after old new ⊎ IsStill before after old new
 
@@ -42,56 +42,56 @@ pub record IsSampler (plan : Tree) (number label : ℕ) : Type 0 where
   pub label_is : label ≡ label_of plan.elements element.name
 
 -- a sampler of the plan has used a unit and given a sample, which is owed to the trace
-pub record GivesSample (before after : Account) (old new : Standing) (entry : Entry) : Type 0 where
+pub record GivesSample (before after : Account) (run : Run (Unit {0})) (old new : Standing) (entry : Entry) : Type 0 where
   pub sample : Sample
   pub number : ℕ
   pub sampler : IsSampler old.plan number sample.label
-  pub goes : Goes before (rest old) (Sampled Sampler sample ∷ []) (rest new) after
+  pub goes : Goes before run (Sampled Sampler sample ∷ []) (rest new) after
   pub entry_is : entry ≡ entry_of sample
   pub unit : 0 < old.units
-  pub new_is : new ≡ record old { units = old.units - 1; rounds = new.rounds; frames = new.frames; owed = Some sample }
+  pub new_is : new ≡ record old { begun = true; user = new.user; units = old.units - 1; machine = new.machine; owed = Some sample }
 
 -- a sampler of the plan has used a unit and given none, and the trace says so
-pub record GivesNone (before after : Account) (old new : Standing) : Type 0 where
+pub record GivesNone (before after : Account) (run : Run (Unit {0})) (old new : Standing) : Type 0 where
   pub number : ℕ
   pub label : ℕ
   pub sampler : IsSampler old.plan number label
-  pub goes : Goes before (rest old) (Nothing number ∷ []) (rest new) after
+  pub goes : Goes before run (Nothing number ∷ []) (rest new) after
   pub unit : 0 < old.units
-  pub new_is : new ≡ record old { units = old.units - 1; rounds = new.rounds; frames = new.frames; trace = old.trace ++ NullItem number ∷ [] }
+  pub new_is : new ≡ record old { begun = true; user = new.user; units = old.units - 1; machine = new.machine; trace = old.trace ++ NullItem number ∷ [] }
 
 -- the run is over, and the trace says how
-pub record IsOver (before after : Account) (old new : Standing) (end : End) : Type 0 where
-  pub goes : Goes before (rest old) (Ended end ∷ []) (over tt) after
-  pub new_is : new ≡ record old { rounds = new.rounds; frames = new.frames; trace = old.trace ++ EndedItem end ∷ []; ended = true }
+pub record IsOver (before after : Account) (run : Run (Unit {0})) (old new : Standing) (end : End) : Type 0 where
+  pub goes : Goes before run (Ended end ∷ []) (over tt) after
+  pub new_is : new ≡ record old { begun = new.begun; user = new.user; units = new.units; machine = new.machine; trace = old.trace ++ EndedItem end ∷ []; ended = true }
 
 -- memory was wanting: the run has given nothing more, was cut somewhere on its way, and the trace says so
-pub record IsCut (before after : Account) (old new : Standing) : Type 0 where
+pub record IsCut (before after : Account) (run : Run (Unit {0})) (old new : Standing) : Type 0 where
   pub left : Run (Unit {0})
-  pub goes : Goes before (rest old) [] left after
-  pub new_is : new ≡ record old { units = new.units; rounds = new.rounds; frames = new.frames; trace = old.trace ++ EndedItem NoMemory ∷ []; ended = true }
+  pub goes : Goes before run [] left after
+  pub new_is : new ≡ record old { begun = new.begun; user = new.user; units = new.units; machine = new.machine; trace = old.trace ++ EndedItem NoMemory ∷ []; ended = true }
 
-abbrev pub Ends : Account → Account → Standing → Standing → End → Type 0
-Ends before after old new Completed = IsOver before after old new Completed
-Ends before after old new StopThread = IsOver before after old new StopThread
-Ends before after old new StopTest = IsOver before after old new StopTest
-Ends before after old new Stopped = ⊥
-Ends before after old new SampleLimit = IsOver before after old new SampleLimit
-Ends before after old new RoundLimit = IsOver before after old new RoundLimit
-Ends before after old new ValueLimit = IsOver before after old new ValueLimit
-Ends before after old new NoMemory = IsCut before after old new
+abbrev pub Ends : Account → Account → Run (Unit {0}) → Standing → Standing → End → Type 0
+Ends before after run old new Completed = IsOver before after run old new Completed
+Ends before after run old new StopThread = IsOver before after run old new StopThread
+Ends before after run old new StopTest = IsOver before after run old new StopTest
+Ends before after run old new Stopped = ⊥
+Ends before after run old new SampleLimit = IsOver before after run old new SampleLimit
+Ends before after run old new RoundLimit = IsOver before after run old new RoundLimit
+Ends before after run old new ValueLimit = IsOver before after run old new ValueLimit
+Ends before after run old new NoMemory = IsCut before after run old new
 
--- what a step that answers so has done behind the pause
-abbrev pub Gives : Account → Account → Standing → Standing → Step → Type 0
-Gives before after old new (SampledStep entry) = GivesSample before after old new entry
-Gives before after old new NullStep = GivesNone before after old new
-Gives before after old new (Enter lock) = ⊥
-Gives before after old new (Leave lock) = ⊥
-Gives before after old new (EndedStep end) = Ends before after old new end
+-- what a step that answers so has done of this run, which was left behind the pause
+abbrev pub Gives : Account → Account → Run (Unit {0}) → Standing → Standing → Step → Type 0
+Gives before after run old new (SampledStep entry) = GivesSample before after run old new entry
+Gives before after run old new NullStep = GivesNone before after run old new
+Gives before after run old new (Enter lock) = ⊥
+Gives before after run old new (Leave lock) = ⊥
+Gives before after run old new (EndedStep end) = Ends before after run old new end
 
--- What a step that answers so has done: the pause before the first round, if it was still to come, and then what the answer says.
+-- What a step that answers so has done: the pause before the first variables, if it was still to come, and then what the answer says.
 pub record Steps (before after : Account) (old new : Standing) (step : Step) : Type 0 where
   pub begun : Account
   pub between : Standing
   pub begins : Begins before begun old between
-  pub gives : Gives begun after between new step
+  pub gives : Gives begun after (rest between) between new step

@@ -1,10 +1,8 @@
 //! One thread of a plan: a worker that takes it from its start to its end a step at a time, and its trace.
 #![tactic(auto)]
 
-mod machine;
 mod runner;
 pub mod solo;
-mod stack;
 pub mod step;
 pub mod trace;
 pub mod worker;

@@ -1,32 +1,40 @@
 // A thread of a plan as its worker keeps it.
 
-ghost use Rattle.std.specs.Prelude.{◌≡◌, ◌+◌, ◌-◌, ◌≤◌, ◌<◌, ℕ, true, false, None, Some, [], ◌∷◌, ◌++◌, length, slice_get, IfOk, OnOk, OnErr};
-ghost use Rattle.element_tree.specs.declared.kinds.Element.{Element};
+ghost use Rattle.std.specs.Prelude.{◌≡◌, ◌+◌, ◌-◌, ◌≤◌, ◌<◌, true, false, None, Some, [], ◌∷◌, ◌++◌, length, slice_get, IfOk, IfErr, IfSome, OnOk, OnErr};
 ghost use Rattle.element_tree.specs.Tree.{threads_of};
-ghost use Rattle.element_tree.specs.Names.{label_of};
 ghost use Rattle.jm_base.specs.Outside.{TellsNothing};
-ghost use Rattle.jm_meaning.specs.Left.{LeftOf};
-ghost use Rattle.jm_meaning.specs.Runs.{request_of};
+ghost use Rattle.var_functions.specs.Came.{CameTo};
+ghost use Rattle.jm_meaning.specs.State.{Own, state_of, at_rounds};
+ghost use Rattle.jm_meaning.specs.Sampling.{after_sample};
+ghost use Rattle.jm_meaning.specs.Meaning.{and_end};
+ghost use Rattle.control_machine.specs.Moves.{past};
+ghost use Rattle.control_machine.specs.Left.{StandsIn, left_of, moved, IsSampler};
+ghost use Rattle.control_machine.specs.Turns.{IsNormalAt};
 ghost use Rattle.thread_machine.specs.Inside.{standing_of, GoesOn};
-ghost use Rattle.thread_machine.specs.Standing.{IsAtStart};
-ghost use Rattle.thread_machine.specs.Stepped.{Gives, Steps};
-ghost use Rattle.thread_machine.specs.Ran.{RanOne, IsBegun, IsCutAt, IsCutBehind, IsSameThread, GoesOnBehind, is_end};
+ghost use Rattle.thread_machine.specs.Standing.{IsAtStart, rest, state_in};
+ghost use Rattle.thread_machine.specs.Stepped.{entry_of, Gives, Steps};
+ghost use Rattle.thread_machine.specs.Ran.{left_to, IsTaken, IsRequest, IsRefusedAt, IsBegun, IsCutAt, IsCutBehind, GoesOnBehind, is_end};
 
-use crate::machine::{Machine, Move};
 use crate::step::Step;
 use crate::trace::{Trace, TraceItem};
-use element_tree::Plan;
-use jm_base::{End, M, Outside, Sample};
-use jm_meaning::{ramp_up_pause, request_of, sample_once};
+use control_machine::{Machine, Move};
+use element_tree::{Kind, Plan};
+use jm_base::{End, M, NoMemory, Outside, Sample};
+use jm_meaning::{ramp_up_pause, run_sampler, set_first};
 use std::alloc::Global;
+use template_text::Template;
+use var_functions::{FnState, Props, UserState, VarError, Vars};
 
-/// A thread: its plan and number, the pause before its first round that is still to come, the machine of moves, the samplers that it may still run, the sample that is still to be noted,
-/// and its trace.
+/// A thread: its plan and number, the pause before its first variables that is still to come, whether those are set, its
+/// variables and what functions keep, the machine of moves, the samplers that it may still run, the sample that is still to
+/// be noted, and its trace.
 #[derive(Drop)]
 pub struct Runner<'p> {
     pub plan: &'p Plan,
     pub thread: u16,
     pub pause: u32,
+    pub begun: bool,
+    pub user: UserState,
     pub machine: Machine,
     pub units: u32,
     pub owed: Option<Sample>,
@@ -35,18 +43,31 @@ pub struct Runner<'p> {
 }
 
 impl<'p> Runner<'p> {
-    /// A thread before its first step. `budget` is how many samplers it may run at most.
-    pub fn new(alloc: Global, plan: &'p Plan, thread: u16, budget: u32) -> M<Runner<'p>>
+    /// A thread before its first step. `seed` is that of the run's random words, `budget` is how many samplers it may run at
+    /// most.
+    pub fn new(
+        alloc: Global,
+        plan: &'p Plan,
+        thread: u16,
+        seed: u64,
+        props: &Props,
+        budget: u32,
+    ) -> M<Runner<'p>>
         requires { thread < length (threads_of plan.now) }
-        ensures start { IfOk result (λ r. IsAtStart plan.now thread budget (standing_of r false)) }
+        ensures start { IfOk result (λ r. IsAtStart plan.now thread (record { seed = seed; props = props.now; budget = budget }) (standing_of r false)) }
         ensures on { IfOk result GoesOn }
     {
-        let group = plan.group_of(thread);
+        let found = plan.thread(thread);
         Ok(Runner {
             plan,
             thread,
             pause: ramp_up_pause(plan, thread),
-            machine: Machine::new(alloc, plan, group)?,
+            begun: false,
+            user: UserState {
+                vars: Vars::new(alloc),
+                fns: FnState::new(alloc, props, found.number, u64::from(thread), seed)?,
+            },
+            machine: Machine::new(alloc, plan, thread)?,
             units: budget,
             owed: None,
             trace: Trace::new(alloc)?,
@@ -65,12 +86,12 @@ impl<'p> Runner<'p> {
         ensures room { OnErr result (1 ≤ self.new.trace.room) }
     {
         self.trace.make_room()?;
-        self.begin(outside)?;
+        self.pause_first(outside)?;
         self.go_on(outside)
     }
 
-    // The pause before the first round, if it is still to come.
-    fn begin<O: Outside>(&mut self, outside: &mut O) -> M<()>
+    // The pause before the first variables, if it is still to come.
+    fn pause_first<O: Outside>(&mut self, outside: &mut O) -> M<()>
         requires room { 3 ≤ self.old.trace.room }
         ensures begun { OnOk result (IsBegun (O.account outside.old) (O.account outside.new) self.old self.new) }
         ensures room { 2 ≤ self.new.trace.room }
@@ -86,26 +107,22 @@ impl<'p> Runner<'p> {
         Ok(())
     }
 
-    // What comes next behind the pause: a sampler runs, or the thread ends.
+    // What comes next behind the pause: a sampler runs, or the thread ends. A limit ends it.
     fn go_on<O: Outside>(&mut self, outside: &mut O) -> M<Step>
         requires owed { self.old.owed ≡ None }
         requires pause { self.old.pause ≡ 0 }
         requires on { GoesOn self.old }
         requires room { 2 ≤ self.old.trace.room }
-        ensures gives { IfOk result (λ step. Gives (O.account outside.old) (O.account outside.new)
+        ensures gives { IfOk result (λ step. Gives (O.account outside.old) (O.account outside.new) (rest (standing_of self.old false))
             (standing_of self.old false) (standing_of self.new (is_end step)) step) }
         ensures on { IfOk result (GoesOnBehind self.new) }
         ensures cut { OnErr result (IsCutAt (O.account outside.old) (O.account outside.new) self.old self.new) }
         ensures room { OnErr result (1 ≤ self.new.trace.room) }
     {
-        match self.machine.next(self.plan)? {
-            Move::Finished(end) => Ok(self.finish(end)),
-            Move::RunSampler(number) => {
-                if self.units == 0 {
-                    return Ok(self.finish(End::SampleLimit));
-                }
-                self.run_sampler(number, outside)
-            }
+        match self.move_on(outside) {
+            Ok(step) => Ok(step),
+            Err(VarError::ValueLimit) => Ok(self.finish(End::ValueLimit)),
+            Err(VarError::NoMemory) => Err(NoMemory),
         }
     }
 
@@ -120,36 +137,152 @@ impl<'p> Runner<'p> {
         Step::Ended(end)
     }
 
-    // A unit is used, and the sampler runs.
-    fn run_sampler<O: Outside>(&mut self, number: u16, outside: &mut O) -> M<Step>
-        requires units { 1 ≤ self.old.units }
+    // The next move is made: a sampler runs, or the thread's rounds are over.
+    fn move_on<O: Outside>(&mut self, outside: &mut O) -> Result<Step, VarError>
+        requires owed { self.old.owed ≡ None }
+        requires pause { self.old.pause ≡ 0 }
+        requires stands { StandsIn self.old.plan.now self.old.machine }
         requires room { 2 ≤ self.old.trace.room }
-        requires there { (e : Element) × (slice_get self.old.plan.now.elements number ≡ Some e) }
-        ensures ran { IfOk result (λ step. (e : Element) → slice_get self.old.plan.now.elements number ≡ Some e
-            → RanOne (O.account outside.old) (O.account outside.new) self.old
-            (label_of self.old.plan.now.elements e.name) number (request_of e.kind) step self.new) }
-        ensures cut { OnErr result ((e : Element) → slice_get self.old.plan.now.elements number ≡ Some e
-            → LeftOf (O.account outside.old) (label_of self.old.plan.now.elements e.name) number (request_of e.kind) (O.account outside.new)) }
-        ensures still { OnErr result ((self.new.trace ≡ self.old.trace) × (self.new.owed ≡ self.old.owed)) }
-        ensures same { IsSameThread self.old self.new }
+        ensures gives { IfOk result (λ step. Gives (O.account outside.old) (O.account outside.new) (and_end (left_to self.old))
+            (standing_of self.old false) (standing_of self.new (is_end step)) step) }
+        ensures on { IfOk result (GoesOnBehind self.new) }
+        ensures refused { IfErr result (IsRefusedAt (O.account outside.old) (left_to self.old) (O.account outside.new) self.old self.new) }
     {
-        let label = self.plan.label_of(number);
-        let Some(element) = self.plan.element(number) else {
-            unreachable!();
-        };
-        let request = request_of(&element.kind);
+        match self.next_move(outside) {
+            Ok(Move::RunSampler(number)) => self.sample(number, outside),
+            Ok(Move::Finished(end)) => Ok(self.finish(end)),
+            Ok(_) => unreachable!(),
+            Err(error) => Err(error),
+        }
+    }
+
+    // The next move that ends a step. The first variables are set before the first one.
+    fn next_move<O: Outside>(&mut self, outside: &mut O) -> Result<Move, VarError>
+        requires { StandsIn self.old.plan.now self.old.machine }
+        ensures came { CameTo (O.account outside.old) (left_to self.old) (O.account outside.new)
+            (moved self.new.plan.now self.new.machine (state_in (standing_of self.new false)))
+            (past (state_in (standing_of self.new false))) result }
+        ensures given { IfOk result (IsTaken self.new.plan.now.elements) }
+        ensures stands { IfOk result (λ m. StandsIn self.new.plan.now self.new.machine) }
+        ensures normal { IfOk result (λ m. IsNormalAt m self.new.machine.signal) }
+        ensures begun { IfOk result (λ m. self.new.begun ≡ true) }
+        ensures kept { self.new ≡ record self.old { begun = self.new.begun; user = self.new.user; machine = self.new.machine } }
+    {
+        match self.set_out(outside) {
+            Ok(()) => walk(
+                &mut self.machine,
+                self.alloc,
+                self.plan,
+                &mut self.user,
+                outside,
+            ),
+            Err(error) => Err(error),
+        }
+    }
+
+    // The first variables are set, if they are still to be.
+    fn set_out<O: Outside>(&mut self, outside: &mut O) -> Result<(), VarError>
+        ensures came { CameTo (O.account outside.old) (left_to self.old) (O.account outside.new)
+            (λ u. left_of self.new.plan.now self.new.machine (state_in (standing_of self.new false)))
+            (past (state_in (standing_of self.new false))) result }
+        ensures begun { IfOk result (λ u. self.new.begun ≡ true) }
+        ensures kept { self.new ≡ record self.old { begun = self.new.begun; user = self.new.user } }
+    {
+        if self.begun {
+            return Ok(());
+        }
+        match set_first(self.alloc, self.plan, &mut self.user, outside) {
+            Ok(()) => {
+                self.begun = true;
+                Ok(())
+            }
+            Err(error) => Err(error),
+        }
+    }
+
+    // A unit is used, and the sampler of this number runs.
+    fn sample<O: Outside>(&mut self, number: u16, outside: &mut O) -> Result<Step, VarError>
+        requires owed { self.old.owed ≡ None }
+        requires pause { self.old.pause ≡ 0 }
+        requires begun { self.old.begun ≡ true }
+        requires stands { StandsIn self.old.plan.now self.old.machine }
+        requires normal { IsNormalAt (Move.RunSampler number) self.old.machine.signal }
+        requires room { 2 ≤ self.old.trace.room }
+        requires there { IsSampler self.old.plan.now.elements number }
+        ensures gives { IfOk result (λ step. Gives (O.account outside.old) (O.account outside.new)
+            (and_end (moved self.old.plan.now self.old.machine (state_in (standing_of self.old false)) (Move.RunSampler number)))
+            (standing_of self.old false) (standing_of self.new (is_end step)) step) }
+        ensures on { IfOk result (GoesOnBehind self.new) }
+        ensures refused { IfErr result (IsRefusedAt (O.account outside.old)
+            (moved self.old.plan.now self.old.machine (state_in (standing_of self.old false)) (Move.RunSampler number))
+            (O.account outside.new) self.old self.new) }
+    {
+        if self.units == 0 {
+            return Ok(self.finish(End::SampleLimit));
+        }
         self.units -= 1;
-        match sample_once(self.alloc, label, number, request, outside)? {
-            None => {
-                self.owed = None;
+        let label = self.plan.label_of(number);
+        let request = request_of(self.plan, number);
+        match run_sampler(self.alloc, label, number, request, &mut self.user, outside) {
+            Ok(Some(sample)) => Ok(self.owe(sample)),
+            Ok(None) => {
                 self.trace.put(TraceItem::Null { sampler: number });
                 Ok(Step::Null)
             }
-            Some(sample) => {
-                let entry = sample.entry();
-                self.owed = Some(sample);
-                Ok(Step::Sampled(entry))
-            }
+            Err(error) => Err(error),
         }
     }
+
+    // A sample is owed to the trace, and the machine is told of it.
+    fn owe(&mut self, sample: Sample) -> Step
+        ensures step { result ≡ Step.Sampled (entry_of sample) }
+        ensures new { self.new ≡ record self.old { owed = Some sample; machine = record self.old.machine { signal = after_sample sample.ok self.old.machine.at_failure } } }
+    {
+        self.machine.after(&sample);
+        let entry = sample.entry();
+        self.owed = Some(sample);
+        Step::Sampled(entry)
+    }
+}
+
+// Goes on from move to move, up to one that is not the begin of a round of the group.
+fn walk<O: Outside>(
+    machine: &mut Machine,
+    alloc: Global,
+    plan: &Plan,
+    user: &mut UserState,
+    outside: &mut O,
+) -> Result<Move, VarError>
+    requires { StandsIn plan.now machine.old }
+    ensures came { (own : Own) → own.rounds ≡ machine.old.rounds
+        → CameTo (O.account outside.old) (left_of plan.now machine.old (state_of user.old own)) (O.account outside.new)
+        (moved plan.now machine.new (state_of user.new (at_rounds own machine.new.rounds)))
+        (past (state_of user.new (at_rounds own machine.new.rounds))) result }
+    ensures given { IfOk result (IsTaken plan.now.elements) }
+    ensures stands { IfOk result (λ m. StandsIn plan.now machine.new) }
+    ensures normal { IfOk result (λ m. IsNormalAt m machine.new.signal) }
+{
+    'moves: loop {
+        match machine.next(alloc, plan, user, outside) {
+            Ok(next) => match next {
+                Move::Iteration(_) => {}
+                _ => return Ok(next),
+            },
+            Err(error) => return Err(error),
+        }
+    }
+}
+
+// The request of a Script sampler.
+fn request_of(plan: &Plan, number: u16) -> &Template
+    requires { IsSampler plan.now.elements number }
+    ensures { IfSome (slice_get plan.now.elements number) (λ e. IsRequest result.now e.kind) }
+{
+    let Some(element) = plan.element(number) else {
+        unreachable!();
+    };
+    let Kind::Script { request, .. } = &element.kind else {
+        unreachable!();
+    };
+    request
 }

@@ -1,9 +1,10 @@
 // One thread of a plan from its start to its end, with nobody who counts its samples.
 
-ghost use Rattle.std.specs.Prelude.{◌≡◌, ◌<◌, ℕ, All, length, IfOk, false, None};
+ghost use Rattle.std.specs.Prelude.{◌≡◌, ◌<◌, All, length, IfOk, false, None};
 ghost use Rattle.element_tree.specs.Tree.{threads_of};
 ghost use Rattle.element_tree.specs.Names.{labels_of};
 ghost use Rattle.jm_base.specs.Outside.{Account};
+ghost use Rattle.jm_meaning.specs.Beginning.{Options};
 ghost use Rattle.thread_machine.specs.Bare.{IsCountedIn, IsLabelled};
 ghost use Rattle.thread_machine.specs.Standing.{Stands};
 ghost use Rattle.thread_machine.specs.Follows.{HasRun};
@@ -14,6 +15,7 @@ use crate::worker::Worker;
 use element_tree::Plan;
 use jm_base::{End, M, Outside};
 use std::alloc::Global;
+use var_functions::Props;
 
 /// The whole trace of a thread, and how the thread ended.
 #[derive(Drop)]
@@ -23,21 +25,23 @@ pub struct Solo {
 }
 
 /// Runs a thread of the plan over an outside that has told nothing, from its start to its end. Every sample is counted in interval 0.
-/// `budget` is how many samplers it may run at most.
+/// `seed` is that of the run's random words, and `budget` is how many samplers the thread may run at most.
 pub fn run_alone<O: Outside>(
     alloc: Global,
     plan: &Plan,
     thread: u16,
+    seed: u64,
+    props: &Props,
     budget: u32,
     outside: &mut O,
 ) -> M<Solo>
     requires { thread < length (threads_of plan.now) }
     ensures has_run { IfOk result (λ solo. HasRun (O.account outside.old) (O.account outside.new)
-        plan.now thread budget solo.trace.items solo.end) }
+        plan.now thread (record { seed = seed; props = props.now; budget = budget }) solo.trace.items solo.end) }
     ensures labels { IfOk result (λ solo. All (IsLabelled (length (labels_of plan.now.elements))) solo.trace.items) }
     ensures intervals { IfOk result (λ solo. All (IsCountedIn 0) solo.trace.items) }
 {
-    let mut worker = Worker::new(alloc, plan, thread, budget)?;
+    let mut worker = Worker::new(alloc, plan, thread, seed, props, budget)?;
     let end = run_to_end(&mut worker, outside);
     Ok(Solo {
         trace: worker.into_trace(),
@@ -49,8 +53,8 @@ pub fn run_alone<O: Outside>(
 fn run_to_end<O: Outside>(worker: &mut Worker<'_>, outside: &mut O) -> End
     requires owed { worker.old.owed ≡ None }
     requires going { worker.old.ended ≡ false }
-    ensures has_run { (start : Account) (budget : ℕ) → Stands start (O.account outside.old) budget worker.old
-        → HasRun start (O.account outside.new) worker.old.plan worker.old.thread budget worker.new.trace result }
+    ensures has_run { (start : Account) (options : Options) → Stands start (O.account outside.old) options worker.old
+        → HasRun start (O.account outside.new) worker.old.plan worker.old.thread options worker.new.trace result }
     ensures plan { worker.new.plan ≡ worker.old.plan }
     ensures intervals { All (IsCountedIn 0) worker.old.trace → All (IsCountedIn 0) worker.new.trace }
 {

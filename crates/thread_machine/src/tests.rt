@@ -3,11 +3,11 @@
 use crate::{Solo, Step, TraceItem, Worker, run_alone};
 use element_tree::{Plan, RegexPatterns, build};
 use jm_base::{End, M, NoMemory, Outcome, Outside, Request, Sample};
-use jm_meaning::{Item, run_plainly, sample_once};
 use outside_world::ScriptOutside;
 use plan_json::read_tree;
 use std::alloc::Global;
 use std::test::Fail;
+use var_functions::Props;
 
 // A has two replies and B one.
 const LOOP_OF_THREE: &str =
@@ -26,8 +26,7 @@ const GROUP_OF_NONE: &str =
     {\"type\":\"Script\",\"name\":\"A\",\"props\":{\"replies\":[{}]}}]}]}";
 
 const FOREVER_NOTHING: &str =
-    "{\"type\":\"TestPlan\",\"children\":[{\"type\":\"ThreadGroup\",\"children\":[
-    {\"type\":\"Loop\",\"props\":{\"loops\":-1}}]}]}";
+    "{\"type\":\"TestPlan\",\"children\":[{\"type\":\"ThreadGroup\",\"props\":{\"loops\":-1}}]}";
 
 const FOREVER_A: &str =
     "{\"type\":\"TestPlan\",\"children\":[{\"type\":\"ThreadGroup\",\"props\":{\"loops\":-1},\"children\":[
@@ -119,12 +118,21 @@ fn plan_of(alloc: Global, text: &str) -> M<Plan> {
     }
 }
 
+// The property `n` is 3.
+fn three(alloc: Global) -> M<Props> {
+    match Props::read(alloc, b"n=3") {
+        Ok(props) => Ok(props),
+        Err(_) => Err(NoMemory),
+    }
+}
+
 // A plan's thread over the plan's own replies, where the outside has memory for so many calls.
 fn solo_of(alloc: Global, text: &str, budget: u32, calls: u32) -> M<Solo> {
     let plan = plan_of(alloc, text)?;
+    let props = three(alloc)?;
     let inner = ScriptOutside::new(alloc, &plan, false)?;
     let mut outside = Scarce { inner, calls };
-    let solo = run_alone(alloc, &plan, 0, budget, &mut outside)?;
+    let solo = run_alone(alloc, &plan, 0, 0, &props, budget, &mut outside)?;
     Ok(solo)
 }
 
@@ -177,29 +185,14 @@ fn rounds_without_an_end_over_nothing_meet_the_round_limit(rt: HostRuntime) -> R
 fn a_worker_takes_a_thread_a_step_at_a_time(rt: HostRuntime) -> Result<(), Fail> {
     let plan = plan_of(rt.alloc(), LOOP_OF_THREE)?;
     let mut outside = ScriptOutside::new(rt.alloc(), &plan, true)?;
-    let mut worker = Worker::new(rt.alloc(), &plan, 0, 1)?;
+    let props = three(rt.alloc())?;
+    let mut worker = Worker::new(rt.alloc(), &plan, 0, 0, &props, 1)?;
     if let Step::Sampled(entry) = worker.step(&mut outside) {
         worker.noted(u64::from(entry.elapsed));
     }
     assert!(rt; matches!(worker.trace(), [TraceItem::Sampled { interval: 5, .. }]));
     assert_eq!(rt; worker.into_trace().len(), 1);
     assert_eq!(rt; outside.told().map(|told| told.len()), Some(3));
-    Ok(())
-}
-
-#[test]
-fn the_plain_program_gives_the_same(rt: HostRuntime) -> Result<(), Fail> {
-    let plan = plan_of(rt.alloc(), LOOP_OF_THREE)?;
-    let mut outside = ScriptOutside::new(rt.alloc(), &plan, false)?;
-    let items = run_plainly(rt.alloc(), &plan, 0, 65_536, &mut outside)?;
-    for (item, line) in items.iter().zip(SIX_LINES) {
-        assert!(rt; matches!(item, Item::Sampled(sample) if line_of(sample) == line));
-    }
-    let next = sample_once(rt.alloc(), 0, 3, b"", &mut outside)?;
-    assert_eq!(rt;
-        next.map(|sample| line_of(&sample)),
-        Some((23, 7, 0, 500, false, 0))
-    );
     Ok(())
 }
 
@@ -214,23 +207,11 @@ fn one_sample_of(alloc: Global, plan: &Plan, thread: u16, calls: u32) -> M<Solo>
     if plan.threads() <= thread {
         return Err(NoMemory);
     }
+    let props = three(alloc)?;
     let inner = ScriptOutside::new(alloc, plan, false)?;
     let mut outside = Scarce { inner, calls };
-    let solo = run_alone(alloc, plan, thread, 1, &mut outside)?;
+    let solo = run_alone(alloc, plan, thread, 0, &props, 1, &mut outside)?;
     Ok(solo)
-}
-
-// The pause that the plain program gives first, or 0.
-fn plain_pause(alloc: Global, plan: &Plan, thread: u16) -> M<u32> {
-    if plan.threads() <= thread {
-        return Err(NoMemory);
-    }
-    let mut outside = ScriptOutside::new(alloc, plan, false)?;
-    let items = run_plainly(alloc, plan, thread, 1, &mut outside)?;
-    match items.first() {
-        Some(Item::Paused(ms)) => Ok(*ms),
-        _ => Ok(0),
-    }
 }
 
 #[test]
@@ -244,7 +225,6 @@ fn the_threads_of_a_group_start_one_after_another(rt: HostRuntime) -> Result<(),
             Some((u64::from(pause), 5, 0, 200, true, 4))
         );
         assert_eq!(rt; end_at(&solo.trace, 2), Some(End::Completed));
-        assert_eq!(rt; plain_pause(rt.alloc(), &plan, thread)?, pause);
     }
     let solo = one_sample_of(rt.alloc(), &plan, 0, u32::MAX)?;
     assert_eq!(rt; line_at(&solo.trace, 0), Some((0, 5, 0, 200, true, 4)));
@@ -257,6 +237,145 @@ fn a_pause_without_memory_is_not_in_the_trace(rt: HostRuntime) -> Result<(), Fai
     for (calls, items) in [(0, 1), (1, 2), (3, 2)] {
         let solo = one_sample_of(rt.alloc(), &plan, 1, calls)?;
         assert_eq!(rt; (solo.trace.len(), solo.end), (items, End::NoMemory));
+    }
+    Ok(())
+}
+
+// A is asked in the first round alone.
+const ONCE_UNDER_A_LOOP: &str =
+    "{\"type\":\"TestPlan\",\"children\":[{\"type\":\"ThreadGroup\",\"props\":{\"loops\":2},\"children\":[
+    {\"type\":\"Loop\",\"props\":{\"loops\":2},\"children\":[
+    {\"type\":\"OnceOnly\",\"children\":[{\"type\":\"Script\",\"name\":\"A\",\"props\":{\"replies\":[{}]}}]},
+    {\"type\":\"Script\",\"name\":\"B\",\"props\":{\"replies\":[{}]}}]}]}]}";
+
+// The values have 1, 2 and 3 bytes, and the index has one.
+const FOR_EACH: &str = "{\"type\":\"TestPlan\",\"children\":[
+    {\"type\":\"UserVariables\",\"props\":{\"vars\":[[\"u_1\",\"a\"],[\"u_2\",\"bb\"],[\"u_3\",\"ccc\"]]}},
+    {\"type\":\"ThreadGroup\",\"children\":[
+    {\"type\":\"ForEach\",\"name\":\"E\",\"props\":{\"input\":\"u\",\"output\":\"o\",\"end\":2},\"children\":[
+    {\"type\":\"Script\",\"name\":\"A\",\"props\":{\"replies\":[{\"echo\":true}],\"request\":\"${o}${__jm__E__idx}\"}}]}]}]}";
+
+// A fails, then B succeeds and fails.
+const WHILE_BLANK: &str =
+    "{\"type\":\"TestPlan\",\"children\":[{\"type\":\"ThreadGroup\",\"children\":[
+    {\"type\":\"Script\",\"name\":\"A\",\"props\":{\"replies\":[{\"code\":500}]}},
+    {\"type\":\"While\",\"children\":[
+    {\"type\":\"Script\",\"name\":\"B\",\"props\":{\"replies\":[{},{\"code\":500}]}}]}]}]}";
+
+const WHILE_LAST: &str =
+    "{\"type\":\"TestPlan\",\"children\":[{\"type\":\"ThreadGroup\",\"children\":[
+    {\"type\":\"Script\",\"name\":\"A\",\"props\":{\"replies\":[{\"code\":500}]}},
+    {\"type\":\"While\",\"props\":{\"condition\":\"LAST\"},\"children\":[
+    {\"type\":\"Script\",\"name\":\"B\",\"props\":{\"replies\":[{},{\"code\":500}]}}]}]}]}";
+
+// Only `true` is true, in whatever case.
+const TWO_IFS: &str = "{\"type\":\"TestPlan\",\"children\":[{\"type\":\"ThreadGroup\",\"children\":[
+    {\"type\":\"If\",\"props\":{\"condition\":\"TRUE\"},\"children\":[
+    {\"type\":\"Script\",\"name\":\"A\",\"props\":{\"replies\":[{}]}}]},
+    {\"type\":\"If\",\"props\":{\"condition\":\"1\"},\"children\":[
+    {\"type\":\"Script\",\"name\":\"B\",\"props\":{\"replies\":[{}]}}]}]}]}";
+
+const NEXT_LOOP: &str = "{\"type\":\"TestPlan\",\"children\":[
+    {\"type\":\"ThreadGroup\",\"props\":{\"loops\":2,\"onError\":\"nextLoop\"},\"children\":[
+    {\"type\":\"Script\",\"name\":\"A\",\"props\":{\"replies\":[{\"code\":500}]}},
+    {\"type\":\"Script\",\"name\":\"B\",\"props\":{\"replies\":[{}]}}]}]}";
+
+const STOP_THREAD: &str = "{\"type\":\"TestPlan\",\"children\":[
+    {\"type\":\"ThreadGroup\",\"props\":{\"loops\":2,\"onError\":\"stopThread\"},\"children\":[
+    {\"type\":\"Simple\",\"children\":[
+    {\"type\":\"Script\",\"name\":\"A\",\"props\":{\"replies\":[{},{\"code\":500}]}}]},
+    {\"type\":\"Script\",\"name\":\"B\",\"props\":{\"replies\":[{}]}}]}]}";
+
+const STOP_TEST: &str = "{\"type\":\"TestPlan\",\"children\":[
+    {\"type\":\"ThreadGroup\",\"props\":{\"loops\":2,\"onError\":\"stopTest\"},\"children\":[
+    {\"type\":\"Script\",\"name\":\"A\",\"props\":{\"replies\":[{\"code\":500}]}},
+    {\"type\":\"Script\",\"name\":\"B\",\"props\":{\"replies\":[{}]}}]}]}";
+
+// The second `x` wins, and `y` is expanded when its turn comes.
+const FIRST_VARIABLES: &str = "{\"type\":\"TestPlan\",\"children\":[
+    {\"type\":\"ThreadGroup\",\"children\":[
+    {\"type\":\"Script\",\"name\":\"A\",\"props\":{\"replies\":[{\"echo\":true}],\"request\":\"${y}\"}},
+    {\"type\":\"UserVariables\",\"props\":{\"vars\":[[\"x\",\"a\"],[\"x\",\"abc\"],[\"y\",\"${x}${x}\"]]}}]}]}";
+
+// How many rounds the loop has is a property.
+const LOOPS_OF_A_PROPERTY: &str =
+    "{\"type\":\"TestPlan\",\"children\":[{\"type\":\"ThreadGroup\",\"children\":[
+    {\"type\":\"Loop\",\"name\":\"L\",\"props\":{\"loops\":\"${__P(n)}\"},\"children\":[
+    {\"type\":\"Script\",\"name\":\"A\",\"props\":{\"replies\":[{\"echo\":true}],\"request\":\"${__jm__L__idx}\"}}]}]}]}";
+
+// Each value has eight times the bytes of the one before: 16, 128, 1,024, 8,192 and 65,536. One byte more is too many.
+const VALUE_LIMIT: &str = "{\"type\":\"TestPlan\",\"children\":[
+    {\"type\":\"UserVariables\",\"props\":{\"vars\":[[\"a\",\"0123456789abcdef\"],
+    [\"b\",\"${a}${a}${a}${a}${a}${a}${a}${a}\"],[\"c\",\"${b}${b}${b}${b}${b}${b}${b}${b}\"],
+    [\"d\",\"${c}${c}${c}${c}${c}${c}${c}${c}\"],[\"e\",\"${d}${d}${d}${d}${d}${d}${d}${d}\"]]}},
+    {\"type\":\"ThreadGroup\",\"children\":[
+    {\"type\":\"Script\",\"name\":\"A\",\"props\":{\"replies\":[{\"echo\":true}],\"request\":\"${e}\"}},
+    {\"type\":\"Script\",\"name\":\"B\",\"props\":{\"replies\":[{\"echo\":true}],\"request\":\"${e}0\"}}]}]}";
+
+// The first variables are past the limit already, before any sampler.
+const VALUE_LIMIT_AT_ONCE: &str = "{\"type\":\"TestPlan\",\"children\":[
+    {\"type\":\"UserVariables\",\"props\":{\"vars\":[[\"a\",\"0123456789abcdef\"],
+    [\"b\",\"${a}${a}${a}${a}${a}${a}${a}${a}\"],[\"c\",\"${b}${b}${b}${b}${b}${b}${b}${b}\"],
+    [\"d\",\"${c}${c}${c}${c}${c}${c}${c}${c}\"],[\"e\",\"${d}${d}${d}${d}${d}${d}${d}${d}0\"]]}},
+    {\"type\":\"ThreadGroup\",\"children\":[{\"type\":\"Script\",\"name\":\"A\",\"props\":{\"replies\":[{}]}}]}]}";
+
+// A label, whether the sample succeeded, and its bytes.
+type Mark = (u16, bool, u32);
+
+const RUNS: [(&str, &[Mark], End); 12] = [
+    (
+        ONCE_UNDER_A_LOOP,
+        &[
+            (0, true, 0),
+            (1, true, 0),
+            (1, true, 0),
+            (0, true, 0),
+            (1, true, 0),
+            (1, true, 0),
+        ],
+        End::Completed,
+    ),
+    (FOR_EACH, &[(0, true, 2), (0, true, 3)], End::Completed),
+    (
+        WHILE_BLANK,
+        &[(0, false, 0), (1, true, 0), (1, false, 0)],
+        End::Completed,
+    ),
+    (WHILE_LAST, &[(0, false, 0)], End::Completed),
+    (TWO_IFS, &[(0, true, 0)], End::Completed),
+    (NEXT_LOOP, &[(0, false, 0), (0, false, 0)], End::Completed),
+    (
+        STOP_THREAD,
+        &[(0, true, 0), (1, true, 0), (0, false, 0)],
+        End::StopThread,
+    ),
+    (STOP_TEST, &[(0, false, 0)], End::StopTest),
+    (FIRST_VARIABLES, &[(0, true, 6)], End::Completed),
+    (
+        LOOPS_OF_A_PROPERTY,
+        &[(0, true, 1), (0, true, 1), (0, true, 1)],
+        End::Completed,
+    ),
+    (VALUE_LIMIT, &[(0, true, 65_536)], End::ValueLimit),
+    (VALUE_LIMIT_AT_ONCE, &[], End::ValueLimit),
+];
+
+fn mark_at(trace: &[TraceItem], place: usize) -> Option<Mark> {
+    match trace.get(place)? {
+        TraceItem::Sampled { sample, .. } => Some((sample.label, sample.ok, sample.bytes)),
+        _ => None,
+    }
+}
+
+#[test]
+fn each_plan_gives_its_samples_and_its_end(rt: HostRuntime) -> Result<(), Fail> {
+    for (text, marks, end) in RUNS {
+        let solo = solo_of(rt.alloc(), text, 65_536, u32::MAX)?;
+        assert_eq!(rt; (solo.trace.len(), solo.end), (marks.len() + 1, end));
+        for (place, mark) in marks.iter().enumerate() {
+            assert_eq!(rt; mark_at(&solo.trace, place), Some(*mark));
+        }
+        assert_eq!(rt; end_at(&solo.trace, marks.len()), Some(end));
     }
     Ok(())
 }

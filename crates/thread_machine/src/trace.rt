@@ -1,6 +1,6 @@
 // The trace of a thread, with room for what must still be said.
 
-ghost use Rattle.std.specs.Prelude.{◌≡◌, ◌∷◌, [], ◌++◌, ◌+◌, ◌-◌, ◌<◌, ◌≤◌, OnOk, OnErr, IfOk, List};
+ghost use Rattle.std.specs.Prelude.{◌≡◌, ◌∷◌, [], ◌++◌, ◌+◌, ◌-◌, ◌<◌, ◌≤◌, OnOk, IfOk};
 
 use jm_base::{End, M, Sample};
 use std::alloc::Global;

@@ -1,10 +1,11 @@
 // One thread of a plan, a step at a time.
 
-ghost use Rattle.std.specs.Prelude.{◌≡◌, ◌<◌, ◌++◌, ◌∷◌, [], length, false, None, All, IsSome, IfOk, IfSome, ℕ};
+ghost use Rattle.std.specs.Prelude.{◌≡◌, ◌<◌, ◌++◌, ◌∷◌, [], length, false, None, All, IsSome, IfOk, IfSome};
 ghost use Rattle.element_tree.specs.Tree.{threads_of};
 ghost use Rattle.element_tree.specs.Names.{labels_of};
 ghost use Rattle.thread_machine.specs.Bare.{IsLabelled};
 ghost use Rattle.jm_base.specs.Outside.{Account};
+ghost use Rattle.jm_meaning.specs.Beginning.{Options};
 ghost use Rattle.thread_machine.specs.Standing.{IsAtStart, Stands};
 ghost use Rattle.thread_machine.specs.SoFar.{StandsBehind, ShowsAFront};
 ghost use Rattle.thread_machine.specs.Stepped.{Steps};
@@ -17,8 +18,9 @@ use element_tree::Plan;
 use jm_base::{End, M, Outside};
 use std::alloc::Global;
 use std::marker::Model;
+use var_functions::Props;
 
-/// One thread of a plan: its open controllers, its sample budget and its trace.
+/// One thread of a plan: its variables, its open controllers, its sample budget and its trace.
 /// It is used with one outside, from the first step to the last.
 #[derive(Drop)]
 pub struct Worker<'p> {
@@ -42,27 +44,40 @@ impl<'p> Model for Worker<'p> {
 }
 
 impl<'p> Worker<'p> {
-    /// A thread before its first step, by its number from 0 over all groups.
-    /// `budget` is how many samplers it may run at most.
-    pub fn new(alloc: Global, plan: &'p Plan, number: u16, budget: u32) -> M<Worker<'p>>
+    /// A thread before its first step, by its number from 0 over all groups. It takes a copy of the properties. `seed` is
+    /// that of the run's random words, of which each thread has a stream of its own, and `budget` is how many samplers the
+    /// thread may run at most.
+    pub fn new(
+        alloc: Global,
+        plan: &'p Plan,
+        number: u16,
+        seed: u64,
+        props: &Props,
+        budget: u32,
+    ) -> M<Worker<'p>>
         requires { number < length (threads_of plan.now) }
-        ensures start { IfOk result (IsAtStart plan.now number budget) }
-        ensures stands { IfOk result (λ w. (start : Account) → Stands start start budget w) }
+        ensures start { IfOk result (IsAtStart plan.now number (record { seed = seed; props = props.now; budget = budget })) }
+        ensures stands { IfOk result (λ w. (start : Account)
+            → Stands start start (record { seed = seed; props = props.now; budget = budget }) w) }
     {
         Ok(Worker {
-            runner: Runner::new(alloc, plan, number, budget)?,
+            runner: Runner::new(alloc, plan, number, seed, props, budget)?,
             ended: false,
         })
     }
 
-    /// Goes on to the next sampler and runs it, or to the thread's end.
+    /// Goes on to the next sampler and runs it, or to the thread's end. The first step pauses before that, where the group
+    /// starts its threads over a time (the manual's "Ramp-Up Period"), and then sets the user defined variables.
+    ///
+    /// A step that comes to a sampler with no unit left ends the thread with `End::SampleLimit`, one that comes to a round
+    /// with none left with `End::RoundLimit`, and a text, a value or variables past their limit with `End::ValueLimit`.
     /// Where memory is wanting the thread ends with `End::NoMemory`.
     pub fn step<O: Outside>(&mut self, outside: &mut O) -> Step
         requires owed { self.old.owed ≡ None }
         requires going { self.old.ended ≡ false }
         ensures steps { Steps (O.account outside.old) (O.account outside.new) self.old self.new result }
-        ensures stands { (start : Account) (budget : ℕ) → Stands start (O.account outside.old) budget self.old
-            → StandsBehind start (O.account outside.new) budget self.old self.new result }
+        ensures stands { (start : Account) (options : Options) → Stands start (O.account outside.old) options self.old
+            → StandsBehind start (O.account outside.new) options self.old self.new result }
     {
         match self.runner.try_step(outside) {
             Ok(step) => {
@@ -82,7 +97,7 @@ impl<'p> Worker<'p> {
         requires { IsSome self.old.owed }
         ensures item { IfSome self.old.owed (λ s. self.new
             ≡ record self.old { owed = None; trace = self.old.trace ++ TraceItem.Sampled s interval ∷ [] }) }
-        ensures stands { (start now : Account) (budget : ℕ) → Stands start now budget self.old → Stands start now budget self.new }
+        ensures stands { (start now : Account) (options : Options) → Stands start now options self.old → Stands start now options self.new }
     {
         if let Some(sample) = self.runner.owed.take() {
             self.runner

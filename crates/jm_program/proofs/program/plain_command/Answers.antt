@@ -1,5 +1,5 @@
 use Rattle.std.specs.Prelude.{map, string_bytes}
-use Rattle.jm_program.specs.Words.{command_of}
+use Rattle.command_words.specs.Commands.{command_of}
 use Rattle.jm_program.proofs.ExactLaws.{exactly}
 use Rattle.jm_program.proofs.program.plain_command.Goals as goal
 

@@ -5,5 +5,5 @@ use Rattle.jm_program.proofs.program.run_bytes.Goals as goal
 
 pub returns-in-Unfit : goal.returns-in-Unfit
 returns-in-Unfit g c =
-    refusal_said c.args.command c.args.bytes.now _ _ (sinks _ _ _ _) (sinks _ _ _ _) c.in-Unfit.refusal c.in-Unfit.ensures (record { results = refl; result_faults = refl })
+    refusal_said c.args.command.now c.args.bytes.now _ _ (sinks _ _ _ _) (sinks _ _ _ _) c.in-Unfit.refusal c.in-Unfit.ensures (record { results = refl; result_faults = refl })
     c.refuse.result c.refuse.ensures

@@ -4,4 +4,4 @@ pub returns-clause-has_run : goal.returns-clause-has_run
 returns-clause-has_run g c =
     let first = c.in_ok-worker.ensures.start in
     rw (c.into_trace.ensures.items, ← first.plan_is, ← first.thread_is)
-    (c.run_to_end-end.ensures.has_run _ c.args.budget (c.in_ok-worker.ensures.stands _))
+    (c.run_to_end-end.ensures.has_run _ (record { seed = c.args.seed; props = c.args.props.now; budget = c.args.budget }) (c.in_ok-worker.ensures.stands _))

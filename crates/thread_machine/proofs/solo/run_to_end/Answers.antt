@@ -5,9 +5,9 @@ use Rattle.thread_machine.proofs.Intervals.{counted_noted, counted_behind}
 use Rattle.thread_machine.proofs.solo.run_to_end.Goals as goal
 
 pub returns-in-Ended-clause-has_run : goal.returns-in-Ended-clause-has_run
-returns-in-Ended-clause-has_run g c = λ start budget stands.
+returns-in-Ended-clause-has_run g c = λ start options stands.
     let i = c.steps.invariant in
-    rw (← i.plan, ← i.thread) (c.in-Ended.ensures.stands start budget (i.stands start budget stands))
+    rw (← i.plan, ← i.thread) (c.in-Ended.ensures.stands start options (i.stands start options stands))
 
 pub returns-in-Ended-clause-intervals : goal.returns-in-Ended-clause-intervals
 returns-in-Ended-clause-intervals g c = λ all. counted_behind 0 _ _ _ _ (Ended _) c.in-Ended.ensures.steps (c.steps.invariant.counted all)
@@ -26,7 +26,7 @@ steps-preserved-in-Sampled g c =
       plan = on.plan ∙ ap (λ w. w.plan) given.new_is ∙ begun.plan ∙ i.plan;
       thread = on.thread ∙ ap (λ w. w.thread) given.new_is ∙ begun.thread ∙ i.thread;
       counted = λ all. counted_noted 0 c.step.new.self c.noted.new.self given.sample is (counted_behind 0 _ _ _ _ (Sampled _) s (i.counted all));
-      stands = λ start budget stands. c.noted.ensures.stands start _ budget (c.in-Sampled.ensures.stands start budget (i.stands start budget stands));
+      stands = λ start options stands. c.noted.ensures.stands start _ options (c.in-Sampled.ensures.stands start options (i.stands start options stands));
     }
 
 pub steps-preserved : goal.steps-preserved
@@ -41,5 +41,5 @@ steps-preserved g c =
       plan = ap (λ w. w.plan) given.new_is ∙ begun.plan ∙ i.plan;
       thread = ap (λ w. w.thread) given.new_is ∙ begun.thread ∙ i.thread;
       counted = λ all. counted_behind 0 _ _ _ _ Null s (i.counted all);
-      stands = λ start budget stands. c.in-Null.ensures.stands start budget (i.stands start budget stands);
+      stands = λ start options stands. c.in-Null.ensures.stands start options (i.stands start options stands);
     }

@@ -1,4 +1,4 @@
-use Rattle.logic_controllers.proofs.Steps.{goes-same, at-once}
+use Rattle.cursor_steps.proofs.Steps.{goes-same, at-once}
 use Rattle.logic_controllers.proofs.EachLaws.{each-child, each-over, each-round}
 use Rattle.logic_controllers.proofs.each_cursor.EachCursor.go_on.Goals as goal
 

@@ -1,7 +1,7 @@
 use Rattle.std.proofs.Common.{ap, sym, ◌∙◌}
 use Rattle.var_functions.proofs.LaterLaws.{later_same}
 use Rattle.logic_controllers.specs.IfController.{is_true}
-use Rattle.logic_controllers.proofs.Steps.{goes-same}
+use Rattle.cursor_steps.proofs.Steps.{goes-same}
 use Rattle.logic_controllers.proofs.IfLaws.{if-over, if-plain, if-child, if-ends, if-cut}
 use Rattle.logic_controllers.proofs.if_cursor.IfCursor.advance.Goals as goal
 

@@ -1,5 +1,5 @@
 use Rattle.var_functions.proofs.LaterLaws.{later_same}
-use Rattle.logic_controllers.proofs.Steps.{goes-same}
+use Rattle.cursor_steps.proofs.Steps.{goes-same}
 use Rattle.logic_controllers.proofs.IfLaws.{if-unasked, if-asked, if-refused}
 use Rattle.logic_controllers.proofs.if_cursor.IfCursor.begin.Goals as goal
 

@@ -1,5 +1,6 @@
 use Rattle.std.proofs.Common.{◌≡◌}
-use Rattle.logic_controllers.proofs.Steps.{same-element, same-loops}
+use Rattle.cursor_steps.proofs.Steps.{same-element}
+use Rattle.logic_controllers.proofs.LoopLaws.{same-loops}
 use Rattle.logic_controllers.proofs.loop_cursor.LoopCursor.enter.Goals as goal
 
 pub returns-clause-came : goal.returns-clause-came

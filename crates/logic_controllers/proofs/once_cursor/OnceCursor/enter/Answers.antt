@@ -1,7 +1,7 @@
 use Rattle.std.proofs.Common.{sym, ap, ◌∙◌}
-use Rattle.logic_controllers.specs.Step.{answers}
-use Rattle.logic_controllers.specs.Children.{pass_over, run_count}
-use Rattle.logic_controllers.proofs.Steps.{goes-same, same-element}
+use Rattle.cursor_steps.specs.Step.{answers}
+use Rattle.cursor_steps.specs.Children.{pass_over, run_count}
+use Rattle.cursor_steps.proofs.Steps.{goes-same, same-element}
 use Rattle.logic_controllers.proofs.once_cursor.OnceCursor.enter.Goals as goal
 
 pub returns-clause-came : goal.returns-clause-came

@@ -1,4 +1,4 @@
-use Rattle.logic_controllers.proofs.Steps.{goes-same}
+use Rattle.cursor_steps.proofs.Steps.{goes-same}
 use Rattle.logic_controllers.proofs.Passes.{once-child, once-over, once-later}
 use Rattle.logic_controllers.proofs.once_cursor.OnceCursor.next.Goals as goal
 

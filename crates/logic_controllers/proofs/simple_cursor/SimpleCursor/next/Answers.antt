@@ -1,4 +1,4 @@
-use Rattle.logic_controllers.proofs.Steps.{goes-same}
+use Rattle.cursor_steps.proofs.Steps.{goes-same}
 use Rattle.logic_controllers.proofs.Passes.{simple-child, simple-over}
 use Rattle.logic_controllers.proofs.simple_cursor.SimpleCursor.next.Goals as goal
 

@@ -1,8 +1,8 @@
 use Rattle.std.proofs.Common.{sym, ap, ◌∙◌}
-use Rattle.logic_controllers.specs.Step.{answers}
-use Rattle.logic_controllers.specs.Children.{run_count}
+use Rattle.cursor_steps.specs.Step.{answers}
+use Rattle.cursor_steps.specs.Children.{run_count}
 use Rattle.logic_controllers.specs.Rounds.{before_rounds}
-use Rattle.logic_controllers.proofs.Steps.{goes-same, same-element}
+use Rattle.cursor_steps.proofs.Steps.{goes-same, same-element}
 use Rattle.logic_controllers.proofs.while_cursor.WhileCursor.enter.Goals as goal
 
 pub returns-clause-came : goal.returns-clause-came

@@ -1,6 +1,6 @@
 use Rattle.std.proofs.Common.{sym, ◌∙◌}
 use Rattle.var_functions.proofs.LaterLaws.{later_same}
-use Rattle.logic_controllers.proofs.Steps.{goes-same}
+use Rattle.cursor_steps.proofs.Steps.{goes-same}
 use Rattle.logic_controllers.proofs.WhileLaws.{while-child, while-over, while-round, while-cut}
 use Rattle.logic_controllers.proofs.while_cursor.WhileCursor.go_on.Goals as goal
 

@@ -4,12 +4,12 @@ use Rattle.thread_machine.proofs.runner.Runner.try_step.Goals as goal
 
 pub returns-in_err-make_room-clause-cut : goal.returns-in_err-make_room-clause-cut
 returns-in_err-make_room-clause-cut g c = on_err c.from_residual.result _
-    (cut_at_once _ c.args.self.now _ (record { plan = refl; thread = refl; pause = refl }) c.in_err-make_room.ensures.same refl)
+    (cut_at_once _ c.args.self.now _ (record { plan = refl; thread = refl; pause = refl; owed = refl }) c.in_err-make_room.ensures.same)
 
-pub returns-in_err-begin-clause-cut : goal.returns-in_err-begin-clause-cut
-returns-in_err-begin-clause-cut g c =
-    let kept = c.in_err-begin.ensures.kept in
-    on_err c.from_residual-in_err-begin.result _
-    (cut_before _ _ c.args.self.now c.begin.new.self c.in_err-begin.ensures.still
-    (record { plan = ap (λ n. n.plan.now) kept; thread = ap (λ n. n.thread) kept; pause = ap (λ n. n.pause) kept })
-    (ap (λ n. n.trace.items) kept ∙ c.in_ok-make_room.ensures.same) (ap (λ n. n.owed) kept))
+pub returns-in_err-pause_first-clause-cut : goal.returns-in_err-pause_first-clause-cut
+returns-in_err-pause_first-clause-cut g c =
+    let kept = c.in_err-pause_first.ensures.kept in
+    on_err c.from_residual-in_err-pause_first.result _
+    (cut_before _ _ c.args.self.now c.pause_first.new.self c.in_err-pause_first.ensures.still
+    (record { plan = ap (λ n. n.plan.now) kept; thread = ap (λ n. n.thread) kept; pause = ap (λ n. n.pause) kept; owed = ap (λ n. n.owed) kept })
+    (ap (λ n. n.trace.items) kept ∙ c.in_ok-make_room.ensures.same))

@@ -1,0 +1,4 @@
+pub mod ChosenLaws
+pub mod OrderLaws
+pub mod NameLaws
+pub mod SwitchLaws

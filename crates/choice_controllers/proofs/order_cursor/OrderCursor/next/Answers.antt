@@ -1,0 +1,12 @@
+use Rattle.std.proofs.Common.{sym, ◌∙◌}
+use Rattle.cursor_steps.proofs.Steps.{goes-same}
+use Rattle.choice_controllers.proofs.ChosenLaws.{order-child, order-over}
+use Rattle.choice_controllers.proofs.order_cursor.OrderCursor.next.Goals as goal
+
+pub returns-in-Some-clause-came : goal.returns-in-Some-clause-came
+returns-in-Some-clause-came g c =
+    goes-same _ _ _ (order-child c.args.self.now c.args.state.now c.in-Some.place c.next_place.new.self (sym c.in-Some.is ∙ c.next_place.ensures.place) c.in-Some.ensures.behind)
+
+pub returns-in-None-clause-came : goal.returns-in-None-clause-came
+returns-in-None-clause-came g c =
+    goes-same _ _ _ (order-over c.args.self.now c.next_place.new.self c.args.state.now (sym c.in-None.is ∙ c.next_place.ensures.place) c.in-None.ensures.over)

@@ -1,0 +1,41 @@
+-- The Random Order Controller runs each of its children once in a pass, in an order that random words make.
+use Rattle.std.specs.Prelude.{ℕ, zero, suc, ◌+◌, ◌-◌, ◌%◌, List, [], Option, Some, None, slice_get, unwrap_or, swap}
+use Rattle.std.specs.List.{range_with_len}
+use Rattle.jm_base.specs.Run.{Run}
+use Rattle.var_functions.specs.declared.state.UserState.{UserState}
+use Rattle.var_functions.specs.State.{Functions, drawn, draw}
+use Rattle.element_tree.specs.declared.package.Turn.{Turn}
+use Rattle.element_tree.specs.declared.package.Turn.TheVariants.{Child, Over}
+use Rattle.choice_controllers.specs.declared.order_cursor.OrderCursor.{OrderCursor}
+use Rattle.cursor_steps.specs.Step.{Step, answers}
+
+-- For i from this one down to 1 a word w is drawn, and what stands at i and at w mod (i + 1) is exchanged.
+abbrev pub shuffled : {A : Type 0} → ℕ → List A → Functions → List A × Functions
+shuffled zero xs fns = (xs, fns)
+shuffled (suc i) xs fns = shuffled i (swap xs (suc i) (drawn fns.random % (suc i + 1))) (draw fns)
+
+-- the places of so many children, in order
+abbrev pub places : ℕ → List ℕ
+places children = range_with_len 0 children
+
+-- the order of so many children in a pass, and what functions keep behind its words
+abbrev pub random_order : ℕ → Functions → List ℕ × Functions
+random_order children fns = shuffled (children - 1) (places children) fns
+
+-- a pass over so many children begins
+abbrev pub order_enters : ℕ → OrderCursor → UserState → Run (Step (Unit {0}) OrderCursor)
+order_enters children c state =
+    answers tt (record c { order = Some (random_order children state.fns).0; next = 0 }) (record state { fns = (random_order children state.fns).1 })
+
+-- the order of the pass; there is none before the first one
+abbrev pub order_of : OrderCursor → List ℕ
+order_of c = unwrap_or c.order []
+
+-- the child at a place is run, or the pass is over
+abbrev pub order_runs : Option ℕ → OrderCursor → UserState → Run (Step Turn OrderCursor)
+order_runs None c state = answers Over c state
+order_runs (Some place) c state = answers (Child place) (record c { next = c.next + 1 }) state
+
+-- the children are run in the order of the pass
+abbrev pub order_next : OrderCursor → UserState → Run (Step Turn OrderCursor)
+order_next c state = order_runs (slice_get (order_of c) c.next) c state

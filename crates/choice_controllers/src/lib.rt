@@ -1,0 +1,19 @@
+//! The cursors of the controllers that choose among their children: Interleave, Random, Random Order and Switch.
+//!
+//! A cursor stands for one controller of a plan in one thread. `enter` begins a pass, and chooses what it runs; after it
+//! each `next` says what the controller does next: it runs a child, or is over.
+#![tactic(auto)]
+
+pub mod chosen;
+pub mod interleave_cursor;
+pub mod order_cursor;
+pub mod random_cursor;
+pub mod switch_cursor;
+
+pub use interleave_cursor::InterleaveCursor;
+pub use order_cursor::OrderCursor;
+pub use random_cursor::RandomCursor;
+pub use switch_cursor::SwitchCursor;
+
+#[cfg(test)]
+mod tests;

@@ -1,0 +1,190 @@
+// The cursor of a Switch Controller.
+
+ghost use Rattle.std.specs.Prelude.{◌≡◌, ◌<◌, ℕ, slice_get, Some, None, IfSome, OnOk, OnErr, IsOkAnd};
+ghost use Rattle.template_text.specs.Pieces.{Pieces};
+ghost use Rattle.element_tree.specs.declared.kinds.Element.{Element};
+ghost use Rattle.var_functions.specs.State.{IsLater};
+ghost use Rattle.cursor_steps.specs.Step.{StepsTo, IsThere};
+ghost use Rattle.cursor_steps.specs.Children.{IsAmong, run_count};
+ghost use Rattle.choice_controllers.specs.SwitchController.{name_at, run_names, is_name, place_named, index_among, picks, switch_enters, switch_next};
+
+use crate::chosen::take_turn;
+use cursor_steps::{decimal_number, is_run_at, run_count};
+use element_tree::{Element, Kind, Plan, Turn};
+use jm_base::Outside;
+use std::alloc::Global;
+use template_text::Template;
+use var_functions::{UserState, VarError, expand};
+
+/// What a Switch Controller does next (the manual's "Switch Controller"): in each pass it runs the one child that the
+/// text of `value` picked on entry, by its index or by its name.
+#[derive(Clone, Copy)]
+pub struct SwitchCursor {
+    /// The number of the controller's element.
+    pub element: u16,
+    /// The place of the child that is still to be run in this pass.
+    pub chosen: Option<u16>,
+}
+
+/// Whether a name is the wanted one, capitals of ASCII aside where case does not matter.
+fn is_name(name: &[u8], wanted: &[u8], any_case: bool) -> bool
+    ensures { result ≡ is_name any_case wanted.now name.now }
+{
+    if any_case {
+        return name.eq_ignore_ascii_case(wanted);
+    }
+    name == wanted
+}
+
+/// The name of the element of this number.
+fn name_at(plan: &Plan, number: u16) -> &[u8]
+    ensures { result.now ≡ name_at plan.now.elements number }
+{
+    match plan.element(number) {
+        Some(element) => element.name.bytes(),
+        None => b"",
+    }
+}
+
+/// The place of the first child that has the wanted name, among the children that are run.
+fn place_named(plan: &Plan, element: &Element, wanted: &[u8], any_case: bool) -> Option<u16>
+    ensures { result ≡ place_named any_case wanted.now (run_names plan.now.elements element.now) }
+{
+    let mut place: u16 = 0;
+    for child in element.children.as_slice() {
+        if !is_run_at(plan, *child) {
+            continue;
+        }
+        if place == u16::MAX {
+            return None;
+        }
+        if is_name(name_at(plan, *child), wanted, any_case) {
+            return Some(place);
+        }
+        place += 1;
+    }
+    None
+}
+
+/// An index among so many children; one that is out of range is the first child's.
+fn index_among(children: u16, index: u32) -> u16
+    ensures among { result ≡ index_among children index }
+    ensures below { 0 < children → result < children }
+{
+    if index < u32::from(children) {
+        index as u16
+    } else {
+        0
+    }
+}
+
+/// The place of the child that a text picks.
+fn picks(plan: &Plan, element: &Element, text: &[u8]) -> Option<u16>
+    ensures place { result ≡ picks text.now (run_names plan.now.elements element.now) }
+    ensures child { IfSome result (λ place. place < run_count plan.now.elements element.now) }
+{
+    let children = run_count(plan, element);
+    if children == 0 {
+        return None;
+    }
+    if text.is_empty() {
+        return Some(0);
+    }
+    if let Some(index) = decimal_number(text) {
+        return Some(index_among(children, index));
+    }
+    match place_named(plan, element, text, false) {
+        Some(place) => Some(place),
+        None => place_named(plan, element, b"default", true),
+    }
+}
+
+impl SwitchCursor {
+    /// The cursor of this element, before its first `enter`.
+    pub fn new(element: u16) -> SwitchCursor
+        ensures { result ≡ record { element = element; chosen = None } }
+    {
+        SwitchCursor {
+            element,
+            chosen: None,
+        }
+    }
+
+    /// Begins a pass: expands `value`, and chooses the child that its text picks. Decimal digits pick the child of that
+    /// index, from 0; an index out of range, or an empty text, picks the first child. Another text picks the first child
+    /// of that name, case significant; where no child has it, the first one named `default`, in capitals or not; else
+    /// none.
+    ///
+    /// `ValueLimit` comes where the expansion would be past its limit. A call that refuses leaves the cursor as it was.
+    pub fn enter<O: Outside>(
+        &mut self,
+        alloc: Global,
+        plan: &Plan,
+        state: &mut UserState,
+        outside: &mut O,
+    ) -> Result<(), VarError>
+        requires { (e : Element) × (value : Pieces) × IsThere plan.now.elements self.old.element e (Kind.Switch value) }
+        ensures came { (e : Element) (value : Pieces) → IsThere plan.now.elements self.old.element e (Kind.Switch value)
+            → StepsTo (O.account outside.old) (switch_enters value (run_names plan.now.elements e) self.old state.old)
+            (O.account outside.new) self.new state.new result }
+        ensures child { (e : Element) → slice_get plan.now.elements self.old.element ≡ Some e
+            → OnOk result (IfSome self.new.chosen (λ place. place < run_count plan.now.elements e)) }
+        ensures same { self.new.element ≡ self.old.element }
+        ensures kept { OnErr result (self.new ≡ self.old) }
+        ensures vars { state.new.vars ≡ state.old.vars }
+        ensures later { IsLater state.old.fns state.new.fns }
+    {
+        let Some(element) = plan.element(self.element) else {
+            unreachable!();
+        };
+        let Kind::Switch { value } = &element.kind else {
+            unreachable!();
+        };
+        self.begin(alloc, plan, element, value, state, outside)
+    }
+
+    // Expands the text, which picks a child of this element.
+    fn begin<O: Outside>(
+        &mut self,
+        alloc: Global,
+        plan: &Plan,
+        element: &Element,
+        value: &Template,
+        state: &mut UserState,
+        outside: &mut O,
+    ) -> Result<(), VarError>
+        ensures came { StepsTo (O.account outside.old) (switch_enters value.now (run_names plan.now.elements element.now) self.old state.old)
+            (O.account outside.new) self.new state.new result }
+        ensures child { OnOk result (IfSome self.new.chosen (λ place. place < run_count plan.now.elements element.now)) }
+        ensures same { self.new.element ≡ self.old.element }
+        ensures kept { OnErr result (self.new ≡ self.old) }
+        ensures vars { state.new.vars ≡ state.old.vars }
+        ensures later { IsLater state.old.fns state.new.fns }
+    {
+        match expand(alloc, value, state, outside) {
+            Ok(text) => {
+                self.chosen = picks(plan, element, text.bytes());
+                Ok(())
+            }
+            Err(error) => Err(error),
+        }
+    }
+
+    /// The child that was chosen, where it is still to be run, or `Over`. It takes no memory.
+    pub fn next<O: Outside>(
+        &mut self,
+        _alloc: Global,
+        _plan: &Plan,
+        _round: u64,
+        state: &mut UserState,
+        outside: &mut O,
+    ) -> Result<Turn, VarError>
+        ensures came { StepsTo (O.account outside.old) (switch_next self.old state.old) (O.account outside.new) self.new state.new result }
+        ensures child { (children : ℕ) → IfSome self.old.chosen (λ place. place < children) → IsOkAnd result (λ turn. IsAmong children turn) }
+        ensures taken { self.new ≡ record self.old { chosen = None } }
+        ensures same { self.new.element ≡ self.old.element }
+        ensures state { state.new ≡ state.old }
+    {
+        Ok(take_turn(&mut self.chosen))
+    }
+}

@@ -1,0 +1,101 @@
+-- What an element means goes on as its cursor's entry says.
+use Rattle.std.proofs.Common.{◌≡◌, ℕ, Bool, true, false, List, length, refl, sym, subst, arith}
+use Rattle.std.specs.Prelude.{if◌then◌else◌}
+use Rattle.jm_base.specs.Run.{over, ◌>>=◌}
+use Rattle.template_text.specs.Pieces.{Pieces}
+use Rattle.element_tree.specs.declared.kinds.Kind.{Kind}
+use Rattle.element_tree.specs.declared.kinds.Kind.TheVariants as kinds
+use Rattle.var_functions.specs.declared.state.UserState.{UserState}
+use Rattle.logic_controllers.specs.declared.simple_cursor.SimpleCursor.{SimpleCursor}
+use Rattle.logic_controllers.specs.declared.once_cursor.OnceCursor.{OnceCursor}
+use Rattle.logic_controllers.specs.declared.loop_cursor.LoopCursor.{LoopCursor}
+use Rattle.logic_controllers.specs.declared.if_cursor.IfCursor.{IfCursor}
+use Rattle.logic_controllers.specs.declared.while_cursor.WhileCursor.{WhileCursor}
+use Rattle.logic_controllers.specs.declared.each_cursor.EachCursor.{EachCursor}
+use Rattle.cursor_steps.specs.Step.{answers}
+use Rattle.cursor_steps.specs.Children.{pass_over, none_left, is_left}
+use Rattle.logic_controllers.specs.Rounds.{before_rounds}
+use Rattle.logic_controllers.specs.SimpleController.{simple_enters}
+use Rattle.logic_controllers.specs.OnceOnlyController.{once_enters}
+use Rattle.logic_controllers.specs.LoopController.{loops_of, loop_enters}
+use Rattle.logic_controllers.specs.IfController.{is_true, if_enters}
+use Rattle.logic_controllers.specs.WhileController.{while_enters}
+use Rattle.logic_controllers.specs.ForEachController.{Row, kind_of, each_enters}
+use Rattle.jm_meaning.specs.State.{State, state_of, normal, tried, text}
+use Rattle.jm_meaning.specs.Rounds.{Turns, rounds, loop_turns, while_turns, each_turns}
+use Rattle.jm_meaning.specs.Children.{Below, in_order, once_only, if_part}
+use Rattle.jm_meaning.specs.Beginning.{max_rounds}
+use Rattle.control_machine.specs.Moves.{begun, pass_left}
+use Rattle.control_machine.specs.Cursors.{simple_left, once_left, if_left, round_left, loop_left, while_left, each_left, if_left_in, while_left_in, each_left_in}
+use Rattle.control_machine.proofs.PassLaws.{none-left, all-left}
+use Rattle.control_machine.proofs.StepLaws.{text-law}
+
+-- before the first child of a pass all are left
+whole : (n : ℕ) (children : List ℕ) → n ≡ length children → pass_left (pass_over n) children ≡ children
+whole n children all = all-left (pass_over n) children refl all
+
+pub simple-enter : (below : Below) (round : ℕ) (children : List ℕ) (n : ℕ) (c : SimpleCursor) (s : State) → n ≡ length children
+    → in_order below round children s ≡ (simple_enters n c s.user >>= begun (simple_left below round children) s.own)
+simple-enter below round children n c s all = rw (whole n children all) refl
+
+pub once-enter : (below : Below) (round : ℕ) (children : List ℕ) (n : ℕ) (c : OnceCursor) (s : State) → n ≡ length children
+    → once_only below round children s ≡ (once_enters n c s.user >>= begun (once_left below round children) s.own)
+once-enter below round children n c s all = rw (whole n children all) refl
+
+pub if-enter : (all : Bool) (condition : Pieces) (below : Below) (round : ℕ) (children : List ℕ) (n : ℕ) (c : IfCursor) (s : State) → n ≡ length children
+    → if_part all below round children (text condition) s ≡ (if_enters all condition n c s.user >>= begun (if_left all condition below round children) s.own)
+if-enter true condition below round children n c s all = rw (whole n children all) refl
+if-enter false condition below round children n c s all =
+    text-law condition c s (λ t u. answers tt (record { element = c.element; pass = pass_over (if is_true t then n else 0) }) u)
+    (begun (if_left false condition below round children) s.own)
+    (λ t s. if is_true t then in_order below round children s else over (normal s)) (λ u. refl) (λ t u. by_truth (is_true t) u) where
+      by_truth : (x : Bool) (u : UserState) → (if x then in_order below round children (state_of u s.own) else over (normal (state_of u s.own)))
+          ≡ in_order below round (pass_left (pass_over (if x then n else 0)) children) (state_of u s.own)
+      by_truth true u = rw (whole n children all) refl
+      by_truth false u = refl
+
+no_less : (n : ℕ) → is_left (none_left n) ≡ false
+no_less n = grind arith
+
+-- before the first round all rounds are left
+before-first : {X : Type 0} (turns : Turns X) (below : Below) (children : List ℕ) (n : ℕ) (s : State)
+    → rounds max_rounds turns (λ i. in_order below i children) 0 s ≡ round_left turns below children (before_rounds n) s
+before-first turns below children n s = rw (none-left (none_left n) children (no_less n)) refl
+
+pub loop-enter : (name : List ℕ) (loops : Pieces) (below : Below) (children : List ℕ) (n : ℕ) (c : LoopCursor) (s : State)
+    → tried (text loops) s (λ x. rounds max_rounds (loop_turns name (loops_of x)) (λ i. in_order below i children) 0)
+    ≡ (loop_enters loops n c s.user >>= begun (loop_left name below children) s.own)
+loop-enter name loops below children n c s =
+    text-law loops c s (λ t u. answers tt (record { element = c.element; loops = loops_of t; rounds = before_rounds n }) u) (begun (loop_left name below children) s.own)
+    (λ x. rounds max_rounds (loop_turns name (loops_of x)) (λ i. in_order below i children) 0) (λ u. refl)
+    (λ t u. before-first (loop_turns name (loops_of t)) below children n (state_of u s.own))
+
+pub while-enter : (name : List ℕ) (condition : Pieces) (below : Below) (children : List ℕ) (n : ℕ) (c : WhileCursor) (s : State)
+    → rounds max_rounds (while_turns name condition) (λ i. in_order below i children) 0 s
+    ≡ (while_enters n c s.user >>= begun (while_left name condition below children) s.own)
+while-enter name condition below children n c s = before-first (while_turns name condition) below children n s
+
+pub each-enter : (name : List ℕ) (row : Row) (output : List ℕ) (below : Below) (children : List ℕ) (n : ℕ) (c : EachCursor) (s : State)
+    → rounds max_rounds (each_turns name row output) (λ i. in_order below i children) 0 s
+    ≡ (each_enters n c s.user >>= begun (each_left name row output below children) s.own)
+each-enter name row output below children n c s = before-first (each_turns name row output) below children n s
+
+-- ---- at an element of the cursor's kind
+
+pub if-enter-in : (k : Kind) (all : Bool) (condition : Pieces) (below : Below) (round : ℕ) (children : List ℕ) (n : ℕ) (c : IfCursor) (s : State) → k ≡ kinds.If all condition → n ≡ length children
+    → if_part all below round children (text condition) s ≡ (if_enters all condition n c s.user >>= begun (if_left_in k below round children) s.own)
+if-enter-in k all condition below round children n c s is count =
+    subst (λ k. if_part all below round children (text condition) s ≡ (if_enters all condition n c s.user >>= begun (if_left_in k below round children) s.own)) (sym is)
+    (if-enter all condition below round children n c s count)
+
+pub while-enter-in : (k : Kind) (name : List ℕ) (condition : Pieces) (below : Below) (children : List ℕ) (n : ℕ) (c : WhileCursor) (s : State) → k ≡ kinds.While condition
+    → rounds max_rounds (while_turns name condition) (λ i. in_order below i children) 0 s ≡ (while_enters n c s.user >>= begun (while_left_in k name below children) s.own)
+while-enter-in k name condition below children n c s is =
+    subst (λ k. rounds max_rounds (while_turns name condition) (λ i. in_order below i children) 0 s ≡ (while_enters n c s.user >>= begun (while_left_in k name below children) s.own)) (sym is)
+    (while-enter name condition below children n c s)
+
+pub each-enter-in : (k : Kind) (name : List ℕ) (row : Row) (output : List ℕ) (below : Below) (children : List ℕ) (n : ℕ) (c : EachCursor) (s : State) → k ≡ kind_of row output
+    → rounds max_rounds (each_turns name row output) (λ i. in_order below i children) 0 s ≡ (each_enters n c s.user >>= begun (each_left_in k name below children) s.own)
+each-enter-in k name row output below children n c s is =
+    subst (λ k. rounds max_rounds (each_turns name row output) (λ i. in_order below i children) 0 s ≡ (each_enters n c s.user >>= begun (each_left_in k name below children) s.own)) (sym is)
+    (each-enter name row output below children n c s)

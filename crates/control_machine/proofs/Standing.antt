@@ -1,0 +1,135 @@
+-- A machine stands in its plan behind each turn.
+use Rattle.std.proofs.Common.{◌≡◌, inr, ℕ, zero, suc, ◌+◌, ◌-◌, ◌≤◌, ◌<◌, Bool, true, false, List, [], ◌∷◌, length, take, Some, refl, sym, subst, arith}
+use Rattle.std.specs.Prelude.{if◌then◌else◌, slice_get, Result, Ok, Err, MatchResult, IfOk}
+use Rattle.std.specs.List.{AllByRecursion, filter}
+use Rattle.std.proofs.lemmas.Option.{slice_get_within}
+use Rattle.element_tree.specs.declared.kinds.Element.{Element}
+use Rattle.element_tree.specs.declared.kinds.Kind.{Kind}
+use Rattle.element_tree.specs.declared.package.Turn.{Turn}
+use Rattle.element_tree.specs.declared.package.Turn.TheVariants.{Child, Round, Over}
+use Rattle.element_tree.specs.Tree.{Tree, Nests}
+use Rattle.logic_controllers.specs.Rounds.{begun_after}
+use Rattle.jm_meaning.specs.Children.{children_of}
+use Rattle.jm_meaning.specs.Beginning.{max_rounds}
+use Rattle.control_machine.specs.declared.cursor.Cursor.{Cursor}
+use Rattle.control_machine.specs.declared.cursor.Cursor.TheVariants.{Simple, Once, Loop, If, While, Each}
+use Rattle.control_machine.specs.declared.stack.Frame.{Frame}
+use Rattle.control_machine.specs.declared.machine.Group.{Group}
+use Rattle.control_machine.specs.Cursors.{FitsKind, begun_of, pass_of}
+use Rattle.control_machine.specs.declared.machine.Machine.{Machine}
+use Rattle.control_machine.specs.declared.machine.Went.{Went}
+use Rattle.control_machine.specs.declared.machine.Went.TheVariants.{On}
+use Rattle.var_functions.specs.declared.error.VarError.{VarError}
+use Rattle.var_functions.specs.declared.error.VarError.TheVariants.{NoMemory}
+use Rattle.cursor_steps.specs.Children.{is_run_at, runs_of}
+use Rattle.control_machine.specs.Load.{children_count, remaining}
+use Rattle.control_machine.specs.Left.{IsOpen, AreOpen, GroupIsOpen, IsOut, StandsIn}
+use Rattle.control_machine.specs.Turns.{IsOpened, IsRoundless, IsRoundIn}
+use Rattle.control_machine.proofs.LoadLaws.{few_runs}
+
+-- with fewer rounds left
+pub fewer_open : (elements : List Element) (m n : ℕ) (fs : List Frame) → m ≤ n → AreOpen elements n fs → AreOpen elements m fs
+fewer_open elements m n [] le h = tt
+fewer_open elements m n (f ∷ fs) le h =
+    (record { element = h.0.element; there = h.0.there; fits = h.0.fits; below = h.0.below; depth = h.0.depth; bound = omega (arith, h.0.bound, le) }, fewer_open elements m n fs le h.1)
+
+pub fewer_group : (elements : List Element) (m n : ℕ) (g h : Group) → h ≡ g → m ≤ n → GroupIsOpen elements n g → GroupIsOpen elements m h
+fewer_group elements m n g h is le o =
+    subst (GroupIsOpen elements m) (sym is) (record { element = o.element; there = o.there; below = o.below; pass = o.pass; bound = omega (arith, o.bound, le) })
+
+-- an element that has answered Round is open in it
+pub round_open : (elements : List Element) (left k : ℕ) (f : Frame) (turn : Turn) → turn ≡ Round → (left ≡ 0 → ⊥) → k ≡ left - 1 → IsOpen elements (begun_after max_rounds turn) left f → IsOpen elements max_rounds k f
+round_open elements left k f turn is some less o =
+    let b : begun_of f.cursor + left ≤ max_rounds + 1 = subst (λ t. begun_of f.cursor + left ≤ begun_after max_rounds t) is o.bound in
+    record { element = o.element; there = o.there; fits = o.fits; below = o.below; depth = o.depth; bound = omega (arith, b, some, less) }
+
+pub child_open : (elements : List Element) (left place : ℕ) (f : Frame) (turn : Turn) → turn ≡ Child place → IsOpen elements (begun_after max_rounds turn) left f → IsOpen elements max_rounds left f
+child_open elements left place f turn is o = subst (λ t. IsOpen elements (begun_after max_rounds t) left f) is o
+
+-- an element behind its answer
+pub answered_open : (elements : List Element) (left : ℕ) (f : Frame) (c : Cursor) (turn : Turn) (o : IsOpen elements max_rounds left f)
+    → FitsKind f.element (length (children_of elements o.element)) o.element.kind c → begun_of c ≤ begun_after (begun_of f.cursor) turn
+    → IsOpen elements (begun_after max_rounds turn) left (record { element = f.element; round = f.round; depth = f.depth; cursor = c })
+answered_open elements left f c turn o fits begun =
+    record { element = o.element; there = o.there; fits = fits; below = o.below; depth = o.depth; bound = by_turn turn begun } where
+      by_turn : (turn : Turn) → begun_of c ≤ begun_after (begun_of f.cursor) turn → begun_of c + left ≤ begun_after max_rounds turn
+      by_turn (Child place) h = let b = o.bound in omega (arith, h, b)
+      by_turn Round h = let b = o.bound in omega (arith, h, b)
+      by_turn Over h = let b = o.bound in omega (arith, h, b)
+
+pub all_at : (P : ℕ → Type 0) (xs : List ℕ) (i x : ℕ) → AllByRecursion P xs → slice_get xs i ≡ Some x → P x
+all_at P [] i x all h = absurd (none h) where
+  none : slice_get {X = ℕ} [] i ≡ Some x → ⊥
+  none h = let w : i < 0 = slice_get_within [] i x h in omega arith
+all_at P (y ∷ xs) zero x all h = subst P (same h) all.0 where
+  same : slice_get (y ∷ xs) 0 ≡ Some x → y ≡ x
+  same h = cc
+all_at P (y ∷ xs) (suc i) x all h = all_at P xs i x all.1 h
+
+-- a cursor has no more children in its pass than run
+pub few_in_pass : (n count : ℕ) (k : Kind) (c : Cursor) → FitsKind n count k c → (pass_of c).children ≤ count
+few_in_pass n count k (Simple c) h = h.2
+few_in_pass n count k (Once c) h = h.2
+few_in_pass n count k (Loop c) h = let e = h.2 in omega (arith, e)
+few_in_pass n count k (If c) h = h.2
+few_in_pass n count k (While c) h = let e = h.2 in omega (arith, e)
+few_in_pass n count k (Each c) h = let e = h.2 in omega (arith, e)
+
+-- an open element has no more children left than all elements have children
+pub few_left : (elements : List Element) (limit left : ℕ) (f : Frame) → IsOpen elements limit left f → remaining (pass_of f.cursor) ≤ children_count elements
+few_left elements limit left f o =
+    let p = few_in_pass f.element (length (children_of elements o.element)) o.element.kind f.cursor o.fits in
+    let r = few_runs elements f.element o.element o.there in
+    omega (arith, p, r)
+
+-- ---- the children that run are among the children
+
+all_filter : (P : ℕ → Type 0) (p : ℕ → Bool) (xs : List ℕ) → AllByRecursion P xs → AllByRecursion P (filter p xs)
+all_filter P p [] all = tt
+all_filter P p (x ∷ xs) all = by_test (p x) (all_filter P p xs all.1) where
+  by_test : (b : Bool) → AllByRecursion P (filter p xs) → AllByRecursion P (if b then x ∷ filter p xs else filter p xs)
+  by_test true rest = (all.0, rest)
+  by_test false rest = rest
+
+all_take : (P : ℕ → Type 0) (n : ℕ) (xs : List ℕ) → AllByRecursion P xs → AllByRecursion P (take n xs)
+all_take P zero xs all = tt
+all_take P (suc n) [] all = tt
+all_take P (suc n) (x ∷ xs) all = (all.0, all_take P n xs all.1)
+
+pub child_nests : (elements : List Element) (depth place child : ℕ) (e : Element) → AllByRecursion (Nests depth elements) e.children → slice_get (children_of elements e) place ≡ Some child → Nests depth elements child
+child_nests elements depth place child e below found =
+    all_at (Nests depth elements) (children_of elements e) place child
+    (all_take (Nests depth elements) 65535 (runs_of elements e) (all_filter (Nests depth elements) (is_run_at elements) e.children below)) found
+
+-- ---- where a cursor was pushed
+
+abbrev pub Pushed : Machine → Machine → Frame → Result Went VarError → Type 0
+Pushed m m' f res = MatchResult res (λ w. (w ≡ On) × (m'.stack.frames ≡ f ∷ m.stack.frames)) (λ e. e ≡ NoMemory)
+
+abbrev pub IsRest : Machine → Machine → Type 0
+IsRest m m' = (m'.group ≡ m.group) × (m'.rounds ≡ m.rounds) × (m'.at_failure ≡ m.at_failure) × (m'.signal ≡ m.signal)
+
+pub pushed_stands : (plan : Tree) (m m' : Machine) (f : Frame) (res : Result Went VarError) → Pushed m m' f res → IsRest m m' → IsOpen plan.elements max_rounds m.rounds f → StandsIn plan m → IfOk res (λ w. StandsIn plan m')
+pushed_stands plan m m' f (Ok w) pushed rest open' stands = record {
+  group = fewer_group plan.elements m'.rounds m.rounds m.group m'.group rest.0 (let r = rest.1 in omega (arith, r)) stands.group;
+  open_ = subst (λ fs. AreOpen plan.elements m'.rounds fs) (sym pushed.1) (subst (λ n. AreOpen plan.elements n (f ∷ m.stack.frames)) (sym rest.1) (open', stands.open_));
+  failure = subst IsOut (sym rest.2) stands.failure;
+  signal = subst IsOut (sym rest.3) stands.signal;
+}
+pushed_stands plan m m' f (Err e) pushed rest open' stands = tt
+
+pub pushed_opens : (plan : Tree) (m m' : Machine) (n round depth : ℕ) (c : Cursor) (e : Element) → slice_get plan.elements n ≡ Some e → FitsKind n (length (children_of plan.elements e)) e.kind c → (res : Result Went VarError)
+    → Pushed m m' (record { element = n; round = round; depth = depth - 1; cursor = c }) res → IfOk res (λ w. IsOpened plan.elements depth m.stack.frames m'.stack.frames)
+pushed_opens plan m m' n round depth c e there fits (Ok w) pushed =
+    let p = few_in_pass n (length (children_of plan.elements e)) e.kind c fits in
+    let r = few_runs plan.elements n e there in
+    inr (record { element = n; round = round; depth = depth - 1; cursor = c }, pushed.1, refl, omega (arith, p, r))
+pushed_opens plan m m' n round depth c e there fits (Err error) pushed = tt
+
+pub pushed_rounds : (m m' : Machine) (f : Frame) (res : Result Went VarError) → Pushed m m' f res → m'.rounds ≡ m.rounds → IfOk res (λ w. IsRoundless w m.rounds m'.rounds)
+pushed_rounds m m' f (Ok w) pushed same = rw pushed.0 (omega (arith, same))
+pushed_rounds m m' f (Err e) pushed same = tt
+
+pub pushed_begins : (m m' : Machine) (f : Frame) (res : Result Went VarError) → Pushed m m' f res → IfOk res (λ w. IsRoundIn w m'.group)
+pushed_begins m m' f (Ok w) pushed = rw pushed.0 tt
+pushed_begins m m' f (Err e) pushed = tt

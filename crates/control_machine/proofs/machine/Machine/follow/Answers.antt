@@ -1,0 +1,74 @@
+use Rattle.std.proofs.Common.{◌-◌, sym, refl, arith}
+use Rattle.std.proofs.lemmas.Result.{IfOk-weaker}
+use Rattle.jm_meaning.specs.State.{state_of, at_rounds}
+use Rattle.control_machine.specs.Moves.{past}
+use Rattle.control_machine.specs.Turns.{went}
+use Rattle.control_machine.proofs.OpenLaws.{goes_as}
+use Rattle.control_machine.proofs.Answered.{came_as, is_over, no_round_left, round_taken, child_next, no_child}
+use Rattle.control_machine.proofs.Standing.{fewer_group, fewer_open, round_open, child_nests, few_left}
+use Rattle.control_machine.proofs.Lightening.{over_lighter, round_lighter, child_lighter, none_lighter}
+use Rattle.control_machine.proofs.Opening.{nests_at}
+use Rattle.control_machine.proofs.machine.Machine.follow.Goals as goal
+
+pub returns-in-Over-clause-came : goal.returns-in-Over-clause-came
+returns-in-Over-clause-came g c = λ e own there same.
+    goes_as _ _ _ (is_over c.args.plan.now c.args.self.now c.args.frame e c.args.state.now own there c.args.turn c.in-Over.is c.requires.normal c.args.self.now.rounds (sym same))
+
+pub returns-in-Over-clause-lighter : goal.returns-in-Over-clause-lighter
+returns-in-Over-clause-lighter g c = λ old depth passes. over_lighter c.args.plan.now.elements c.args.self.now old
+
+pub returns-then-self-eq0-clause-came : goal.returns-then-self-eq0-clause-came
+returns-then-self-eq0-clause-came g c = λ e own there same.
+    goes_as _ _ _ (no_round_left c.args.plan.now c.args.self.now c.args.frame e c.args.state.now own there c.args.turn c.in-Round.is (omega (arith, same, c.if-self-eq0.true)) c.args.self.now.rounds (sym same))
+
+pub returns-else-self-eq0-clause-came : goal.returns-else-self-eq0-clause-came
+returns-else-self-eq0-clause-came g c = λ e own there same.
+    goes_as _ _ _ (round_taken c.args.plan.now c.args.self.now c.args.frame e c.args.state.now own there c.args.turn c.in-Round.is (record c.args.self.now { stack = c.put.new.self; rounds = c.args.self.now.rounds - 1 }) (record { group = refl; failure = refl; signal = c.requires.normal }) c.put.ensures (c.args.self.now.rounds - 1) (omega (arith, same, c.if-self-eq0.false)))
+
+pub returns-else-self-eq0-clause-stands : goal.returns-else-self-eq0-clause-stands
+returns-else-self-eq0-clause-stands g c =
+    let s = c.requires.stands in
+    record {
+      group = fewer_group c.args.plan.now.elements (c.args.self.now.rounds - 1) c.args.self.now.rounds c.args.self.now.group c.args.self.now.group refl (omega arith) s.group;
+      open_ = rw c.put.ensures
+          (round_open c.args.plan.now.elements c.args.self.now.rounds (c.args.self.now.rounds - 1) c.args.frame c.args.turn c.in-Round.is c.if-self-eq0.false refl c.requires.open, fewer_open c.args.plan.now.elements (c.args.self.now.rounds - 1) c.args.self.now.rounds c.args.self.now.stack.frames (omega arith) s.open_);
+      failure = s.failure;
+      signal = s.signal;
+    }
+
+pub returns-else-self-eq0-clause-lighter : goal.returns-else-self-eq0-clause-lighter
+returns-else-self-eq0-clause-lighter g c = λ old depth passes.
+    round_lighter c.args.plan.now.elements c.args.self.now (record c.args.self.now { stack = c.put.new.self; rounds = c.args.self.now.rounds - 1 }) old c.args.frame (few_left c.args.plan.now.elements _ c.args.self.now.rounds c.args.frame c.requires.open) c.requires.open.depth c.put.ensures refl (omega (arith, c.if-self-eq0.false))
+
+pub open-requires-clause-nests : goal.open-requires-clause-nests
+open-requires-clause-nests g c =
+    let o = c.requires.open in
+    child_nests c.args.plan.now.elements c.args.frame.depth c.in-Child.place c.in-Some.child o.element o.below (sym (c.in-Some.ensures o.element o.there))
+
+pub returns-in-Some-clause-came : goal.returns-in-Some-clause-came
+returns-in-Some-clause-came g c = λ e own there same.
+    came_as (g.O.Outside.account c.args.outside.now) (g.O.Outside.account c.open.new.outside) _ _ (went c.args.plan.now c.open.new.self (state_of c.open.new.state (at_rounds own c.open.new.self.rounds)))
+    (past (state_of c.open.new.state (at_rounds own c.open.new.self.rounds))) c.open.result
+    (child_next c.args.plan.now c.args.self.now c.args.frame e c.args.state.now own there c.args.turn c.in-Child.place c.in-Some.child c.round-round.result c.in-Child.is (sym (c.in-Some.ensures e there)) c.round-round.ensures
+    (record c.args.self.now { stack = c.put-in-Child.new.self }) (record { group = refl; failure = refl; signal = c.requires.normal }) c.put-in-Child.ensures)
+    (c.open.ensures.came own same)
+
+pub returns-in-Some-clause-lighter : goal.returns-in-Some-clause-lighter
+returns-in-Some-clause-lighter g c = IfOk-weaker c.open.result _ _ (λ w opened old depth passes.
+    child_lighter c.args.plan.now.elements c.args.self.now c.open.new.self old c.args.frame c.args.turn c.in-Child.place (record c.args.self.now { stack = c.put-in-Child.new.self }).stack.frames w c.in-Child.is
+    (nests_at c.args.plan.now.elements c.args.frame.depth c.in-Some.child (child_nests c.args.plan.now.elements c.args.frame.depth c.in-Child.place c.in-Some.child c.requires.open.element c.requires.open.below (sym (c.in-Some.ensures c.requires.open.element c.requires.open.there)))).some
+    depth passes c.put-in-Child.ensures opened c.open.ensures.rest.0 c.open.ensures.rest.1) c.open.ensures.load
+
+pub returns-in-Some-clause-rounds : goal.returns-in-Some-clause-rounds
+returns-in-Some-clause-rounds g c = c.open.ensures.rounds
+
+pub returns-in-Some-clause-index : goal.returns-in-Some-clause-index
+returns-in-Some-clause-index g c = c.open.ensures.index
+
+pub returns-in-None-clause-came : goal.returns-in-None-clause-came
+returns-in-None-clause-came g c = λ e own there same.
+    goes_as _ _ _ (no_child c.args.plan.now c.args.self.now c.args.frame e c.args.state.now own there c.args.turn c.in-Child.place c.in-Child.is (sym (c.in-None.ensures e there)) (record c.args.self.now { stack = c.put-in-Child.new.self }) (record { group = refl; failure = refl; signal = c.requires.normal }) c.put-in-Child.ensures c.args.self.now.rounds (sym same))
+
+pub returns-in-None-clause-lighter : goal.returns-in-None-clause-lighter
+returns-in-None-clause-lighter g c = λ old depth passes.
+    none_lighter c.args.plan.now.elements c.args.self.now (record c.args.self.now { stack = c.put-in-Child.new.self }) old c.args.frame c.args.turn c.in-Child.place c.in-Child.is depth passes c.put-in-Child.ensures refl refl

@@ -1,0 +1,60 @@
+use Rattle.std.proofs.Common.{sym, ◌∙◌, ◌-◌, arith}
+use Rattle.jm_meaning.specs.Meaning.{meaning}
+use Rattle.control_machine.specs.Left.{here_in}
+use Rattle.control_machine.proofs.Opening.{nests_at}
+use Rattle.control_machine.proofs.Turning.{open_nothing, open_sampler, open_frame, open_refused}
+use Rattle.control_machine.proofs.Standing.{pushed_stands, pushed_opens, pushed_rounds, pushed_begins}
+use Rattle.control_machine.proofs.machine.Machine.open.Goals as goal
+
+pub push-requires : goal.push-requires
+push-requires g c = (nests_at c.args.plan.now.elements c.args.depth c.args.child c.requires.nests).some
+
+pub returns-in-Ok-Nothing-clause-came : goal.returns-in-Ok-Nothing-clause-came
+returns-in-Ok-Nothing-clause-came g c = λ own same.
+    let n = nests_at c.args.plan.now.elements c.args.depth c.args.child c.requires.nests in
+    open_nothing c.args.plan.now c.args.self.now c.args.child c.args.round c.args.depth n.element c.args.state.now c.enter.new.state own _ _ n.some n.there c.requires.normal c.args.self.now.rounds (sym same)
+    (rw c.in-Ok-Nothing.field-0-is at (c.in-Ok-Nothing.ensures.came n.element c.args.self.now.at_failure (meaning (here_in c.args.plan.now c.args.self.now) (c.args.depth - 1)) c.args.round own n.there))
+
+pub returns-in-Ok-Sampler-clause-came : goal.returns-in-Ok-Sampler-clause-came
+returns-in-Ok-Sampler-clause-came g c = λ own same.
+    let n = nests_at c.args.plan.now.elements c.args.depth c.args.child c.requires.nests in
+    open_sampler c.args.plan.now c.args.self.now c.args.child c.args.round c.args.depth n.element c.args.state.now c.enter.new.state own _ _ n.some n.there c.args.self.now.rounds (sym same)
+    (rw c.in-Ok-Sampler.field-0-is at (c.in-Ok-Sampler.ensures.came n.element c.args.self.now.at_failure (meaning (here_in c.args.plan.now c.args.self.now) (c.args.depth - 1)) c.args.round own n.there))
+
+pub returns-in-Ok-Sampler-clause-given : goal.returns-in-Ok-Sampler-clause-given
+returns-in-Ok-Sampler-clause-given g c =
+    let n = nests_at c.args.plan.now.elements c.args.depth c.args.child c.requires.nests in
+    record { element = n.element; there = n.there; script = rw c.in-Ok-Sampler.field-0-is at (c.in-Ok-Sampler.ensures.fits n.element n.there) }
+
+pub returns-in-Ok-Open-clause-came : goal.returns-in-Ok-Open-clause-came
+returns-in-Ok-Open-clause-came g c = λ own same.
+    let n = nests_at c.args.plan.now.elements c.args.depth c.args.child c.requires.nests in
+    let r = c.push.ensures.rest in
+    open_frame c.args.plan.now c.args.self.now c.args.child c.args.round c.args.depth n.element c.args.state.now c.enter.new.state own (g.O.Outside.account c.args.outside.now) (g.O.Outside.account c.enter.new.outside) n.some n.there
+    c.push.new.self c.in-Ok-Open.cursor c.push.result (record { group = r.0; failure = r.2; signal = r.3 ∙ c.requires.normal }) c.push.new.self.rounds (r.1 ∙ sym same) c.push.ensures.pushed
+    (rw c.in-Ok-Open.field-0-is at (c.in-Ok-Open.ensures.came n.element c.args.self.now.at_failure (meaning (here_in c.args.plan.now c.args.self.now) (c.args.depth - 1)) c.args.round own n.there))
+
+pub returns-in-Ok-Open-clause-stands : goal.returns-in-Ok-Open-clause-stands
+returns-in-Ok-Open-clause-stands g c =
+    let n = nests_at c.args.plan.now.elements c.args.depth c.args.child c.requires.nests in
+    let f = rw c.in-Ok-Open.field-0-is at (c.in-Ok-Open.ensures.fits n.element n.there) in
+    pushed_stands c.args.plan.now c.args.self.now c.push.new.self _ c.push.result c.push.ensures.pushed c.push.ensures.rest
+    (record { element = n.element; there = n.there; fits = f.0; below = n.below; depth = omega (arith, c.requires.depth); bound = omega (arith, f.1, c.requires.stands.group.bound) }) c.requires.stands
+
+pub returns-in-Ok-Open-clause-load : goal.returns-in-Ok-Open-clause-load
+returns-in-Ok-Open-clause-load g c =
+    let n = nests_at c.args.plan.now.elements c.args.depth c.args.child c.requires.nests in
+    let f = rw c.in-Ok-Open.field-0-is at (c.in-Ok-Open.ensures.fits n.element n.there) in
+    pushed_opens c.args.plan.now c.args.self.now c.push.new.self c.args.child c.args.round c.args.depth c.in-Ok-Open.cursor n.element n.there f.0 c.push.result c.push.ensures.pushed
+
+pub returns-in-Ok-Open-clause-rounds : goal.returns-in-Ok-Open-clause-rounds
+returns-in-Ok-Open-clause-rounds g c = pushed_rounds c.args.self.now c.push.new.self _ c.push.result c.push.ensures.pushed c.push.ensures.rest.1
+
+pub returns-in-Ok-Open-clause-index : goal.returns-in-Ok-Open-clause-index
+returns-in-Ok-Open-clause-index g c = pushed_begins c.args.self.now c.push.new.self _ c.push.result c.push.ensures.pushed
+
+pub returns-in-Err-clause-came : goal.returns-in-Err-clause-came
+returns-in-Err-clause-came g c = λ own same.
+    let n = nests_at c.args.plan.now.elements c.args.depth c.args.child c.requires.nests in
+    open_refused c.args.plan.now c.args.self.now c.args.child c.args.round c.args.depth n.element c.args.state.now c.enter.new.state own _ _ n.some n.there c.in-Err.error c.args.self.now.rounds (sym same)
+    (c.in-Err.ensures.came n.element c.args.self.now.at_failure (meaning (here_in c.args.plan.now c.args.self.now) (c.args.depth - 1)) c.args.round own n.there)

@@ -1,0 +1,18 @@
+use Rattle.control_machine.proofs.OpenLaws.{goes_as}
+use Rattle.control_machine.proofs.Ways.{not_normal}
+use Rattle.control_machine.proofs.machine.Machine.turn.Goals as goal
+
+pub returns-in-NextLoop : goal.returns-in-NextLoop
+returns-in-NextLoop g c =
+    let l = c.leave_one.ensures in
+    let away = not_normal c.args.self.now.signal c.in-NextLoop.is in
+    record {
+      came = λ own same. goes_as _ _ _ (l.same c.args.plan.now c.args.state.now own c.requires away same);
+      given = l.given c.args.plan.now c.requires away;
+      stands = l.stands c.args.plan.now c.requires;
+      lighter = l.lighter c.args.plan.now.elements;
+      normal = l.normal c.args.plan.now c.requires;
+      rounds = l.rounds;
+      index = l.index;
+      thread = l.thread;
+    }

@@ -1,0 +1,159 @@
+-- What is left of a thread's run, seen from its innermost open element.
+use Rattle.std.specs.Prelude.{◌≡◌, ℕ, ◌+◌, ◌-◌, ◌≤◌, List, [], ◌∷◌, length, Option, Some, None, slice_get, unwrap_or}
+use Rattle.std.specs.Option.{option_map}
+use Rattle.std.specs.List.{AllByRecursion}
+use Rattle.jm_base.specs.declared.types.End.{End}
+use Rattle.jm_base.specs.declared.types.End.TheVariants.{Completed, StopThread, StopTest, Stopped, SampleLimit, RoundLimit, ValueLimit, NoMemory}
+use Rattle.jm_base.specs.Run.{Run, over}
+use Rattle.element_tree.specs.declared.kinds.Element.{Element}
+use Rattle.element_tree.specs.declared.kinds.Kind.{Kind}
+use Rattle.element_tree.specs.declared.kinds.Kind.TheVariants.{Script}
+use Rattle.element_tree.specs.Tree.{Tree, Nests}
+use Rattle.element_tree.specs.Names.{label_of}
+use Rattle.jm_meaning.specs.declared.signal.Signal.{Signal}
+use Rattle.jm_meaning.specs.declared.signal.Signal.TheVariants.{Normal, NextLoop, Stop}
+use Rattle.jm_meaning.specs.State.{State, Ending, Part, normal, stopped, and_then, with_unit}
+use Rattle.jm_meaning.specs.Rounds.{round_of_group}
+use Rattle.jm_meaning.specs.Children.{children_of, in_order}
+use Rattle.jm_meaning.specs.Sampling.{sampling}
+use Rattle.jm_meaning.specs.Beginning.{max_rounds}
+use Rattle.jm_meaning.specs.Meaning.{Here, children_in, meaning, group_rounds}
+use Rattle.control_machine.specs.declared.stack.Frame.{Frame}
+use Rattle.control_machine.specs.declared.machine.Group.{Group}
+use Rattle.control_machine.specs.declared.machine.Machine.{Machine}
+use Rattle.control_machine.specs.declared.moves.Move.{Move}
+use Rattle.control_machine.specs.declared.moves.Move.TheVariants.{Iteration, RunSampler, EnterSection, LeaveSection, TransactionSample, Finished}
+use Rattle.control_machine.specs.Moves.{pass_left}
+use Rattle.control_machine.specs.Cursors.{cursor_left, begun_of, FitsKind}
+
+-- what an open element gives behind the child that is open
+abbrev pub frame_left : Here → Frame → Option Element → Part
+frame_left here f None s = over (normal s)
+frame_left here f (Some e) s = cursor_left (meaning here f.depth) f.round (children_in here e) e f.cursor s
+
+abbrev pub around : Here → Frame → Run Ending → Run Ending
+around here f inner = and_then inner (frame_left here f (slice_get here.plan.elements f.element))
+
+-- the rest of the open elements, the innermost first
+unfoldable pub rest_of : Here → List Frame → Run Ending → Run Ending
+rest_of here [] inner = inner
+rest_of here (f ∷ fs) inner = rest_of here fs (around here f inner)
+
+-- the children of the element at this place that run
+abbrev pub children_at : List Element → ℕ → List ℕ
+children_at elements n = unwrap_or (option_map (children_of elements) (slice_get elements n)) []
+
+-- the rest of a group's round, and the rounds behind it
+abbrev pub group_around : Here → Group → Run Ending → Run Ending
+group_around here g inner =
+    and_then (round_of_group (and_then inner (in_order (meaning here 30) (g.begun - 1) (pass_left g.pass (children_at here.plan.elements g.element)))))
+    (group_rounds (max_rounds - g.begun) (meaning here 30) g.loops (children_at here.plan.elements g.element) g.begun)
+
+-- what is left of the group's rounds
+unfoldable pub left_in : Here → Group → List Frame → Run Ending → Run Ending
+left_in here g fs inner = group_around here g (rest_of here fs inner)
+
+-- a machine's thread
+abbrev pub here_in : Tree → Machine → Here
+here_in plan m = record { plan = plan; at_failure = m.at_failure }
+
+-- what is left of a thread's rounds behind a part of its run
+abbrev pub left_behind : Tree → Machine → Run Ending → Run Ending
+left_behind plan m inner = left_in (here_in plan m) m.group m.stack.frames inner
+
+-- what is left of a thread's rounds
+abbrev pub left_of : Tree → Machine → State → Run Ending
+left_of plan m s = left_behind plan m (over (record { state = s; signal = m.signal }))
+
+-- ---- moves
+
+-- a sampler by its number
+abbrev pub kind_part : Here → ℕ → Element → Kind → Part
+kind_part here number e (Script replies request) s =
+    with_unit s (sampling (label_of here.plan.elements e.name) number request here.at_failure)
+kind_part here number e kind s = over (normal s)
+
+abbrev pub sampler_part : Here → ℕ → Option Element → Part
+sampler_part here number None s = over (normal s)
+sampler_part here number (Some e) s = kind_part here number e e.kind s
+
+abbrev pub ended : End → State → Ending
+ended Completed s = normal s
+ended end s = stopped end s
+
+-- what is left behind a move; sections and transactions come to no move yet
+abbrev pub moved : Tree → Machine → State → Move → Run Ending
+moved plan m s (Iteration index) = left_of plan m s
+moved plan m s (RunSampler number) = left_behind plan m (sampler_part (here_in plan m) number (slice_get plan.elements number) s)
+moved plan m s (EnterSection lock) = left_of plan m s
+moved plan m s (LeaveSection lock) = left_of plan m s
+moved plan m s (TransactionSample element tally) = left_of plan m s
+moved plan m s (Finished end) = over (ended end s)
+
+-- the ends that a machine finishes with
+abbrev pub IsFinish : End → Type 0
+IsFinish Completed = Unit {0}
+IsFinish StopThread = Unit {0}
+IsFinish StopTest = Unit {0}
+IsFinish Stopped = ⊥
+IsFinish SampleLimit = ⊥
+IsFinish RoundLimit = Unit {0}
+IsFinish ValueLimit = ⊥
+IsFinish NoMemory = ⊥
+
+abbrev pub IsScript : Kind → Type 0
+IsScript (Script replies request) = Unit {0}
+IsScript kind = ⊥
+
+-- the number is that of a Script sampler
+pub record IsSampler (elements : List Element) (number : ℕ) : Type 0 where
+  pub element : Element
+  pub there : slice_get elements number ≡ Some element
+  pub script : IsScript element.kind
+
+-- the moves that a machine makes
+abbrev pub IsMove : List Element → Move → Type 0
+IsMove elements (Iteration index) = Unit {0}
+IsMove elements (RunSampler number) = IsSampler elements number
+IsMove elements (EnterSection lock) = ⊥
+IsMove elements (LeaveSection lock) = ⊥
+IsMove elements (TransactionSample element tally) = ⊥
+IsMove elements (Finished end) = IsFinish end
+
+-- ---- what holds of a machine
+
+-- an open element: it is of the kind of its cursor, those below it nest at most so deep, and its rounds are within the limit
+pub record IsOpen (elements : List Element) (limit left : ℕ) (f : Frame) : Type 0 where
+  pub element : Element
+  pub there : slice_get elements f.element ≡ Some element
+  pub fits : FitsKind f.element (length (children_of elements element)) element.kind f.cursor
+  pub below : AllByRecursion (Nests f.depth elements) element.children
+  pub depth : f.depth ≤ 29
+  pub bound : begun_of f.cursor + left ≤ limit
+
+abbrev pub AreOpen : List Element → ℕ → List Frame → Type 0
+AreOpen elements left [] = Unit {0}
+AreOpen elements left (f ∷ fs) = IsOpen elements max_rounds left f × AreOpen elements left fs
+
+-- the group, with children that nest at most so deep, and rounds within the limit
+pub record GroupIsOpen (elements : List Element) (left : ℕ) (g : Group) : Type 0 where
+  pub element : Element
+  pub there : slice_get elements g.element ≡ Some element
+  pub below : AllByRecursion (Nests 30 elements) element.children
+  pub pass : g.pass.children ≡ length (children_of elements element)
+  pub bound : g.begun + left ≤ max_rounds
+
+-- a signal of the way out, if it is none that goes on
+abbrev pub IsOut : Signal → Type 0
+IsOut Normal = Unit {0}
+IsOut NextLoop = Unit {0}
+IsOut (Stop StopThread) = Unit {0}
+IsOut (Stop StopTest) = Unit {0}
+IsOut (Stop end) = ⊥
+
+-- a machine stands in the plan for which it was made
+pub record StandsIn (plan : Tree) (m : Machine) : Type 0 where
+  pub group : GroupIsOpen plan.elements m.rounds m.group
+  pub open_ : AreOpen plan.elements m.rounds m.stack.frames
+  pub failure : IsOut m.at_failure
+  pub signal : IsOut m.signal

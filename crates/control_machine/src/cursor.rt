@@ -1,0 +1,75 @@
+// The cursor of an open element, of any kind.
+
+ghost use Rattle.std.specs.Prelude.{◌≡◌, ◌+◌, ◌≤◌, slice_get, length, Some, ℕ, IfOk};
+ghost use Rattle.element_tree.specs.declared.kinds.Element.{Element};
+ghost use Rattle.var_functions.specs.Came.{CameTo};
+ghost use Rattle.logic_controllers.specs.Rounds.{begun_after};
+ghost use Rattle.cursor_steps.specs.Children.{Passes};
+ghost use Rattle.jm_meaning.specs.State.{Own, state_of};
+ghost use Rattle.jm_meaning.specs.Children.{Below, children_of};
+ghost use Rattle.jm_meaning.specs.Beginning.{max_rounds};
+ghost use Rattle.control_machine.specs.Moves.{turned, past};
+ghost use Rattle.control_machine.specs.Cursors.{cursor_left, begun_of, round_in, pass_of, FitsKind};
+
+use element_tree::{Plan, Turn};
+use jm_base::Outside;
+use logic_controllers::{EachCursor, IfCursor, LoopCursor, OnceCursor, SimpleCursor, WhileCursor};
+use std::alloc::Global;
+use var_functions::{UserState, VarError};
+
+/// Where an open element stands.
+#[derive(Drop)]
+pub enum Cursor {
+    Simple(SimpleCursor),
+    Once(OnceCursor),
+    Loop(LoopCursor),
+    If(IfCursor),
+    While(WhileCursor),
+    Each(EachCursor),
+}
+
+impl Cursor {
+    /// The round that the children are in, from 0: that of the element itself where it has rounds, and else the round
+    /// around it, which is `round`.
+    pub fn round(&self, round: u64) -> u64
+        ensures { result ≡ round_in round self.now }
+    {
+        match self {
+            Cursor::Simple(_) | Cursor::Once(_) | Cursor::If(_) => round,
+            Cursor::Loop(cursor) => u64::from(cursor.rounds.begun.saturating_sub(1)),
+            Cursor::While(cursor) => u64::from(cursor.rounds.begun.saturating_sub(1)),
+            Cursor::Each(cursor) => u64::from(cursor.rounds.begun.saturating_sub(1)),
+        }
+    }
+
+    /// What the element does next.
+    pub fn next<O: Outside>(
+        &mut self,
+        alloc: Global,
+        plan: &Plan,
+        round: u64,
+        state: &mut UserState,
+        outside: &mut O,
+    ) -> Result<Turn, VarError>
+        requires there { (e : Element) × (n : ℕ) × (slice_get plan.now.elements n ≡ Some e) × FitsKind n (length (children_of plan.now.elements e)) e.kind self.old }
+        requires begun { begun_of self.old ≤ max_rounds }
+        ensures came { (e : Element) (n : ℕ) (below : Below) (own : Own) → slice_get plan.now.elements n ≡ Some e
+            → FitsKind n (length (children_of plan.now.elements e)) e.kind self.old → begun_of self.old + own.rounds ≤ max_rounds
+            → CameTo (O.account outside.old) (cursor_left below round (children_of plan.now.elements e) e self.old (state_of state.old own)) (O.account outside.new)
+            (turned below (round_in round self.new) (children_of plan.now.elements e) (cursor_left below round (children_of plan.now.elements e) e self.new) (state_of state.new own))
+            (past (state_of state.new own)) result }
+        ensures begun { IfOk result (λ turn. begun_of self.new ≤ begun_after (begun_of self.old) turn) }
+        ensures pass { IfOk result (Passes (pass_of self.old) (pass_of self.new)) }
+        ensures fits { (e : Element) (n : ℕ) → slice_get plan.now.elements n ≡ Some e
+            → FitsKind n (length (children_of plan.now.elements e)) e.kind self.old → FitsKind n (length (children_of plan.now.elements e)) e.kind self.new }
+    {
+        match self {
+            Cursor::Simple(cursor) => cursor.next(alloc, plan, round, state, outside),
+            Cursor::Once(cursor) => cursor.next(alloc, plan, round, state, outside),
+            Cursor::Loop(cursor) => cursor.next(alloc, plan, round, state, outside),
+            Cursor::If(cursor) => cursor.next(alloc, plan, round, state, outside),
+            Cursor::While(cursor) => cursor.next(alloc, plan, round, state, outside),
+            Cursor::Each(cursor) => cursor.next(alloc, plan, round, state, outside),
+        }
+    }
+}

@@ -1,0 +1,187 @@
+// Elements that are entered.
+
+ghost use Rattle.std.specs.Prelude.{◌≡◌, slice_get, length, Some, ℕ, List, Bool, IfOk};
+ghost use Rattle.template_text.specs.Pieces.{Pieces};
+ghost use Rattle.element_tree.specs.declared.kinds.Element.{Element};
+ghost use Rattle.var_functions.specs.Came.{CameTo};
+ghost use Rattle.cursor_steps.specs.Step.{IsThere};
+ghost use Rattle.logic_controllers.specs.ForEachController.{Row, kind_of};
+ghost use Rattle.jm_meaning.specs.State.{Own, state_of};
+ghost use Rattle.jm_meaning.specs.Children.{Below, children_of};
+ghost use Rattle.jm_meaning.specs.Meaning.{kind_meaning};
+ghost use Rattle.jm_meaning.specs.declared.signal.Signal.{Signal};
+ghost use Rattle.control_machine.specs.Moves.{past};
+ghost use Rattle.control_machine.specs.Entering.{here_with, entered, EnteredFits};
+
+use crate::cursor::Cursor;
+use element_tree::{Kind, Plan};
+use jm_base::Outside;
+use logic_controllers::{EachCursor, IfCursor, LoopCursor, OnceCursor, SimpleCursor, WhileCursor};
+use std::alloc::Global;
+use var_functions::{UserState, VarError};
+
+/// What an element that is entered is.
+#[derive(Drop)]
+pub enum Entered {
+    /// Nothing that runs.
+    Nothing,
+    /// A sampler.
+    Sampler,
+    /// A controller, which is open.
+    Open(Cursor),
+}
+
+fn enter_simple<O: Outside>(
+    alloc: Global,
+    plan: &Plan,
+    child: u16,
+    state: &mut UserState,
+    outside: &mut O,
+) -> Result<Entered, VarError>
+    requires there { (e : Element) × IsThere plan.now.elements child e (Kind.Simple) }
+    ensures came { (e : Element) (failure : Signal) (below : Below) (round : ℕ) (own : Own) → IsThere plan.now.elements child e (Kind.Simple)
+        → CameTo (O.account outside.old) (kind_meaning (here_with plan.now failure) below child e (Kind.Simple) round (state_of state.old own)) (O.account outside.new)
+        (entered (here_with plan.now failure) below child round e (state_of state.new own)) (past (state_of state.new own)) result }
+    ensures fits { IfOk result (λ x. (e : Element) → slice_get plan.now.elements child ≡ Some e
+        → EnteredFits child (length (children_of plan.now.elements e)) e.kind x) }
+{
+    let mut cursor = SimpleCursor::new(child);
+    match cursor.enter(alloc, plan, state, outside) {
+        Ok(()) => Ok(Entered::Open(Cursor::Simple(cursor))),
+        Err(error) => Err(error),
+    }
+}
+
+fn enter_once<O: Outside>(
+    alloc: Global,
+    plan: &Plan,
+    child: u16,
+    state: &mut UserState,
+    outside: &mut O,
+) -> Result<Entered, VarError>
+    requires there { (e : Element) × IsThere plan.now.elements child e (Kind.OnceOnly) }
+    ensures came { (e : Element) (failure : Signal) (below : Below) (round : ℕ) (own : Own) → IsThere plan.now.elements child e (Kind.OnceOnly)
+        → CameTo (O.account outside.old) (kind_meaning (here_with plan.now failure) below child e (Kind.OnceOnly) round (state_of state.old own)) (O.account outside.new)
+        (entered (here_with plan.now failure) below child round e (state_of state.new own)) (past (state_of state.new own)) result }
+    ensures fits { IfOk result (λ x. (e : Element) → slice_get plan.now.elements child ≡ Some e
+        → EnteredFits child (length (children_of plan.now.elements e)) e.kind x) }
+{
+    let mut cursor = OnceCursor::new(child);
+    match cursor.enter(alloc, plan, state, outside) {
+        Ok(()) => Ok(Entered::Open(Cursor::Once(cursor))),
+        Err(error) => Err(error),
+    }
+}
+
+fn enter_loop<O: Outside>(
+    alloc: Global,
+    plan: &Plan,
+    child: u16,
+    state: &mut UserState,
+    outside: &mut O,
+) -> Result<Entered, VarError>
+    requires there { (e : Element) × (loops : Pieces) × IsThere plan.now.elements child e (Kind.Loop loops) }
+    ensures came { (e : Element) (loops : Pieces) (failure : Signal) (below : Below) (round : ℕ) (own : Own) → IsThere plan.now.elements child e (Kind.Loop loops)
+        → CameTo (O.account outside.old) (kind_meaning (here_with plan.now failure) below child e (Kind.Loop loops) round (state_of state.old own)) (O.account outside.new)
+        (entered (here_with plan.now failure) below child round e (state_of state.new own)) (past (state_of state.new own)) result }
+    ensures fits { IfOk result (λ x. (e : Element) → slice_get plan.now.elements child ≡ Some e
+        → EnteredFits child (length (children_of plan.now.elements e)) e.kind x) }
+{
+    let mut cursor = LoopCursor::new(child);
+    match cursor.enter(alloc, plan, state, outside) {
+        Ok(()) => Ok(Entered::Open(Cursor::Loop(cursor))),
+        Err(error) => Err(error),
+    }
+}
+
+fn enter_if<O: Outside>(
+    alloc: Global,
+    plan: &Plan,
+    child: u16,
+    state: &mut UserState,
+    outside: &mut O,
+) -> Result<Entered, VarError>
+    requires there { (e : Element) × (all : Bool) × (condition : Pieces) × IsThere plan.now.elements child e (Kind.If all condition) }
+    ensures came { (e : Element) (all : Bool) (condition : Pieces) (failure : Signal) (below : Below) (round : ℕ) (own : Own) → IsThere plan.now.elements child e (Kind.If all condition)
+        → CameTo (O.account outside.old) (kind_meaning (here_with plan.now failure) below child e (Kind.If all condition) round (state_of state.old own)) (O.account outside.new)
+        (entered (here_with plan.now failure) below child round e (state_of state.new own)) (past (state_of state.new own)) result }
+    ensures fits { IfOk result (λ x. (e : Element) → slice_get plan.now.elements child ≡ Some e
+        → EnteredFits child (length (children_of plan.now.elements e)) e.kind x) }
+{
+    let mut cursor = IfCursor::new(child);
+    match cursor.enter(alloc, plan, state, outside) {
+        Ok(()) => Ok(Entered::Open(Cursor::If(cursor))),
+        Err(error) => Err(error),
+    }
+}
+
+fn enter_while<O: Outside>(
+    alloc: Global,
+    plan: &Plan,
+    child: u16,
+    state: &mut UserState,
+    outside: &mut O,
+) -> Result<Entered, VarError>
+    requires there { (e : Element) × (condition : Pieces) × IsThere plan.now.elements child e (Kind.While condition) }
+    ensures came { (e : Element) (condition : Pieces) (failure : Signal) (below : Below) (round : ℕ) (own : Own) → IsThere plan.now.elements child e (Kind.While condition)
+        → CameTo (O.account outside.old) (kind_meaning (here_with plan.now failure) below child e (Kind.While condition) round (state_of state.old own)) (O.account outside.new)
+        (entered (here_with plan.now failure) below child round e (state_of state.new own)) (past (state_of state.new own)) result }
+    ensures fits { IfOk result (λ x. (e : Element) → slice_get plan.now.elements child ≡ Some e
+        → EnteredFits child (length (children_of plan.now.elements e)) e.kind x) }
+{
+    let mut cursor = WhileCursor::new(child);
+    match cursor.enter(alloc, plan, state, outside) {
+        Ok(()) => Ok(Entered::Open(Cursor::While(cursor))),
+        Err(error) => Err(error),
+    }
+}
+
+fn enter_each<O: Outside>(
+    alloc: Global,
+    plan: &Plan,
+    child: u16,
+    state: &mut UserState,
+    outside: &mut O,
+) -> Result<Entered, VarError>
+    requires there { (e : Element) × (row : Row) × (output : List ℕ) × IsThere plan.now.elements child e (kind_of row output) }
+    ensures came { (e : Element) (row : Row) (output : List ℕ) (failure : Signal) (below : Below) (round : ℕ) (own : Own) → IsThere plan.now.elements child e (kind_of row output)
+        → CameTo (O.account outside.old) (kind_meaning (here_with plan.now failure) below child e (kind_of row output) round (state_of state.old own)) (O.account outside.new)
+        (entered (here_with plan.now failure) below child round e (state_of state.new own)) (past (state_of state.new own)) result }
+    ensures fits { IfOk result (λ x. (e : Element) → slice_get plan.now.elements child ≡ Some e
+        → EnteredFits child (length (children_of plan.now.elements e)) e.kind x) }
+{
+    let mut cursor = EachCursor::new(child);
+    match cursor.enter(alloc, plan, state, outside) {
+        Ok(()) => Ok(Entered::Open(Cursor::Each(cursor))),
+        Err(error) => Err(error),
+    }
+}
+
+/// Enters the element of this number: a Loop or an If without `all` expands its text.
+pub fn enter<O: Outside>(
+    alloc: Global,
+    plan: &Plan,
+    child: u16,
+    state: &mut UserState,
+    outside: &mut O,
+) -> Result<Entered, VarError>
+    ensures came { (e : Element) (failure : Signal) (below : Below) (round : ℕ) (own : Own) → slice_get plan.now.elements child ≡ Some e
+        → CameTo (O.account outside.old) (kind_meaning (here_with plan.now failure) below child e e.kind round (state_of state.old own)) (O.account outside.new)
+        (entered (here_with plan.now failure) below child round e (state_of state.new own)) (past (state_of state.new own)) result }
+    ensures fits { IfOk result (λ x. (e : Element) → slice_get plan.now.elements child ≡ Some e
+        → EnteredFits child (length (children_of plan.now.elements e)) e.kind x) }
+{
+    let Some(element) = plan.element(child) else {
+        return Ok(Entered::Nothing);
+    };
+    match &element.kind {
+        Kind::Script { .. } => Ok(Entered::Sampler),
+        Kind::Simple => enter_simple(alloc, plan, child, state, outside),
+        Kind::OnceOnly => enter_once(alloc, plan, child, state, outside),
+        Kind::Loop { .. } => enter_loop(alloc, plan, child, state, outside),
+        Kind::If { .. } => enter_if(alloc, plan, child, state, outside),
+        Kind::While { .. } => enter_while(alloc, plan, child, state, outside),
+        Kind::ForEach { .. } => enter_each(alloc, plan, child, state, outside),
+        _ => Ok(Entered::Nothing),
+    }
+}

@@ -1,0 +1,14 @@
+//! The machine of a thread's plan: it goes from one move to the next, through the thread's rounds and their open elements.
+#![tactic(auto)]
+
+pub mod cursor;
+pub mod enter;
+pub mod machine;
+pub mod moves;
+pub mod stack;
+mod turns;
+
+pub use cursor::Cursor;
+pub use machine::{Group, Machine};
+pub use moves::{Leave, Move, Tally};
+pub use stack::{Frame, Stack};

@@ -1,0 +1,174 @@
+// The machine: the group's rounds, and the elements that are open in its round.
+
+ghost use Rattle.std.specs.Prelude.{◌≡◌, ◌<◌, slice_get, length, IfOk};
+ghost use Rattle.element_tree.specs.Tree.{threads_of, group_of};
+ghost use Rattle.var_functions.specs.Came.{CameTo};
+ghost use Rattle.jm_meaning.specs.State.{Own, state_of, at_rounds};
+ghost use Rattle.jm_meaning.specs.Sampling.{after_sample};
+ghost use Rattle.jm_meaning.specs.Meaning.{group_part, here_at, failure_of};
+ghost use Rattle.jm_meaning.specs.Beginning.{max_rounds};
+ghost use Rattle.control_machine.specs.Moves.{past};
+ghost use Rattle.control_machine.specs.Left.{StandsIn, left_of, moved, IsMove};
+ghost use Rattle.control_machine.specs.Turns.{Lightens, TakesRound, IsRoundless, IsNormalAt, IsNormalOn, IsRoundOf, IsRoundIn, went, IsWent, signal_left};
+ghost use Rattle.control_machine.specs.Load.{load_of};
+
+use crate::moves::{Leave, Move};
+use crate::stack::Stack;
+use cursor_steps::{Pass, run_count};
+use element_tree::{Kind, Loops, Plan};
+use jm_base::{End, M, Outside, Sample};
+use jm_meaning::{Signal, signal_of};
+use std::alloc::Global;
+use var_functions::{UserState, VarError};
+
+/// The rounds of the thread's group.
+#[derive(Clone, Copy)]
+pub struct Group {
+    /// The number of the group's element.
+    pub element: u16,
+    pub loops: Loops,
+    /// How many rounds have begun.
+    pub begun: u32,
+    /// The children in the round that began last.
+    pub pass: Pass,
+}
+
+/// A thread's place in its plan: the group's rounds, the open elements, the rounds that the thread has left, what a failed
+/// sample leads to, and whether the thread is on its way out. It is used with the plan for which it was made.
+#[derive(Drop)]
+pub struct Machine {
+    pub group: Group,
+    pub stack: Stack,
+    pub rounds: u32,
+    pub at_failure: Signal,
+    pub signal: Signal,
+}
+
+/// What a turn comes to: the next turn, or a move.
+#[derive(Drop)]
+pub enum Went {
+    On,
+    To(Move),
+}
+
+impl Machine {
+    /// The machine of a thread, before its first round. Threads are numbered from 0 over all groups.
+    pub fn new(alloc: Global, plan: &Plan, thread: u16) -> M<Machine>
+        requires { thread < length (threads_of plan.now) }
+        ensures stands { IfOk result (StandsIn plan.now) }
+        ensures whole { IfOk result (λ m. (user : UserState) (own : Own) → own.rounds ≡ max_rounds
+            → left_of plan.now m (state_of user own) ≡ group_part (here_at plan.now (group_of plan.now thread))
+            (slice_get plan.now.elements (group_of plan.now thread)) (state_of user own)) }
+        ensures failure { IfOk result (λ m. m.at_failure ≡ failure_of (slice_get plan.now.elements (group_of plan.now thread))) }
+        ensures rounds { IfOk result (λ m. m.rounds ≡ max_rounds) }
+    {
+        let number = plan.group_of(thread);
+        let Some(element) = plan.element(number) else {
+            unreachable!();
+        };
+        let Kind::ThreadGroup {
+            loops,
+            on_error,
+            ..
+        } = &element.kind
+        else {
+            unreachable!();
+        };
+        let children = run_count(plan, element);
+        Ok(Machine {
+            group: Group {
+                element: number,
+                loops: *loops,
+                begun: 0,
+                pass: Pass {
+                    children,
+                    next: children,
+                },
+            },
+            stack: Stack::new(alloc),
+            rounds: 16_777_216,
+            at_failure: signal_of(*on_error),
+            signal: Signal::Normal,
+        })
+    }
+
+    /// The next move. `ValueLimit` comes where a text, a value or the variables would pass their limit on the way. After a
+    /// refusal and after `Finished` the machine is spent.
+    pub fn next<O: Outside>(
+        &mut self,
+        alloc: Global,
+        plan: &Plan,
+        state: &mut UserState,
+        outside: &mut O,
+    ) -> Result<Move, VarError>
+        requires { StandsIn plan.now self.old }
+        ensures came { (own : Own) → own.rounds ≡ self.old.rounds
+            → CameTo (O.account outside.old) (left_of plan.now self.old (state_of state.old own)) (O.account outside.new)
+            (moved plan.now self.new (state_of state.new (at_rounds own self.new.rounds)))
+            (past (state_of state.new (at_rounds own self.new.rounds))) result }
+        ensures given { IfOk result (IsMove plan.now.elements) }
+        ensures stands { IfOk result (λ m. StandsIn plan.now self.new) }
+        ensures normal { IfOk result (λ m. IsNormalAt m self.new.signal) }
+        ensures rounds { IfOk result (λ m. TakesRound m self.old.rounds self.new.rounds) }
+        ensures index { IfOk result (λ m. IsRoundOf m self.new.group) }
+        ensures thread { (self.new.group.element ≡ self.old.group.element) × (self.new.at_failure ≡ self.old.at_failure) }
+    {
+        'turns: loop {
+            match self.turn(alloc, plan, state, outside) {
+                Ok(Went::On) => {}
+                Ok(Went::To(next)) => return Ok(next),
+                Err(error) => return Err(error),
+            }
+        }
+    }
+
+    /// Tells of the sample of the sampler that the last move named: where it failed the next moves follow the group's action
+    /// after a sampler error.
+    pub fn after(&mut self, sample: &Sample)
+        ensures { self.new ≡ record self.old { signal = after_sample sample.now.ok self.old.at_failure } }
+    {
+        self.signal = if sample.ok {
+            Signal::Normal
+        } else {
+            self.at_failure
+        };
+    }
+
+    /// Makes the next moves those of a way out.
+    pub fn leave(&mut self, how: Leave)
+        ensures { self.new ≡ record self.old { signal = signal_left how } }
+    {
+        self.signal = match how {
+            Leave::NextLoop => Signal::NextLoop,
+            Leave::StopThread => Signal::Stop(End::StopThread),
+            Leave::StopTest => Signal::Stop(End::StopTest),
+        };
+    }
+
+    // One turn: a child is opened, a round begun, or an element left.
+    fn turn<O: Outside>(
+        &mut self,
+        alloc: Global,
+        plan: &Plan,
+        state: &mut UserState,
+        outside: &mut O,
+    ) -> Result<Went, VarError>
+        requires { StandsIn plan.now self.old }
+        ensures came { (own : Own) → own.rounds ≡ self.old.rounds
+            → CameTo (O.account outside.old) (left_of plan.now self.old (state_of state.old own)) (O.account outside.new)
+            (went plan.now self.new (state_of state.new (at_rounds own self.new.rounds)))
+            (past (state_of state.new (at_rounds own self.new.rounds))) result }
+        ensures given { IfOk result (IsWent plan.now.elements) }
+        ensures stands { IfOk result (λ w. StandsIn plan.now self.new) }
+        ensures lighter { IfOk result (λ w. Lightens w (load_of plan.now.elements self.old) (load_of plan.now.elements self.new)) }
+        ensures normal { IfOk result (λ w. IsNormalOn w self.new.signal) }
+        ensures rounds { IfOk result (λ w. IsRoundless w self.old.rounds self.new.rounds) }
+        ensures index { IfOk result (λ w. IsRoundIn w self.new.group) }
+        ensures thread { (self.new.group.element ≡ self.old.group.element) × (self.new.at_failure ≡ self.old.at_failure) }
+    {
+        match self.signal {
+            Signal::Normal => self.go_on(alloc, plan, state, outside),
+            Signal::NextLoop | Signal::Stop(_) => Ok(self.leave_one()),
+        }
+    }
+}

@@ -1,0 +1,336 @@
+// The turns of a machine.
+
+ghost use Rattle.std.specs.Prelude.{◌≡◌, ◌+◌, ◌-◌, ◌≤◌, ◌<◌, slice_get, Some, List, [], ◌∷◌, IfOk, MatchResult};
+ghost use Rattle.std.specs.List.{filter};
+ghost use Rattle.cursor_steps.specs.Children.{is_run_at, Passes};
+ghost use Rattle.element_tree.specs.declared.kinds.Element.{Element};
+ghost use Rattle.element_tree.specs.Tree.{Tree, Nests};
+ghost use Rattle.jm_base.specs.Run.{over};
+ghost use Rattle.var_functions.specs.Came.{CameTo};
+ghost use Rattle.logic_controllers.specs.Rounds.{begun_after};
+ghost use Rattle.logic_controllers.specs.LoopController.{round_begins};
+ghost use Rattle.jm_meaning.specs.State.{Own, state_of, at_rounds, normal};
+ghost use Rattle.jm_meaning.specs.Children.{children_of};
+ghost use Rattle.jm_meaning.specs.Meaning.{meaning};
+ghost use Rattle.jm_meaning.specs.Beginning.{max_rounds};
+ghost use Rattle.jm_meaning.specs.declared.signal.Signal.{Signal};
+ghost use Rattle.control_machine.specs.Moves.{turned, past};
+ghost use Rattle.control_machine.specs.Cursors.{cursor_left, round_in, pass_of};
+ghost use Rattle.control_machine.specs.Left.{StandsIn, GroupIsOpen, IsOpen, left_of, left_behind, moved, IsMove, here_in};
+ghost use Rattle.control_machine.specs.Turns.{Lightens, TakesRound, IsRoundless, IsNormalOn, IsRoundOf, IsRoundIn, went, IsWent, left_from, load_in, IsOpened};
+ghost use Rattle.control_machine.specs.Load.{load_of};
+
+use crate::cursor::Cursor;
+use crate::enter::{Entered, enter};
+use crate::machine::{Machine, Went};
+use crate::moves::Move;
+use crate::stack::Frame;
+use cursor_steps::is_run_at;
+use element_tree::{Loops, Plan, Turn};
+use jm_base::{End, Outside};
+use jm_meaning::Signal;
+use std::alloc::Global;
+use var_functions::{UserState, VarError};
+
+impl Machine {
+    // On a way out: the innermost open element is left, or the way out is over.
+    pub(crate) fn leave_one(&mut self) -> Went
+        requires { self.old.group.begun + self.old.rounds ≤ max_rounds }
+        ensures same { (plan : Tree) (user : UserState) (own : Own) → StandsIn plan self.old → (self.old.signal ≡ Signal.Normal → ⊥) → own.rounds ≡ self.old.rounds
+            → left_of plan self.old (state_of user own) ≡ went plan self.new (state_of user (at_rounds own self.new.rounds)) result }
+        ensures given { (plan : Tree) → StandsIn plan self.old → (self.old.signal ≡ Signal.Normal → ⊥) → IsWent plan.elements result }
+        ensures stands { (plan : Tree) → StandsIn plan self.old → StandsIn plan self.new }
+        ensures lighter { (elements : List Element) → Lightens result (load_of elements self.old) (load_of elements self.new) }
+        ensures normal { (plan : Tree) → StandsIn plan self.old → IsNormalOn result self.new.signal }
+        ensures rounds { IsRoundless result self.old.rounds self.new.rounds }
+        ensures index { IsRoundIn result self.new.group }
+        ensures thread { (self.new.group.element ≡ self.old.group.element) × (self.new.at_failure ≡ self.old.at_failure) }
+    {
+        if self.stack.pop().is_some() {
+            return Went::On;
+        }
+        if let Signal::Stop(end) = self.signal {
+            return Went::To(Move::Finished(end));
+        }
+        self.signal = Signal::Normal;
+        self.group.pass.next = self.group.pass.children;
+        Went::To(self.next_round())
+    }
+
+    // Behind the last child of a round of the group: the next round begins, or the rounds are over.
+    fn next_round(&mut self) -> Move
+        requires { self.old.group.begun + self.old.rounds ≤ max_rounds }
+        ensures same { (plan : Tree) (user : UserState) (own : Own) → GroupIsOpen plan.elements self.old.rounds self.old.group → self.old.stack.frames ≡ []
+            → self.old.signal ≡ Signal.Normal → self.old.group.pass.children ≤ self.old.group.pass.next → own.rounds ≡ self.old.rounds
+            → left_of plan self.old (state_of user own) ≡ moved plan self.new (state_of user (at_rounds own self.new.rounds)) result }
+        ensures given { (elements : List Element) → IsMove elements result }
+        ensures group { (elements : List Element) → GroupIsOpen elements self.old.rounds self.old.group → GroupIsOpen elements self.new.rounds self.new.group }
+        ensures rest { (self.new.stack ≡ self.old.stack) × (self.new.signal ≡ self.old.signal) }
+        ensures rounds { TakesRound result self.old.rounds self.new.rounds }
+        ensures index { IsRoundOf result self.new.group }
+        ensures thread { (self.new.group.element ≡ self.old.group.element) × (self.new.at_failure ≡ self.old.at_failure) }
+    {
+        let index = self.group.begun;
+        if !round_begins(self.group.loops, index) {
+            return Move::Finished(End::Completed);
+        }
+        if self.rounds == 0 {
+            return Move::Finished(End::RoundLimit);
+        }
+        self.rounds -= 1;
+        self.group.begun = index + 1;
+        self.group.pass.next = 0;
+        Move::Iteration(u64::from(index))
+    }
+
+    // The innermost open element comes next, or the group.
+    pub(crate) fn go_on<O: Outside>(
+        &mut self,
+        alloc: Global,
+        plan: &Plan,
+        state: &mut UserState,
+        outside: &mut O,
+    ) -> Result<Went, VarError>
+        requires stands { StandsIn plan.now self.old }
+        requires normal { self.old.signal ≡ Signal.Normal }
+        ensures came { (own : Own) → own.rounds ≡ self.old.rounds
+            → CameTo (O.account outside.old) (left_of plan.now self.old (state_of state.old own)) (O.account outside.new)
+            (went plan.now self.new (state_of state.new (at_rounds own self.new.rounds)))
+            (past (state_of state.new (at_rounds own self.new.rounds))) result }
+        ensures given { IfOk result (IsWent plan.now.elements) }
+        ensures stands { IfOk result (λ w. StandsIn plan.now self.new) }
+        ensures lighter { IfOk result (λ w. Lightens w (load_of plan.now.elements self.old) (load_of plan.now.elements self.new)) }
+        ensures signal { IfOk result (λ w. self.new.signal ≡ Signal.Normal) }
+        ensures rounds { IfOk result (λ w. IsRoundless w self.old.rounds self.new.rounds) }
+        ensures index { IfOk result (λ w. IsRoundIn w self.new.group) }
+        ensures thread { (self.new.group.element ≡ self.old.group.element) × (self.new.at_failure ≡ self.old.at_failure) }
+    {
+        match self.stack.pop() {
+            Some(frame) => self.frame_turn(frame, alloc, plan, state, outside),
+            None => self.group_turn(alloc, plan, state, outside),
+        }
+    }
+
+    // An element that was taken out of the open ones comes next.
+    fn frame_turn<O: Outside>(
+        &mut self,
+        frame: Frame,
+        alloc: Global,
+        plan: &Plan,
+        state: &mut UserState,
+        outside: &mut O,
+    ) -> Result<Went, VarError>
+        requires stands { StandsIn plan.now self.old }
+        requires normal { self.old.signal ≡ Signal.Normal }
+        requires open { IsOpen plan.now.elements max_rounds self.old.rounds frame }
+        requires room { 0 < self.old.stack.room }
+        ensures came { (own : Own) → own.rounds ≡ self.old.rounds
+            → CameTo (O.account outside.old) (left_from plan.now self.old frame (over (normal (state_of state.old own)))) (O.account outside.new)
+            (went plan.now self.new (state_of state.new (at_rounds own self.new.rounds)))
+            (past (state_of state.new (at_rounds own self.new.rounds))) result }
+        ensures given { IfOk result (IsWent plan.now.elements) }
+        ensures stands { IfOk result (λ w. StandsIn plan.now self.new) }
+        ensures lighter { IfOk result (λ w. Lightens w (load_in plan.now.elements self.old (frame ∷ self.old.stack.frames)) (load_of plan.now.elements self.new)) }
+        ensures signal { IfOk result (λ w. self.new.signal ≡ Signal.Normal) }
+        ensures rounds { IfOk result (λ w. IsRoundless w self.old.rounds self.new.rounds) }
+        ensures index { IfOk result (λ w. IsRoundIn w self.new.group) }
+        ensures thread { (self.new.group.element ≡ self.old.group.element) × (self.new.at_failure ≡ self.old.at_failure) }
+    {
+        let mut cursor = frame.cursor;
+        match cursor.next(alloc, plan, frame.round, state, outside) {
+            Ok(turn) => {
+                let frame = Frame {
+                    element: frame.element,
+                    round: frame.round,
+                    depth: frame.depth,
+                    cursor,
+                };
+                self.follow(frame, turn, alloc, plan, state, outside)
+            }
+            Err(error) => Err(error),
+        }
+    }
+
+    // What an element that was taken out of the open ones answered is followed.
+    fn follow<O: Outside>(
+        &mut self,
+        frame: Frame,
+        turn: Turn,
+        alloc: Global,
+        plan: &Plan,
+        state: &mut UserState,
+        outside: &mut O,
+    ) -> Result<Went, VarError>
+        requires stands { StandsIn plan.now self.old }
+        requires normal { self.old.signal ≡ Signal.Normal }
+        requires open { IsOpen plan.now.elements (begun_after max_rounds turn) self.old.rounds frame }
+        requires room { 0 < self.old.stack.room }
+        ensures came { (e : Element) (own : Own) → slice_get plan.now.elements frame.element ≡ Some e → own.rounds ≡ self.old.rounds
+            → CameTo (O.account outside.old)
+            (left_behind plan.now self.old (turned (meaning (here_in plan.now self.old) frame.depth) (round_in frame.round frame.cursor) (children_of plan.now.elements e)
+            (cursor_left (meaning (here_in plan.now self.old) frame.depth) frame.round (children_of plan.now.elements e) e frame.cursor) (state_of state.old own) turn))
+            (O.account outside.new) (went plan.now self.new (state_of state.new (at_rounds own self.new.rounds)))
+            (past (state_of state.new (at_rounds own self.new.rounds))) result }
+        ensures given { IfOk result (IsWent plan.now.elements) }
+        ensures stands { IfOk result (λ w. StandsIn plan.now self.new) }
+        ensures lighter { IfOk result (λ w. (old : Frame) → old.depth ≡ frame.depth → Passes (pass_of old.cursor) (pass_of frame.cursor) turn
+            → Lightens w (load_in plan.now.elements self.old (old ∷ self.old.stack.frames)) (load_of plan.now.elements self.new)) }
+        ensures signal { IfOk result (λ w. self.new.signal ≡ Signal.Normal) }
+        ensures rounds { IfOk result (λ w. IsRoundless w self.old.rounds self.new.rounds) }
+        ensures index { IfOk result (λ w. IsRoundIn w self.new.group) }
+        ensures thread { (self.new.group.element ≡ self.old.group.element) × (self.new.at_failure ≡ self.old.at_failure) }
+    {
+        match turn {
+            Turn::Over => Ok(Went::On),
+            Turn::Round => {
+                if self.rounds == 0 {
+                    return Ok(Went::To(Move::Finished(End::RoundLimit)));
+                }
+                self.rounds -= 1;
+                self.stack.put(frame);
+                Ok(Went::On)
+            }
+            Turn::Child(place) => {
+                let round = frame.cursor.round(frame.round);
+                let (element, depth) = (frame.element, frame.depth);
+                self.stack.put(frame);
+                match child_at(plan, element, place) {
+                    Some(child) => self.open(alloc, plan, child, round, depth, state, outside),
+                    None => Ok(Went::On),
+                }
+            }
+        }
+    }
+
+    // With no element open the group comes next: its child, or its next round.
+    fn group_turn<O: Outside>(
+        &mut self,
+        alloc: Global,
+        plan: &Plan,
+        state: &mut UserState,
+        outside: &mut O,
+    ) -> Result<Went, VarError>
+        requires stands { StandsIn plan.now self.old }
+        requires normal { self.old.signal ≡ Signal.Normal }
+        requires empty { self.old.stack.frames ≡ [] }
+        ensures came { (own : Own) → own.rounds ≡ self.old.rounds
+            → CameTo (O.account outside.old) (left_of plan.now self.old (state_of state.old own)) (O.account outside.new)
+            (went plan.now self.new (state_of state.new (at_rounds own self.new.rounds)))
+            (past (state_of state.new (at_rounds own self.new.rounds))) result }
+        ensures given { IfOk result (IsWent plan.now.elements) }
+        ensures stands { IfOk result (λ w. StandsIn plan.now self.new) }
+        ensures lighter { IfOk result (λ w. Lightens w (load_of plan.now.elements self.old) (load_of plan.now.elements self.new)) }
+        ensures signal { IfOk result (λ w. self.new.signal ≡ Signal.Normal) }
+        ensures rounds { IfOk result (λ w. IsRoundless w self.old.rounds self.new.rounds) }
+        ensures index { IfOk result (λ w. IsRoundIn w self.new.group) }
+        ensures thread { (self.new.group.element ≡ self.old.group.element) × (self.new.at_failure ≡ self.old.at_failure) }
+    {
+        match self.group.pass.next_child() {
+            Some(place) => {
+                let round = u64::from(self.group.begun.saturating_sub(1));
+                match child_at(plan, self.group.element, place) {
+                    Some(child) => self.open(alloc, plan, child, round, 30, state, outside),
+                    None => Ok(Went::On),
+                }
+            }
+            None => Ok(Went::To(self.next_round())),
+        }
+    }
+
+    // A child is opened, at which and below which elements nest at most this deep.
+    fn open<O: Outside>(
+        &mut self,
+        alloc: Global,
+        plan: &Plan,
+        child: u16,
+        round: u64,
+        depth: u8,
+        state: &mut UserState,
+        outside: &mut O,
+    ) -> Result<Went, VarError>
+        requires stands { StandsIn plan.now self.old }
+        requires normal { self.old.signal ≡ Signal.Normal }
+        requires nests { Nests depth plan.now.elements child }
+        requires depth { depth ≤ 30 }
+        ensures came { (own : Own) → own.rounds ≡ self.old.rounds
+            → CameTo (O.account outside.old) (left_behind plan.now self.old (meaning (here_in plan.now self.old) depth child round (state_of state.old own))) (O.account outside.new)
+            (went plan.now self.new (state_of state.new (at_rounds own self.new.rounds)))
+            (past (state_of state.new (at_rounds own self.new.rounds))) result }
+        ensures given { IfOk result (IsWent plan.now.elements) }
+        ensures stands { IfOk result (λ w. StandsIn plan.now self.new) }
+        ensures rest { (self.new.group ≡ self.old.group) × (self.new.rounds ≡ self.old.rounds) × (self.new.at_failure ≡ self.old.at_failure) × (self.new.signal ≡ self.old.signal) }
+        ensures load { IfOk result (λ w. IsOpened plan.now.elements depth self.old.stack.frames self.new.stack.frames) }
+        ensures rounds { IfOk result (λ w. IsRoundless w self.old.rounds self.new.rounds) }
+        ensures index { IfOk result (λ w. IsRoundIn w self.new.group) }
+    {
+        match enter(alloc, plan, child, state, outside) {
+            Ok(Entered::Nothing) => Ok(Went::On),
+            Ok(Entered::Sampler) => Ok(Went::To(Move::RunSampler(child))),
+            Ok(Entered::Open(cursor)) => self.push(child, round, depth, cursor),
+            Err(error) => Err(error),
+        }
+    }
+
+    // A cursor that was entered is open.
+    fn push(
+        &mut self,
+        element: u16,
+        round: u64,
+        depth: u8,
+        cursor: Cursor,
+    ) -> Result<Went, VarError>
+        requires { 1 ≤ depth }
+        ensures pushed { MatchResult result
+            (λ w. (w ≡ Went.On) × (self.new.stack.frames ≡ record { element = element; round = round; depth = depth - 1; cursor = cursor } ∷ self.old.stack.frames))
+            (λ e. e ≡ VarError.NoMemory) }
+        ensures rest { (self.new.group ≡ self.old.group) × (self.new.rounds ≡ self.old.rounds) × (self.new.at_failure ≡ self.old.at_failure) × (self.new.signal ≡ self.old.signal) }
+    {
+        let frame = Frame {
+            element,
+            round,
+            depth: depth - 1,
+            cursor,
+        };
+        match self.stack.push(frame) {
+            Ok(()) => Ok(Went::On),
+            Err(_) => Err(VarError::NoMemory),
+        }
+    }
+}
+
+// The child at this place among those of the element that run.
+fn child_at(plan: &Plan, element: u16, place: u16) -> Option<u16>
+    ensures { (e : Element) → slice_get plan.now.elements element ≡ Some e → result ≡ slice_get (children_of plan.now.elements e) place }
+{
+    let element = plan.element(element)?;
+    if place == u16::MAX {
+        return None;
+    }
+    run_at(plan, element.children.as_slice(), place)
+}
+
+// The one at this place among those of the numbers that run.
+fn run_at(plan: &Plan, numbers: &[u16], place: u16) -> Option<u16>
+    ensures { result ≡ slice_get (filter (is_run_at plan.now.elements) numbers.now) place }
+{
+    let mut left = place;
+    for number in numbers {
+        if is_run_at(plan, *number) {
+            if left == 0 {
+                return Some(*number);
+            }
+            left -= 1;
+        }
+    }
+    None
+}
+
+// Whether the group has a round of this index.
+fn round_begins(loops: Loops, index: u32) -> bool
+    ensures { result ≡ round_begins loops index }
+{
+    match loops {
+        Loops::Forever => true,
+        Loops::Times(count) => index < count,
+    }
+}

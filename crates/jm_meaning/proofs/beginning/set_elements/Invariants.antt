@@ -1,0 +1,9 @@
+use Rattle.std.proofs.Common.{[], drop}
+use Rattle.jm_base.specs.Outside.{Goes}
+use Rattle.jm_meaning.specs.State.{Own, state_of}
+use Rattle.jm_meaning.specs.Beginning.{set_all, user_variables}
+use Rattle.jm_meaning.proofs.beginning.set_elements.Given as goal
+
+abbrev pub invariant-loop-element : goal.invariant-loop-element
+invariant-loop-element g l = (own : Own) → Goes (g.O.Outside.account l.fn.outside) (set_all (user_variables l.fn.elements) (state_of l.fn.state own)) []
+    (set_all (user_variables (drop l.element-index l.fn.elements)) (state_of l.state own)) (g.O.Outside.account l.outside)

@@ -1,0 +1,9 @@
+use Rattle.std.proofs.Common.{[], drop}
+use Rattle.jm_base.specs.Outside.{Goes}
+use Rattle.jm_meaning.specs.State.{Own, state_of}
+use Rattle.jm_meaning.specs.Beginning.{set_all}
+use Rattle.jm_meaning.proofs.beginning.set_pairs.Given as goal
+
+abbrev pub invariant-loop-pair : goal.invariant-loop-pair
+invariant-loop-pair g l = (own : Own) → Goes (g.O.Outside.account l.fn.outside) (set_all l.fn.pairs (state_of l.fn.state own)) []
+    (set_all (drop l.pair-index l.fn.pairs) (state_of l.state own)) (g.O.Outside.account l.outside)

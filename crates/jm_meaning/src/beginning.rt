@@ -1,0 +1,92 @@
+// The first variables of a thread.
+
+ghost use Rattle.jm_base.specs.Run.{over};
+ghost use Rattle.jm_base.specs.declared.types.End.TheVariants.{ValueLimit as PastValueLimit};
+ghost use Rattle.var_functions.specs.Came.{CameTo};
+ghost use Rattle.jm_meaning.specs.State.{Own, state_of, normal, stopped, tried, text, put};
+ghost use Rattle.jm_meaning.specs.Beginning.{set_first, set_all, user_variables};
+
+use crate::sampler::put_copy;
+use element_props::Pair;
+use element_tree::{Element, Kind, Plan};
+use jm_base::Outside;
+use std::alloc::Global;
+use var_functions::{UserState, VarError, expand};
+
+/// Sets the user defined variables of a plan, wherever they stand, in tree order: each value is expanded when its turn
+/// comes, and a later one of the same name wins (the manual's "User Defined Variables"). After them it sets
+/// `JMeterThread.last_sample_ok` to `true`.
+///
+/// `ValueLimit` comes where a value or the variables would be past a limit.
+pub fn set_first<O: Outside>(
+    alloc: Global,
+    plan: &Plan,
+    state: &mut UserState,
+    outside: &mut O,
+) -> Result<(), VarError>
+    ensures came { (own : Own) → CameTo (O.account outside.old) (set_first plan.now.elements (state_of state.old own)) (O.account outside.new)
+        (λ u. over (normal (state_of state.new own))) (over (stopped PastValueLimit (state_of state.new own))) result }
+{
+    match set_elements(alloc, plan.elements(), state, outside) {
+        Ok(()) => put_copy(
+            alloc,
+            b"JMeterThread.last_sample_ok",
+            b"true",
+            &mut state.vars,
+        ),
+        Err(error) => Err(error),
+    }
+}
+
+fn set_elements<O: Outside>(
+    alloc: Global,
+    elements: &[Element],
+    state: &mut UserState,
+    outside: &mut O,
+) -> Result<(), VarError>
+    ensures came { (own : Own) → CameTo (O.account outside.old) (set_all (user_variables elements.now) (state_of state.old own)) (O.account outside.new)
+        (λ u. over (normal (state_of state.new own))) (over (stopped PastValueLimit (state_of state.new own))) result }
+{
+    for element in elements {
+        if let Kind::UserVariables { vars } = &element.kind {
+            match set_pairs(alloc, vars.as_slice(), state, outside) {
+                Ok(()) => {}
+                Err(error) => return Err(error),
+            }
+        }
+    }
+    Ok(())
+}
+
+fn set_pairs<O: Outside>(
+    alloc: Global,
+    pairs: &[Pair],
+    state: &mut UserState,
+    outside: &mut O,
+) -> Result<(), VarError>
+    ensures came { (own : Own) → CameTo (O.account outside.old) (set_all pairs.now (state_of state.old own)) (O.account outside.new)
+        (λ u. over (normal (state_of state.new own))) (over (stopped PastValueLimit (state_of state.new own))) result }
+{
+    for pair in pairs {
+        match set_pair(alloc, pair, state, outside) {
+            Ok(()) => {}
+            Err(error) => return Err(error),
+        }
+    }
+    Ok(())
+}
+
+fn set_pair<O: Outside>(
+    alloc: Global,
+    pair: &Pair,
+    state: &mut UserState,
+    outside: &mut O,
+) -> Result<(), VarError>
+    ensures came { (own : Own) → CameTo (O.account outside.old) (tried (text pair.now.value) (state_of state.old own) (put pair.now.name)) (O.account outside.new)
+        (λ u. over (normal (state_of state.new own))) (over (stopped PastValueLimit (state_of state.new own))) result }
+{
+    match expand(alloc, &pair.value, state, outside) {
+        Ok(value) => put_copy(alloc, pair.name.bytes(), value.bytes(), &mut state.vars),
+        Err(error) => Err(error),
+    }
+}

@@ -1,9 +1,0 @@
-use Rattle.std.proofs.Common.{ap, sym, ◌∙◌}
-use Rattle.std.specs.Prelude.{min}
-use Rattle.std.proofs.lemmas.List.Sums.{length-filter}
-use Rattle.logic_controllers.specs.Children.{is_run_at}
-use Rattle.logic_controllers.proofs.pass.run_count.Goals as goal
-
-pub returns : goal.returns
-returns c =
-    c.min.ensures ∙ ap (λ n. min n 65535) (c.count_runs.ensures ∙ sym (length-filter (is_run_at c.args.plan.now.elements) c.args.element.now.children))

@@ -1,0 +1,71 @@
+-- How a thread comes through an element by its kind.
+use Rattle.std.proofs.Common.{◌≡◌, ℕ, Bool, List, [], Some, None, refl, sym, ap, ◌∙◌, subst}
+use Rattle.jm_base.specs.declared.types.End.TheVariants.{ValueLimit as PastValueLimit}
+use Rattle.jm_base.specs.Run.{over}
+use Rattle.jm_base.specs.Outside.{Account, Goes}
+use Rattle.template_text.specs.Pieces.{Pieces}
+use Rattle.element_tree.specs.declared.kinds.Element.{Element}
+use Rattle.element_tree.specs.declared.kinds.Kind.TheVariants.{OnceOnly, Loop, While, ForEach}
+use Rattle.element_tree.specs.declared.kinds.Loops.{Loops}
+use Rattle.logic_controllers.specs.LoopController.{loops_of}
+use Rattle.jm_meaning.specs.declared.signal.Signal.{Signal}
+use Rattle.jm_meaning.specs.declared.signal.Signal.TheVariants.{Stop}
+use Rattle.jm_meaning.specs.State.{State, Part, normal, tried, text}
+use Rattle.jm_meaning.specs.Beginning.{max_rounds}
+use Rattle.jm_meaning.specs.Rounds.{rounds, loop_turns, while_turns, each_turns}
+use Rattle.jm_meaning.specs.Children.{Below, in_order}
+use Rattle.jm_meaning.specs.Meaning.{Here, kind_meaning, children_in}
+use Rattle.plain_run.specs.declared.progress.Progress.{Progress}
+use Rattle.plain_run.specs.Plays.{state_in, Plays}
+use Rattle.plain_run.proofs.Ways.{OnWay, way-start, way-as, way-end, way-tried, way-past}
+use Rattle.plain_run.proofs.ElementLaws.{plays-as, not-zero, if-not}
+
+-- a Once Only in a later round
+pub once-later : (here : Here) (below : Below) (number : ℕ) (e : Element) (round : ℕ) (s : State) → e.kind ≡ OnceOnly → (round ≡ 0 → ⊥)
+    → kind_meaning here below number e e.kind round s ≡ over (normal s)
+once-later here below number e round s kind later =
+    ap (λ k. kind_meaning here below number e k round s) kind
+    ∙ if-not _ (in_order below round (children_in here e) s) (over (normal s)) (not-zero round later)
+
+-- the rounds of a Loop by its text
+abbrev pub loop_rounds : Here → Below → Element → List ℕ → Part
+loop_rounds here below e x = rounds max_rounds (loop_turns e.name (loops_of x)) (λ i. in_order below i (children_in here e)) 0
+
+module _ (here : Here) (below : Below) (number : ℕ) (e : Element) (round : ℕ) where
+  module _ (a b : Account) (p q : Progress) (template : Pieces) (kind : e.kind ≡ Loop template) (same : q ≡ record p { user = q.user }) where
+    in_loop : OnWay a p (kind_meaning here below number e e.kind round) (λ s. tried (text template) s (loop_rounds here below e)) p a
+    in_loop = way-as (λ s. tried (text template) s (loop_rounds here below e)) (way-start a p (kind_meaning here below number e e.kind round))
+        (ap (λ k. kind_meaning here below number e k round (state_in p)) kind)
+
+    pub loop-past : Goes a (text template p.user) [] (over (record { came = None; user = q.user })) b → Plays a p (kind_meaning here below number e e.kind round) (Stop PastValueLimit) q b
+    loop-past goes = way-past q (text template) (loop_rounds here below e) in_loop refl goes same
+
+    pub loop-runs : (c : Account) (r : Progress) (signal : Signal) (x : List ℕ) (name : List ℕ) (loops : Loops) (children : List ℕ)
+        → Goes a (text template p.user) [] (over (record { came = Some x; user = q.user })) b → name ≡ e.name → loops ≡ loops_of x → children ≡ children_in here e
+        → Plays b q (rounds max_rounds (loop_turns name loops) (λ i. in_order below i children) 0) signal r c
+        → Plays a p (kind_meaning here below number e e.kind round) signal r c
+    loop-runs c r signal x name loops children goes n l cs plays =
+        way-end (way-tried q (text template) (loop_rounds here below e) x in_loop refl goes same)
+        (subst (λ m. Plays b q (rounds max_rounds (loop_turns m (loops_of x)) (λ i. in_order below i (children_in here e)) 0) signal r c) n
+        (subst (λ k. Plays b q (rounds max_rounds (loop_turns name k) (λ i. in_order below i (children_in here e)) 0) signal r c) l
+        (subst (λ ds. Plays b q (rounds max_rounds (loop_turns name loops) (λ i. in_order below i ds) 0) signal r c) cs plays)))
+
+  module _ (a b : Account) (p q : Progress) (signal : Signal) (name children : List ℕ) (n : name ≡ e.name) (cs : children ≡ children_in here e) where
+    pub while-runs : (condition : Pieces) → e.kind ≡ While condition
+        → Plays a p (rounds max_rounds (while_turns name condition) (λ i. in_order below i children) 0) signal q b
+        → Plays a p (kind_meaning here below number e e.kind round) signal q b
+    while-runs condition kind plays =
+        plays-as (kind_meaning here below number e e.kind round) (rounds max_rounds (while_turns name condition) (λ i. in_order below i children) 0) plays
+        (ap (λ k. kind_meaning here below number e k round (state_in p)) kind
+        ∙ ap (λ m. rounds max_rounds (while_turns m condition) (λ i. in_order below i (children_in here e)) 0 (state_in p)) (sym n)
+        ∙ ap (λ ds. rounds max_rounds (while_turns name condition) (λ i. in_order below i ds) 0 (state_in p)) (sym cs))
+
+    pub each-runs : (end : ℕ) (input output : List ℕ) (separator : Bool) (start : ℕ) → e.kind ≡ ForEach end input output separator start
+        → Plays a p (rounds max_rounds (each_turns name (record { input = input; separator = separator; start = start; end = end }) output) (λ i. in_order below i children) 0) signal q b
+        → Plays a p (kind_meaning here below number e e.kind round) signal q b
+    each-runs end input output separator start kind plays =
+        plays-as (kind_meaning here below number e e.kind round)
+        (rounds max_rounds (each_turns name (record { input = input; separator = separator; start = start; end = end }) output) (λ i. in_order below i children) 0) plays
+        (ap (λ k. kind_meaning here below number e k round (state_in p)) kind
+        ∙ ap (λ m. rounds max_rounds (each_turns m (record { input = input; separator = separator; start = start; end = end }) output) (λ i. in_order below i (children_in here e)) 0 (state_in p)) (sym n)
+        ∙ ap (λ ds. rounds max_rounds (each_turns name (record { input = input; separator = separator; start = start; end = end }) output) (λ i. in_order below i ds) 0 (state_in p)) (sym cs))

@@ -1,0 +1,10 @@
+mod Numerals
+mod ShowsLaws
+mod Ways
+mod RoundWays
+mod StepLaws
+mod TurnLaws
+mod ElementLaws
+mod ThreadWays
+mod KindWays
+mod WorkedPlans

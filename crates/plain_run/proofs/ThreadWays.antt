@@ -1,0 +1,96 @@
+-- How a thread comes through its group, and to its end.
+use Rattle.std.proofs.Common.{◌≡◌, ℕ, List, [], ◌∷◌, ◌++◌, Some, None, refl, sym, ap, ◌∙◌, subst}
+use Rattle.std.specs.Prelude.{slice_get}
+use Rattle.jm_base.specs.declared.types.End.{End}
+use Rattle.jm_base.specs.Run.{Run, over, give, Ended}
+use Rattle.jm_base.specs.Outside.{Account}
+use Rattle.element_tree.specs.Tree.{Tree, group_of}
+use Rattle.element_tree.specs.declared.kinds.Element.{Element}
+use Rattle.element_tree.specs.declared.kinds.Kind.{Kind}
+use Rattle.element_tree.specs.declared.kinds.Kind.TheVariants.{ThreadGroup}
+use Rattle.element_tree.specs.declared.kinds.Loops.{Loops}
+use Rattle.element_tree.specs.declared.kinds.OnError.{OnError}
+use Rattle.jm_meaning.specs.declared.item.Item.{Item}
+use Rattle.jm_meaning.specs.declared.item.Item.TheVariants.{Ended as EndedItem}
+use Rattle.jm_meaning.specs.declared.signal.Signal.{Signal}
+use Rattle.jm_meaning.specs.declared.signal.Signal.TheVariants.{Normal, NextLoop, Stop}
+use Rattle.jm_meaning.specs.State.{State, Part, normal}
+use Rattle.jm_meaning.specs.Beginning.{Options, max_rounds, first_of, set_first}
+use Rattle.jm_meaning.specs.Rounds.{rounds, group_turns, caught, round_of_group}
+use Rattle.jm_meaning.specs.Children.{in_order, children_of}
+use Rattle.jm_meaning.specs.Meaning.{meaning, group_part, group_meaning, here_at, failure_in, failure_of, signal_of, thread_part, events, end_of, and_end, behind_pause}
+use Rattle.jm_meaning.specs.RampUp.{pause_of}
+use Rattle.jm_meaning.specs.Shown.{Shows}
+use Rattle.plain_run.specs.declared.progress.Progress.{Progress}
+use Rattle.plain_run.specs.Plays.{state_in, ended, Plays, here_of, caught_signal}
+use Rattle.plain_run.proofs.ShowsLaws.{shows-append, shows-bind, shows-give}
+use Rattle.plain_run.proofs.Ways.{way-start, way-end, way-then, way-stop}
+
+-- ---- a round of the group
+
+caught-is : (p : Progress) (signal : Signal) → caught (ended p signal) ≡ ended p (caught_signal signal)
+caught-is p Normal = refl
+caught-is p NextLoop = refl
+caught-is p (Stop end) = refl
+
+pub plays-caught : {a b : Account} {p q : Progress} {signal : Signal} (part : Part) → Plays a p part signal q b → (so : Signal) → so ≡ caught_signal signal
+    → Plays a p (λ s. round_of_group (part s)) so q b
+plays-caught {a} {b} {p} {q} {signal} part plays so is = record {
+  shows = subst (λ x. Shows a p.items.items (round_of_group (part (state_in p))) (over (ended q x)) q.items.items b) (sym is)
+      (subst (λ x. Shows a p.items.items (round_of_group (part (state_in p))) (over x) q.items.items b) (caught-is q signal) (shows-bind (λ e. over (caught e)) plays.shows));
+  fewer = plays.fewer;
+}
+
+-- ---- the group
+
+pub group-is : (plan : Tree) (group : ℕ) (e : Element) (loops : Loops) (on_error : OnError) (ramp threads : ℕ) (children : List ℕ) (failure : Signal) (s : State)
+    → slice_get plan.elements group ≡ Some e → e.kind ≡ ThreadGroup loops on_error ramp threads → children ≡ children_of plan.elements e → failure ≡ signal_of on_error
+    → group_part (here_at plan group) (slice_get plan.elements group) s
+    ≡ rounds max_rounds (group_turns loops) (λ i s. round_of_group (in_order (meaning (here_of plan failure) 30) i children s)) 0 s
+group-is plan group e loops on_error ramp threads children failure s there kind of_element leads =
+    ap (λ o. group_part (here_of plan (failure_of o)) o s) there
+    ∙ ap (λ k. group_meaning (here_of plan (failure_in k)) e k s) kind
+    ∙ ap (λ f. rounds max_rounds (group_turns loops) (λ i s. round_of_group (in_order (meaning (here_of plan f) 30) i (children_of plan.elements e) s)) 0 s) (sym leads)
+    ∙ ap (λ cs. rounds max_rounds (group_turns loops) (λ i s. round_of_group (in_order (meaning (here_of plan failure) 30) i cs s)) 0 s) (sym of_element)
+
+other-kind : (plan : Tree) (failure : Signal) (e : Element) (s : State) (k : Kind) → ((l : Loops) (o : OnError) (r t : ℕ) → k ≡ ThreadGroup l o r t → ⊥)
+    → group_meaning (here_of plan failure) e k s ≡ over (normal s)
+other-kind plan failure e s (ThreadGroup l o r t) other = absurd (other l o r t refl)
+other-kind plan failure e s k other = refl
+
+pub no-group : (plan : Tree) (group : ℕ) (e : Element) (s : State) → slice_get plan.elements group ≡ Some e → ((l : Loops) (o : OnError) (r t : ℕ) → e.kind ≡ ThreadGroup l o r t → ⊥)
+    → group_part (here_at plan group) (slice_get plan.elements group) s ≡ over (normal s)
+no-group plan group e s there other =
+    ap (λ o. group_part (here_of plan (failure_of o)) o s) there ∙ other-kind plan (failure_in e.kind) e s e.kind other
+
+pub nothing-there : (plan : Tree) (group : ℕ) (s : State) → slice_get plan.elements group ≡ None → group_part (here_at plan group) (slice_get plan.elements group) s ≡ over (normal s)
+nothing-there plan group s none = ap (λ o. group_part (here_of plan (failure_of o)) o s) none
+
+-- ---- the thread
+
+pub thread-runs : {a b c : Account} {p q r : Progress} {first signal : Signal} (plan : Tree) (group : ℕ) → Plays a p (set_first plan.elements) first q b → first ≡ Normal
+    → Plays b q (group_part (here_at plan group) (slice_get plan.elements group)) signal r c → Plays a p (thread_part plan group) signal r c
+thread-runs {a} {p = p} plan group plays normal next =
+    way-end (way-then (set_first plan.elements) (group_part (here_at plan group) (slice_get plan.elements group)) (way-start a p (thread_part plan group)) refl plays normal) next
+
+pub thread-stops : {a b : Account} {p q : Progress} {signal : Signal} (plan : Tree) (group : ℕ) → Plays a p (set_first plan.elements) signal q b → (signal ≡ Normal → ⊥)
+    → Plays a p (thread_part plan group) signal q b
+thread-stops {a} {p = p} plan group plays other =
+    way-stop (set_first plan.elements) (group_part (here_at plan group) (slice_get plan.elements group)) (way-start a p (thread_part plan group)) refl plays other
+
+-- behind its pause, its first variables and the rounds of its group the thread ends
+pub thread-shows : (plan : Tree) (thread group ms : ℕ) (options : Options) (a b d : Account) (xs : List Item) (p q : Progress) (signal : Signal) (end : End)
+    → xs ≡ [] → group ≡ group_of plan thread → ms ≡ pause_of plan thread → state_in p ≡ first_of plan thread options
+    → ((run : Run (Unit {0})) → Shows a xs (behind_pause ms run) run p.items.items b)
+    → Plays b p (thread_part plan group) signal q d → end ≡ end_of signal
+    → Shows a [] (events plan thread options) (over tt) (q.items.items ++ EndedItem end ∷ []) d
+unfolding events
+thread-shows plan thread group ms options a b d xs p q signal end none is pause begun waited plays ends =
+    let run : Run (Unit {0}) = and_end (thread_part plan (group_of plan thread) (first_of plan thread options)) in
+    let first : Shows a [] (behind_pause (pause_of plan thread) run) run p.items.items b =
+    subst (λ m. Shows a [] (behind_pause m run) run p.items.items b) pause (subst (λ l. Shows a l (behind_pause ms run) run p.items.items b) none (waited run)) in
+    let there : Shows b p.items.items (thread_part plan (group_of plan thread) (first_of plan thread options)) (over (ended q signal)) q.items.items d =
+    subst (λ g. Shows b p.items.items (thread_part plan g (first_of plan thread options)) (over (ended q signal)) q.items.items d) is
+    (subst (λ s. Shows b p.items.items (thread_part plan group s) (over (ended q signal)) q.items.items d) begun plays.shows) in
+    subst (λ x. Shows a [] (behind_pause (pause_of plan thread) run) (over tt) (q.items.items ++ EndedItem x ∷ []) d) (sym ends)
+    (shows-append first (shows-append (shows-bind (λ e. give (Ended (end_of e.signal)) (over tt)) there) (shows-give d q.items.items (Ended (end_of signal)) (over tt))))

@@ -1,0 +1,253 @@
+use Rattle.std.proofs.Common.{ℕ, ◌+◌, ◌-◌, ◌<◌, List, Some, None, length, drop, refl, sym, ap, ◌∙◌, arith}
+use Rattle.std.proofs.Math.ListN.{get_or}
+use Rattle.std.proofs.lemmas.Option.{slice_get_within}
+use Rattle.std.proofs.lemmas.Result.{IfOk-weaker}
+use Rattle.logic_controllers.specs.IfController.{is_true}
+use Rattle.logic_controllers.specs.LoopController.{loops_of}
+use Rattle.logic_controllers.specs.ForEachController.{Row}
+use Rattle.jm_meaning.specs.State.{Part, text}
+use Rattle.jm_meaning.specs.Rounds.{Turns, loop_turns, while_turns, each_turns}
+use Rattle.jm_meaning.specs.Children.{Below, in_order}
+use Rattle.jm_meaning.specs.Meaning.{Here, meaning, kind_meaning}
+use Rattle.plain_run.specs.Plays.{state_in, here_of}
+use Rattle.plain_run.proofs.Ways.{way-start, way-then, way-stop}
+use Rattle.plain_run.proofs.RoundWays.{rounds-start, no-round, round-past, not-opened, last-round, round-done}
+use Rattle.plain_run.proofs.TurnLaws.{loop-begins, loop-over, each-begins, while-past, while-begins, while-over, goes-so}
+use Rattle.plain_run.proofs.ElementLaws.{plays-as, plays-nothing, is-none, meaning-at, meaning-none, meaning-flat, kind-other, next-child, condition-past, condition-false, child-done, child-last, once-past, once-false, once-true}
+use Rattle.plain_run.proofs.KindWays.{once-later, loop-past, loop-runs, while-runs, each-runs}
+use Rattle.plain_run.proofs.elements.+elements.Goals as goal
+
+pub run_children-loop-child-init : goal.run_children-loop-child-init
+run_children-loop-child-init g t c = way-start _ _ _
+
+pub run_children-loop-child-preserved : goal.run_children-loop-child-preserved
+run_children-loop-child-preserved g t c =
+    let below : Below = meaning (here_of c.args.plan.now c.args.at_failure) c.args.depth in
+    let i : ℕ = c.loop-child.child-index in
+    let cs : List ℕ = c.args.children.now in
+    let within : i < length cs = omega arith in
+    way-then (below (get_or cs i 0) c.args.round) (in_order below c.args.round (drop (i + 1) cs)) c.loop-child.invariant (next-child below c.args.round cs i (state_in c.loop-child.progress) within)
+    c.in_ok-other.ensures c.in-Normal.is
+
+pub run_children-returns-in_default : goal.run_children-returns-in_default
+run_children-returns-in_default g t c =
+    let below : Below = meaning (here_of c.args.plan.now c.args.at_failure) c.args.depth in
+    let i : ℕ = c.loop-child.child-index in
+    let cs : List ℕ = c.args.children.now in
+    let within : i < length cs = omega arith in
+    way-stop (below (get_or cs i 0) c.args.round) (in_order below c.args.round (drop (i + 1) cs)) c.loop-child.invariant (next-child below c.args.round cs i (state_in c.loop-child.progress) within)
+    c.in_ok-other.ensures c.in_default.not-Normal
+
+pub run_element-returns-then-depth-eq0 : goal.run_element-returns-then-depth-eq0
+run_element-returns-then-depth-eq0 g t c = plays-nothing _ _ _ (meaning-flat (here_of c.args.plan.now c.args.at_failure) c.args.depth c.args.number c.args.round (state_in c.args.progress.now) c.if-depth-eq0.true)
+
+pub run_element-returns-in-None : goal.run_element-returns-in-None
+run_element-returns-in-None g t c = plays-nothing _ _ _ (meaning-none (here_of c.args.plan.now c.args.at_failure) c.args.depth c.args.number c.args.round (state_in c.args.progress.now) (sym c.in-None.ensures))
+
+pub run_element-returns-in-Some : goal.run_element-returns-in-Some
+run_element-returns-in-Some g t c =
+    let here : Here = here_of c.args.plan.now c.args.at_failure in
+    IfOk-weaker c.run_kind.result _ _ (λ signal h.
+    plays-as (meaning here c.args.depth c.args.number c.args.round) (kind_meaning here (meaning here (c.args.depth - 1)) c.args.number c.in-Some.element.now c.in-Some.element.now.kind c.args.round) h
+    (meaning-at here c.args.depth c.args.number c.args.round (state_in c.args.progress.now) c.in-Some.element.now c.if-depth-eq0.false (sym c.in-Some.ensures))) c.run_kind.ensures
+
+pub run_if_each-loop-child-init : goal.run_if_each-loop-child-init
+run_if_each-loop-child-init g t c = way-start _ _ _
+
+pub run_if_each-returns-in_default : goal.run_if_each-returns-in_default
+run_if_each-returns-in_default g t c =
+    let below : Below = meaning (here_of c.args.plan.now c.args.at_failure) c.args.depth in
+    let i : ℕ = c.loop-child.child-index in
+    let cs : List ℕ = c.args.children.now in
+    let within : i < length cs = omega arith in
+    condition-past (g.O.Outside.account c.args.outside.now) (g.O.Outside.account c.loop-child.outside) (g.O.Outside.account c.text.new.outside) c.args.progress.now c.loop-child.progress c.text.new.self below c.args.round (text c.args.condition.now) cs i within c.loop-child.invariant c.in_ok-text.ensures.same
+    (rw (is-none c.in_ok-text.field-0 c.in_default.not-Some) at c.in_ok-text.ensures.came)
+
+pub run_if_each-returns-then-not-is_true : goal.run_if_each-returns-then-not-is_true
+run_if_each-returns-then-not-is_true g t c =
+    let below : Below = meaning (here_of c.args.plan.now c.args.at_failure) c.args.depth in
+    let i : ℕ = c.loop-child.child-index in
+    let cs : List ℕ = c.args.children.now in
+    let within : i < length cs = omega arith in
+    condition-false (g.O.Outside.account c.args.outside.now) (g.O.Outside.account c.loop-child.outside) (g.O.Outside.account c.text.new.outside) c.args.progress.now c.loop-child.progress c.text.new.self below c.args.round (text c.args.condition.now) cs i within c.loop-child.invariant c.in_ok-text.ensures.same
+    c.in-Some.text (rw c.in-Some.is at c.in_ok-text.ensures.came) (ap is_true (sym c.bytes.ensures) ∙ sym c.is_true.ensures ∙ c.if-not-is_true.true)
+
+pub run_if_each-returns-in_default-2 : goal.run_if_each-returns-in_default-2
+run_if_each-returns-in_default-2 g t c =
+    let below : Below = meaning (here_of c.args.plan.now c.args.at_failure) c.args.depth in
+    let i : ℕ = c.loop-child.child-index in
+    let cs : List ℕ = c.args.children.now in
+    let within : i < length cs = omega arith in
+    child-last (g.O.Outside.account c.args.outside.now) (g.O.Outside.account c.loop-child.outside) (g.O.Outside.account c.text.new.outside) c.args.progress.now c.loop-child.progress c.text.new.self below c.args.round (text c.args.condition.now) cs i within c.loop-child.invariant c.in_ok-text.ensures.same
+    c.in-Some.text (rw c.in-Some.is at c.in_ok-text.ensures.came) (g.O.Outside.account c.run_element.new.outside) c.run_element.new.progress c.in_ok-other.other (ap is_true (sym c.bytes.ensures) ∙ sym c.is_true.ensures ∙ c.if-not-is_true.false) c.in_ok-other.ensures c.in_default-2.not-Normal
+
+pub run_if_each-loop-child-preserved : goal.run_if_each-loop-child-preserved
+run_if_each-loop-child-preserved g t c =
+    let below : Below = meaning (here_of c.args.plan.now c.args.at_failure) c.args.depth in
+    let i : ℕ = c.loop-child.child-index in
+    let cs : List ℕ = c.args.children.now in
+    let within : i < length cs = omega arith in
+    child-done (g.O.Outside.account c.args.outside.now) (g.O.Outside.account c.loop-child.outside) (g.O.Outside.account c.text.new.outside) c.args.progress.now c.loop-child.progress c.text.new.self below c.args.round (text c.args.condition.now) cs i within c.loop-child.invariant c.in_ok-text.ensures.same
+    c.in-Some.text (rw c.in-Some.is at c.in_ok-text.ensures.came) (g.O.Outside.account c.run_element.new.outside) c.run_element.new.progress c.in_ok-other.other (ap is_true (sym c.bytes.ensures) ∙ sym c.is_true.ensures ∙ c.if-not-is_true.false) c.in_ok-other.ensures c.in-Normal.is
+
+pub run_if_once-returns-in_default : goal.run_if_once-returns-in_default
+run_if_once-returns-in_default g t c = once-past (g.O.Outside.account c.args.outside.now) (g.O.Outside.account c.text.new.outside) c.args.progress.now c.text.new.self (meaning (here_of c.args.plan.now c.args.at_failure) c.args.depth) c.args.round (text c.args.condition.now) c.args.children.now c.in_ok-text.ensures.same (rw (is-none c.in_ok-text.field-0 c.in_default.not-Some) at c.in_ok-text.ensures.came)
+
+pub run_if_once-returns : goal.run_if_once-returns
+run_if_once-returns g t c = once-false (g.O.Outside.account c.args.outside.now) (g.O.Outside.account c.text.new.outside) c.args.progress.now c.text.new.self (meaning (here_of c.args.plan.now c.args.at_failure) c.args.depth) c.args.round (text c.args.condition.now) c.args.children.now c.in_ok-text.ensures.same c.in-Some.text (rw c.in-Some.is at c.in_ok-text.ensures.came) (ap is_true (sym c.bytes.ensures) ∙ sym c.is_true.ensures ∙ c.if-is_true.false)
+
+pub run_if_once-returns-then-is_true : goal.run_if_once-returns-then-is_true
+run_if_once-returns-then-is_true g t c = IfOk-weaker c.run_children.result _ _ (λ signal h.
+    once-true (g.O.Outside.account c.args.outside.now) (g.O.Outside.account c.text.new.outside) c.args.progress.now c.text.new.self (meaning (here_of c.args.plan.now c.args.at_failure) c.args.depth) c.args.round (text c.args.condition.now) c.args.children.now c.in_ok-text.ensures.same c.in-Some.text (rw c.in-Some.is at c.in_ok-text.ensures.came) (g.O.Outside.account c.run_children.new.outside) c.run_children.new.progress signal (ap is_true (sym c.bytes.ensures) ∙ sym c.is_true.ensures ∙ c.if-is_true.true) h) c.run_children.ensures
+
+pub run_loop-rounds-init : goal.run_loop-rounds-init
+run_loop-rounds-init g t c = rounds-start _ c.args.progress.now (loop_turns c.args.name.now c.args.loops) (λ i. in_order (meaning (here_of c.args.plan.now c.args.at_failure) c.args.depth) i c.args.children.now) c.requires
+
+pub run_loop-returns : goal.run_loop-returns
+run_loop-returns g t c =
+    let below : Below = meaning (here_of c.args.plan.now c.args.at_failure) c.args.depth in
+    let body : ℕ → Part = λ i. in_order below i c.args.children.now in
+    let turns : Turns (Unit {0}) = loop_turns c.args.name.now c.args.loops in
+    no-round (g.O.Outside.account c.args.outside.now) (g.O.Outside.account c.rounds.outside) (g.O.Outside.account c.rounds.outside) c.args.progress.now c.rounds.progress c.rounds.progress turns body c.rounds.round c.rounds.invariant refl
+    (loop-over (g.O.Outside.account c.rounds.outside) c.args.loops c.rounds.round c.rounds.progress.user (sym c.round_begins.ensures ∙ c.rounds-test.false))
+
+pub run_loop-returns-in_default : goal.run_loop-returns-in_default
+run_loop-returns-in_default g t c =
+    let below : Below = meaning (here_of c.args.plan.now c.args.at_failure) c.args.depth in
+    let body : ℕ → Part = λ i. in_order below i c.args.children.now in
+    let turns : Turns (Unit {0}) = loop_turns c.args.name.now c.args.loops in
+    not-opened (g.O.Outside.account c.args.outside.now) (g.O.Outside.account c.rounds.outside) (g.O.Outside.account c.rounds.outside) c.args.progress.now c.rounds.progress c.rounds.progress turns body c.rounds.round c.rounds.invariant refl
+    tt (loop-begins (g.O.Outside.account c.rounds.outside) c.args.loops c.rounds.round c.rounds.progress.user (sym c.round_begins.ensures ∙ c.rounds-test.true)) (g.O.Outside.account c.rounds.outside) c.open_round.new.self c.in_ok-other.other (c.in_ok-other.ensures.plays _) c.in_default.not-Normal
+
+pub run_loop-returns-in_default-2 : goal.run_loop-returns-in_default-2
+run_loop-returns-in_default-2 g t c =
+    let below : Below = meaning (here_of c.args.plan.now c.args.at_failure) c.args.depth in
+    let body : ℕ → Part = λ i. in_order below i c.args.children.now in
+    let turns : Turns (Unit {0}) = loop_turns c.args.name.now c.args.loops in
+    last-round (g.O.Outside.account c.args.outside.now) (g.O.Outside.account c.rounds.outside) (g.O.Outside.account c.rounds.outside) c.args.progress.now c.rounds.progress c.rounds.progress turns body c.rounds.round c.rounds.invariant refl
+    tt (loop-begins (g.O.Outside.account c.rounds.outside) c.args.loops c.rounds.round c.rounds.progress.user (sym c.round_begins.ensures ∙ c.rounds-test.true)) (g.O.Outside.account c.rounds.outside) (g.O.Outside.account c.run_children.new.outside) c.open_round.new.self c.run_children.new.progress c.in_ok-other.other c.in_ok-other-2.other
+    (c.in_ok-other.ensures.plays _) c.in-Normal.is c.in_ok-other-2.ensures c.in_default-2.not-Normal
+
+pub run_loop-rounds-preserved : goal.run_loop-rounds-preserved
+run_loop-rounds-preserved g t c =
+    let below : Below = meaning (here_of c.args.plan.now c.args.at_failure) c.args.depth in
+    let body : ℕ → Part = λ i. in_order below i c.args.children.now in
+    let turns : Turns (Unit {0}) = loop_turns c.args.name.now c.args.loops in
+    round-done (g.O.Outside.account c.args.outside.now) (g.O.Outside.account c.rounds.outside) (g.O.Outside.account c.rounds.outside) c.args.progress.now c.rounds.progress c.rounds.progress turns body c.rounds.round c.rounds.invariant refl
+    tt (loop-begins (g.O.Outside.account c.rounds.outside) c.args.loops c.rounds.round c.rounds.progress.user (sym c.round_begins.ensures ∙ c.rounds-test.true)) (g.O.Outside.account c.rounds.outside) (g.O.Outside.account c.run_children.new.outside) c.open_round.new.self c.run_children.new.progress c.in_ok-other.other c.in_ok-other-2.other
+    (c.in_ok-other.ensures.plays _) c.in-Normal.is c.in_ok-other-2.ensures (c.in_ok-other.ensures.taken c.in-Normal.is) c.in-Normal-2.is
+
+pub run_while-rounds-init : goal.run_while-rounds-init
+run_while-rounds-init g t c = rounds-start _ c.args.progress.now (while_turns c.args.name.now c.args.condition.now) (λ i. in_order (meaning (here_of c.args.plan.now c.args.at_failure) c.args.depth) i c.args.children.now) c.requires
+
+pub run_while-returns-in_default : goal.run_while-returns-in_default
+run_while-returns-in_default g t c =
+    let below : Below = meaning (here_of c.args.plan.now c.args.at_failure) c.args.depth in
+    let body : ℕ → Part = λ i. in_order below i c.args.children.now in
+    let turns : Turns (Unit {0}) = while_turns c.args.name.now c.args.condition.now in
+    round-past (g.O.Outside.account c.args.outside.now) (g.O.Outside.account c.rounds.outside) (g.O.Outside.account c.text.new.outside) c.args.progress.now c.rounds.progress c.text.new.self turns body c.rounds.round c.rounds.invariant c.in_ok-text.ensures.same
+    (while-past (g.O.Outside.account c.rounds.outside) (g.O.Outside.account c.text.new.outside) c.args.name.now c.args.condition.now c.rounds.round c.rounds.progress.user c.text.new.self.user (rw (is-none c.in_ok-text.field-0 c.in_default.not-Some) at c.in_ok-text.ensures.came))
+
+pub run_while-returns-then-not-goes_on : goal.run_while-returns-then-not-goes_on
+run_while-returns-then-not-goes_on g t c =
+    let below : Below = meaning (here_of c.args.plan.now c.args.at_failure) c.args.depth in
+    let body : ℕ → Part = λ i. in_order below i c.args.children.now in
+    let turns : Turns (Unit {0}) = while_turns c.args.name.now c.args.condition.now in
+    no-round (g.O.Outside.account c.args.outside.now) (g.O.Outside.account c.rounds.outside) (g.O.Outside.account c.text.new.outside) c.args.progress.now c.rounds.progress c.text.new.self turns body c.rounds.round c.rounds.invariant c.in_ok-text.ensures.same
+    (while-over (g.O.Outside.account c.rounds.outside) (g.O.Outside.account c.text.new.outside) c.args.name.now c.args.condition.now c.rounds.round c.rounds.progress.user c.text.new.self.user c.in-Some.text (rw c.in-Some.is at c.in_ok-text.ensures.came) (goes-so c.in-Some.text c.bytes.result.now c.rounds.round c.last_ok.result c.text.new.self.user.vars c.goes_on.result _ c.bytes.ensures c.last_ok.ensures c.goes_on.ensures c.if-not-goes_on.true))
+
+pub run_while-returns-in_default-2 : goal.run_while-returns-in_default-2
+run_while-returns-in_default-2 g t c =
+    let below : Below = meaning (here_of c.args.plan.now c.args.at_failure) c.args.depth in
+    let body : ℕ → Part = λ i. in_order below i c.args.children.now in
+    let turns : Turns (Unit {0}) = while_turns c.args.name.now c.args.condition.now in
+    not-opened (g.O.Outside.account c.args.outside.now) (g.O.Outside.account c.rounds.outside) (g.O.Outside.account c.text.new.outside) c.args.progress.now c.rounds.progress c.text.new.self turns body c.rounds.round c.rounds.invariant c.in_ok-text.ensures.same
+    tt (while-begins (g.O.Outside.account c.rounds.outside) (g.O.Outside.account c.text.new.outside) c.args.name.now c.args.condition.now c.rounds.round c.rounds.progress.user c.text.new.self.user c.in-Some.text (rw c.in-Some.is at c.in_ok-text.ensures.came) (goes-so c.in-Some.text c.bytes.result.now c.rounds.round c.last_ok.result c.text.new.self.user.vars c.goes_on.result _ c.bytes.ensures c.last_ok.ensures c.goes_on.ensures c.if-not-goes_on.false)) (g.O.Outside.account c.text.new.outside) c.open_round.new.self c.in_ok-other.other (c.in_ok-other.ensures.plays _) c.in_default-2.not-Normal
+
+pub run_while-returns-in_default-3 : goal.run_while-returns-in_default-3
+run_while-returns-in_default-3 g t c =
+    let below : Below = meaning (here_of c.args.plan.now c.args.at_failure) c.args.depth in
+    let body : ℕ → Part = λ i. in_order below i c.args.children.now in
+    let turns : Turns (Unit {0}) = while_turns c.args.name.now c.args.condition.now in
+    last-round (g.O.Outside.account c.args.outside.now) (g.O.Outside.account c.rounds.outside) (g.O.Outside.account c.text.new.outside) c.args.progress.now c.rounds.progress c.text.new.self turns body c.rounds.round c.rounds.invariant c.in_ok-text.ensures.same
+    tt (while-begins (g.O.Outside.account c.rounds.outside) (g.O.Outside.account c.text.new.outside) c.args.name.now c.args.condition.now c.rounds.round c.rounds.progress.user c.text.new.self.user c.in-Some.text (rw c.in-Some.is at c.in_ok-text.ensures.came) (goes-so c.in-Some.text c.bytes.result.now c.rounds.round c.last_ok.result c.text.new.self.user.vars c.goes_on.result _ c.bytes.ensures c.last_ok.ensures c.goes_on.ensures c.if-not-goes_on.false)) (g.O.Outside.account c.text.new.outside) (g.O.Outside.account c.run_children.new.outside) c.open_round.new.self c.run_children.new.progress c.in_ok-other.other c.in_ok-other-2.other
+    (c.in_ok-other.ensures.plays _) c.in-Normal.is c.in_ok-other-2.ensures c.in_default-3.not-Normal
+
+pub run_while-rounds-preserved : goal.run_while-rounds-preserved
+run_while-rounds-preserved g t c =
+    let below : Below = meaning (here_of c.args.plan.now c.args.at_failure) c.args.depth in
+    let body : ℕ → Part = λ i. in_order below i c.args.children.now in
+    let turns : Turns (Unit {0}) = while_turns c.args.name.now c.args.condition.now in
+    round-done (g.O.Outside.account c.args.outside.now) (g.O.Outside.account c.rounds.outside) (g.O.Outside.account c.text.new.outside) c.args.progress.now c.rounds.progress c.text.new.self turns body c.rounds.round c.rounds.invariant c.in_ok-text.ensures.same
+    tt (while-begins (g.O.Outside.account c.rounds.outside) (g.O.Outside.account c.text.new.outside) c.args.name.now c.args.condition.now c.rounds.round c.rounds.progress.user c.text.new.self.user c.in-Some.text (rw c.in-Some.is at c.in_ok-text.ensures.came) (goes-so c.in-Some.text c.bytes.result.now c.rounds.round c.last_ok.result c.text.new.self.user.vars c.goes_on.result _ c.bytes.ensures c.last_ok.ensures c.goes_on.ensures c.if-not-goes_on.false)) (g.O.Outside.account c.text.new.outside) (g.O.Outside.account c.run_children.new.outside) c.open_round.new.self c.run_children.new.progress c.in_ok-other.other c.in_ok-other-2.other
+    (c.in_ok-other.ensures.plays _) c.in-Normal.is c.in_ok-other-2.ensures (c.in_ok-other.ensures.taken c.in-Normal.is) c.in-Normal-2.is
+
+pub run_each-rounds-init : goal.run_each-rounds-init
+run_each-rounds-init g t c =
+    let row : Row = record { input = c.args.input.now; separator = c.args.span.separator; start = c.args.span.start; end = c.args.span.end } in
+    rounds-start _ c.args.progress.now (each_turns c.args.name.now row c.args.output.now) (λ i. in_order (meaning (here_of c.args.plan.now c.args.at_failure) c.args.depth) i c.args.children.now) c.requires
+
+pub run_each-returns : goal.run_each-returns
+run_each-returns g t c =
+    let below : Below = meaning (here_of c.args.plan.now c.args.at_failure) c.args.depth in
+    let body : ℕ → Part = λ i. in_order below i c.args.children.now in
+    let row : Row = record { input = c.args.input.now; separator = c.args.span.separator; start = c.args.span.start; end = c.args.span.end } in
+    let turns : Turns (List ℕ) = each_turns c.args.name.now row c.args.output.now in
+    no-round (g.O.Outside.account c.args.outside.now) (g.O.Outside.account c.rounds.outside) (g.O.Outside.account c.rounds.outside) c.args.progress.now c.rounds.progress c.rounds.progress turns body c.rounds.round c.rounds.invariant refl
+    (each-begins (g.O.Outside.account c.rounds.outside) row c.rounds.round c.rounds.progress.user None (sym (is-none c.in_ok-value.field-0 c.in_default.not-Some) ∙ rw c.bytes.ensures at c.in_ok-value.ensures))
+
+pub run_each-returns-in_default-2 : goal.run_each-returns-in_default-2
+run_each-returns-in_default-2 g t c =
+    let below : Below = meaning (here_of c.args.plan.now c.args.at_failure) c.args.depth in
+    let body : ℕ → Part = λ i. in_order below i c.args.children.now in
+    let row : Row = record { input = c.args.input.now; separator = c.args.span.separator; start = c.args.span.start; end = c.args.span.end } in
+    let turns : Turns (List ℕ) = each_turns c.args.name.now row c.args.output.now in
+    not-opened (g.O.Outside.account c.args.outside.now) (g.O.Outside.account c.rounds.outside) (g.O.Outside.account c.rounds.outside) c.args.progress.now c.rounds.progress c.rounds.progress turns body c.rounds.round c.rounds.invariant refl
+    c.in-Some.value (each-begins (g.O.Outside.account c.rounds.outside) row c.rounds.round c.rounds.progress.user (Some c.in-Some.value) (sym c.in-Some.is ∙ rw c.bytes.ensures at c.in_ok-value.ensures)) (g.O.Outside.account c.rounds.outside) c.open_each_round.new.self c.in_ok-other.other (rw (c.bytes-in-Some.ensures, c.bytes-in-Some-2.ensures) at c.in_ok-other.ensures.plays _) c.in_default-2.not-Normal
+
+pub run_each-returns-in_default-3 : goal.run_each-returns-in_default-3
+run_each-returns-in_default-3 g t c =
+    let below : Below = meaning (here_of c.args.plan.now c.args.at_failure) c.args.depth in
+    let body : ℕ → Part = λ i. in_order below i c.args.children.now in
+    let row : Row = record { input = c.args.input.now; separator = c.args.span.separator; start = c.args.span.start; end = c.args.span.end } in
+    let turns : Turns (List ℕ) = each_turns c.args.name.now row c.args.output.now in
+    last-round (g.O.Outside.account c.args.outside.now) (g.O.Outside.account c.rounds.outside) (g.O.Outside.account c.rounds.outside) c.args.progress.now c.rounds.progress c.rounds.progress turns body c.rounds.round c.rounds.invariant refl
+    c.in-Some.value (each-begins (g.O.Outside.account c.rounds.outside) row c.rounds.round c.rounds.progress.user (Some c.in-Some.value) (sym c.in-Some.is ∙ rw c.bytes.ensures at c.in_ok-value.ensures)) (g.O.Outside.account c.rounds.outside) (g.O.Outside.account c.run_children.new.outside) c.open_each_round.new.self c.run_children.new.progress c.in_ok-other.other c.in_ok-other-2.other
+    (rw (c.bytes-in-Some.ensures, c.bytes-in-Some-2.ensures) at c.in_ok-other.ensures.plays _) c.in-Normal.is c.in_ok-other-2.ensures c.in_default-3.not-Normal
+
+pub run_each-rounds-preserved : goal.run_each-rounds-preserved
+run_each-rounds-preserved g t c =
+    let below : Below = meaning (here_of c.args.plan.now c.args.at_failure) c.args.depth in
+    let body : ℕ → Part = λ i. in_order below i c.args.children.now in
+    let row : Row = record { input = c.args.input.now; separator = c.args.span.separator; start = c.args.span.start; end = c.args.span.end } in
+    let turns : Turns (List ℕ) = each_turns c.args.name.now row c.args.output.now in
+    round-done (g.O.Outside.account c.args.outside.now) (g.O.Outside.account c.rounds.outside) (g.O.Outside.account c.rounds.outside) c.args.progress.now c.rounds.progress c.rounds.progress turns body c.rounds.round c.rounds.invariant refl
+    c.in-Some.value (each-begins (g.O.Outside.account c.rounds.outside) row c.rounds.round c.rounds.progress.user (Some c.in-Some.value) (sym c.in-Some.is ∙ rw c.bytes.ensures at c.in_ok-value.ensures)) (g.O.Outside.account c.rounds.outside) (g.O.Outside.account c.run_children.new.outside) c.open_each_round.new.self c.run_children.new.progress c.in_ok-other.other c.in_ok-other-2.other
+    (rw (c.bytes-in-Some.ensures, c.bytes-in-Some-2.ensures) at c.in_ok-other.ensures.plays _) c.in-Normal.is c.in_ok-other-2.ensures (c.in_ok-other.ensures.taken c.in-Normal.is) c.in-Normal-2.is
+
+pub run_kind-label_of-requires : goal.run_kind-label_of-requires
+run_kind-label_of-requires g t c = slice_get_within c.args.plan.now.elements c.args.number c.args.element.now c.requires.there
+
+pub run_kind-returns-in-OnceOnly : goal.run_kind-returns-in-OnceOnly
+run_kind-returns-in-OnceOnly g t c = plays-nothing _ _ _ (once-later (here_of c.args.plan.now c.args.at_failure) (meaning (here_of c.args.plan.now c.args.at_failure) c.args.depth) c.args.number c.args.element.now c.args.round (state_in c.args.progress.now) c.in-OnceOnly.is c.if-round-eq0.false)
+
+pub run_kind-returns : goal.run_kind-returns
+run_kind-returns g t c = plays-nothing _ _ _ (kind-other (here_of c.args.plan.now c.args.at_failure) (meaning (here_of c.args.plan.now c.args.at_failure) c.args.depth) c.args.number c.args.element.now c.args.round (state_in c.args.progress.now) c.args.element.now.kind
+    c.in_default.not-Simple c.in_default.not-OnceOnly c.in_default.not-If c.in_default.not-Loop c.in_default.not-While c.in_default.not-ForEach c.in_default.not-Script)
+
+pub run_kind-returns-in-Loop : goal.run_kind-returns-in-Loop
+run_kind-returns-in-Loop g t c = loop-past (here_of c.args.plan.now c.args.at_failure) (meaning (here_of c.args.plan.now c.args.at_failure) c.args.depth) c.args.number c.args.element.now c.args.round (g.O.Outside.account c.args.outside.now) (g.O.Outside.account c.text.new.outside) c.args.progress.now c.text.new.self c.in-Loop.loops c.in-Loop.is c.in_ok-text-in-Loop.ensures.same (rw c.in-None.is at c.in_ok-text-in-Loop.ensures.came)
+
+pub run_kind-returns-in-Some : goal.run_kind-returns-in-Some
+run_kind-returns-in-Some g t c = IfOk-weaker c.run_loop.result _ _ (λ signal h.
+    loop-runs (here_of c.args.plan.now c.args.at_failure) (meaning (here_of c.args.plan.now c.args.at_failure) c.args.depth) c.args.number c.args.element.now c.args.round (g.O.Outside.account c.args.outside.now) (g.O.Outside.account c.text.new.outside) c.args.progress.now c.text.new.self c.in-Loop.loops c.in-Loop.is c.in_ok-text-in-Loop.ensures.same
+    (g.O.Outside.account c.run_loop.new.outside) c.run_loop.new.progress signal c.in-Some.text c.bytes-name.result.now c.loops_of-loops.result c.as_slice-children.result.now
+    (rw c.in-Some.is at c.in_ok-text-in-Loop.ensures.came) c.bytes-name.ensures (c.loops_of-loops.ensures ∙ ap loops_of c.bytes.ensures) (c.as_slice-children.ensures.value ∙ c.in_ok-children.ensures) h) c.run_loop.ensures
+
+pub run_kind-returns-in-While : goal.run_kind-returns-in-While
+run_kind-returns-in-While g t c = IfOk-weaker c.run_while.result _ _ (λ signal h.
+    while-runs (here_of c.args.plan.now c.args.at_failure) (meaning (here_of c.args.plan.now c.args.at_failure) c.args.depth) c.args.number c.args.element.now c.args.round (g.O.Outside.account c.args.outside.now) (g.O.Outside.account c.run_while.new.outside) c.args.progress.now c.run_while.new.progress signal c.bytes-name.result.now c.as_slice-children.result.now c.bytes-name.ensures (c.as_slice-children.ensures.value ∙ c.in_ok-children.ensures) c.in-While.condition c.in-While.is h) c.run_while.ensures
+
+pub run_kind-returns-in-ForEach : goal.run_kind-returns-in-ForEach
+run_kind-returns-in-ForEach g t c = IfOk-weaker c.run_each.result _ _ (λ signal h.
+    each-runs (here_of c.args.plan.now c.args.at_failure) (meaning (here_of c.args.plan.now c.args.at_failure) c.args.depth) c.args.number c.args.element.now c.args.round (g.O.Outside.account c.args.outside.now) (g.O.Outside.account c.run_each.new.outside) c.args.progress.now c.run_each.new.progress signal c.bytes-name.result.now c.as_slice-children.result.now c.bytes-name.ensures (c.as_slice-children.ensures.value ∙ c.in_ok-children.ensures) c.in-ForEach.end c.in-ForEach.input c.in-ForEach.output c.in-ForEach.separator c.in-ForEach.start c.in-ForEach.is h) c.run_each.ensures

@@ -1,0 +1,35 @@
+-- What it is that a thread runs a part of its plan.
+use Rattle.std.specs.Prelude.{◌≤◌}
+use Rattle.jm_base.specs.Run.{over}
+use Rattle.jm_base.specs.Outside.{Account}
+use Rattle.element_tree.specs.Tree.{Tree}
+use Rattle.jm_meaning.specs.declared.signal.Signal.{Signal}
+use Rattle.jm_meaning.specs.declared.signal.Signal.TheVariants.{Normal, NextLoop, Stop}
+use Rattle.jm_meaning.specs.State.{State, Ending, Part, state_of}
+use Rattle.jm_meaning.specs.Meaning.{Here}
+use Rattle.jm_meaning.specs.Shown.{Shows}
+use Rattle.plain_run.specs.declared.progress.Progress.{Progress}
+
+-- the state of a thread that has come so far
+abbrev pub state_in : Progress → State
+state_in p = state_of p.user (record { units = p.units; rounds = p.rounds })
+
+-- a part that has ended so
+abbrev pub ended : Progress → Signal → Ending
+ended p signal = record { state = state_in p; signal = signal }
+
+-- Between two moments of its outside the thread has run the part: it shows what the part gives, and the part has ended so.
+-- No rounds came to those left.
+pub record Plays (before : Account) (old : Progress) (part : Part) (signal : Signal) (new : Progress) (after : Account) : Type 0 where
+  pub shows : Shows before old.items.items (part (state_in old)) (over (ended new signal)) new.items.items after
+  pub fewer : new.rounds ≤ old.rounds
+
+-- what the run of a thread is over, by its plan and what a failed sample leads to
+abbrev pub here_of : Tree → Signal → Here
+here_of plan at_failure = record { plan = plan; at_failure = at_failure }
+
+-- the signal behind a round of a thread group: there NextLoop ends the round alone
+abbrev pub caught_signal : Signal → Signal
+caught_signal Normal = Normal
+caught_signal NextLoop = Normal
+caught_signal (Stop end) = Stop end

@@ -1,0 +1,323 @@
+// The elements below a thread group, each by its kind.
+
+ghost use Rattle.std.specs.Prelude.{◌≡◌, ◌≤◌, IfOk, slice_get, Some};
+ghost use Rattle.element_tree.specs.declared.kinds.Element.{Element};
+ghost use Rattle.jm_meaning.specs.State.{text};
+ghost use Rattle.jm_meaning.specs.Beginning.{max_rounds};
+ghost use Rattle.jm_meaning.specs.Rounds.{rounds, loop_turns, while_turns, each_turns};
+ghost use Rattle.jm_meaning.specs.Children.{in_order, if_once, if_each};
+ghost use Rattle.jm_meaning.specs.Meaning.{meaning, kind_meaning};
+ghost use Rattle.plain_run.specs.Plays.{Plays, here_of};
+
+use crate::progress::Progress;
+use crate::rules::{
+    Span, children_of, goes_on, is_true, last_ok, loops_of, round_begins, value_at,
+};
+use element_tree::{Element, Kind, Loops, Plan};
+use jm_base::{End, M, Outside, Text};
+use jm_meaning::Signal;
+use template_text::Template;
+
+// Runs an element, at which and below which elements nest at most so deep, in a round of its nearest looping ancestor.
+#[cycle(elements)]
+fn run_element<O: Outside>(
+    plan: &Plan,
+    at_failure: Signal,
+    depth: u8,
+    number: u16,
+    round: u32,
+    progress: &mut Progress,
+    outside: &mut O,
+) -> M<Signal>
+    requires { progress.old.rounds ≤ max_rounds }
+    ensures { IfOk result (λ signal. Plays (O.account outside.old) progress.old
+        (meaning (here_of plan.now at_failure) depth number round) signal progress.new (O.account outside.new)) }
+{
+    if depth == 0 {
+        return Ok(Signal::Normal);
+    }
+    match plan.element(number) {
+        Some(element) => run_kind(
+            plan,
+            at_failure,
+            depth - 1,
+            number,
+            element,
+            round,
+            progress,
+            outside,
+        ),
+        None => Ok(Signal::Normal),
+    }
+}
+
+// Runs an element by its kind, over its children, at which elements nest at most so deep.
+#[cycle(elements)]
+fn run_kind<O: Outside>(
+    plan: &Plan,
+    at_failure: Signal,
+    depth: u8,
+    number: u16,
+    element: &Element,
+    round: u32,
+    progress: &mut Progress,
+    outside: &mut O,
+) -> M<Signal>
+    requires rounds { progress.old.rounds ≤ max_rounds }
+    requires there { slice_get plan.now.elements number ≡ Some element.now }
+    ensures { IfOk result (λ signal. Plays (O.account outside.old) progress.old
+        (kind_meaning (here_of plan.now at_failure) (meaning (here_of plan.now at_failure) depth) number element.now element.now.kind round)
+        signal progress.new (O.account outside.new)) }
+{
+    let children = children_of(progress.alloc, plan, element)?;
+    let children = children.as_slice();
+    let name = element.name.bytes();
+    match &element.kind {
+        Kind::Simple => run_children(plan, at_failure, depth, children, round, progress, outside),
+        Kind::OnceOnly => {
+            if round == 0 {
+                run_children(plan, at_failure, depth, children, round, progress, outside)
+            } else {
+                Ok(Signal::Normal)
+            }
+        }
+        Kind::If { all, condition } => {
+            if *all {
+                run_if_each(
+                    plan, at_failure, depth, condition, children, round, progress, outside,
+                )
+            } else {
+                run_if_once(
+                    plan, at_failure, depth, condition, children, round, progress, outside,
+                )
+            }
+        }
+        Kind::Loop { loops } => match progress.text(loops, outside)? {
+            Some(text) => {
+                let loops = loops_of(text.bytes());
+                run_loop(
+                    plan, at_failure, depth, name, loops, children, progress, outside,
+                )
+            }
+            None => Ok(Signal::Stop(End::ValueLimit)),
+        },
+        Kind::While { condition } => run_while(
+            plan, at_failure, depth, name, condition, children, progress, outside,
+        ),
+        Kind::ForEach {
+            end,
+            input,
+            output,
+            separator,
+            start,
+        } => {
+            let span = Span {
+                separator: *separator,
+                start: *start,
+                end: *end,
+            };
+            run_each(
+                plan, at_failure, depth, name, input, span, output, children, progress, outside,
+            )
+        }
+        Kind::Script { request, .. } => {
+            progress.sample(plan.label_of(number), number, request, at_failure, outside)
+        }
+        _ => Ok(Signal::Normal),
+    }
+}
+
+/// Runs these elements one after another, up to the first signal that isn't Normal.
+#[cycle(elements)]
+pub fn run_children<O: Outside>(
+    plan: &Plan,
+    at_failure: Signal,
+    depth: u8,
+    children: &[u16],
+    round: u32,
+    progress: &mut Progress,
+    outside: &mut O,
+) -> M<Signal>
+    requires { progress.old.rounds ≤ max_rounds }
+    ensures { IfOk result (λ signal. Plays (O.account outside.old) progress.old
+        (in_order (meaning (here_of plan.now at_failure) depth) round children.now)
+        signal progress.new (O.account outside.new)) }
+{
+    for child in children {
+        match run_element(plan, at_failure, depth, *child, round, progress, outside)? {
+            Signal::Normal => {}
+            other => return Ok(other),
+        }
+    }
+    Ok(Signal::Normal)
+}
+
+// An If that evaluates its condition once: its children are run where it is true.
+#[cycle(elements)]
+fn run_if_once<O: Outside>(
+    plan: &Plan,
+    at_failure: Signal,
+    depth: u8,
+    condition: &Template,
+    children: &[u16],
+    round: u32,
+    progress: &mut Progress,
+    outside: &mut O,
+) -> M<Signal>
+    requires { progress.old.rounds ≤ max_rounds }
+    ensures { IfOk result (λ signal. Plays (O.account outside.old) progress.old
+        (if_once (meaning (here_of plan.now at_failure) depth) round children.now (text condition.now))
+        signal progress.new (O.account outside.new)) }
+{
+    let Some(text) = progress.text(condition, outside)? else {
+        return Ok(Signal::Stop(End::ValueLimit));
+    };
+    if is_true(text.bytes()) {
+        run_children(plan, at_failure, depth, children, round, progress, outside)
+    } else {
+        Ok(Signal::Normal)
+    }
+}
+
+// An If that evaluates its condition before each child, up to the first time that it isn't true.
+#[cycle(elements)]
+fn run_if_each<O: Outside>(
+    plan: &Plan,
+    at_failure: Signal,
+    depth: u8,
+    condition: &Template,
+    children: &[u16],
+    round: u32,
+    progress: &mut Progress,
+    outside: &mut O,
+) -> M<Signal>
+    requires { progress.old.rounds ≤ max_rounds }
+    ensures { IfOk result (λ signal. Plays (O.account outside.old) progress.old
+        (if_each (meaning (here_of plan.now at_failure) depth) round children.now (text condition.now))
+        signal progress.new (O.account outside.new)) }
+{
+    for child in children {
+        let Some(text) = progress.text(condition, outside)? else {
+            return Ok(Signal::Stop(End::ValueLimit));
+        };
+        if !is_true(text.bytes()) {
+            return Ok(Signal::Normal);
+        }
+        match run_element(plan, at_failure, depth, *child, round, progress, outside)? {
+            Signal::Normal => {}
+            other => return Ok(other),
+        }
+    }
+    Ok(Signal::Normal)
+}
+
+// The rounds of a Loop.
+#[cycle(elements)]
+fn run_loop<O: Outside>(
+    plan: &Plan,
+    at_failure: Signal,
+    depth: u8,
+    name: &[u8],
+    loops: Loops,
+    children: &[u16],
+    progress: &mut Progress,
+    outside: &mut O,
+) -> M<Signal>
+    requires { progress.old.rounds ≤ max_rounds }
+    ensures { IfOk result (λ signal. Plays (O.account outside.old) progress.old
+        (rounds max_rounds (loop_turns name.now loops) (λ i. in_order (meaning (here_of plan.now at_failure) depth) i children.now) 0)
+        signal progress.new (O.account outside.new)) }
+{
+    let mut round = 0;
+    'rounds: while round_begins(loops, round) {
+        match progress.open_round(name, round)? {
+            Signal::Normal => {}
+            other => return Ok(other),
+        }
+        match run_children(plan, at_failure, depth, children, round, progress, outside)? {
+            Signal::Normal => {}
+            other => return Ok(other),
+        }
+        round += 1;
+    }
+    Ok(Signal::Normal)
+}
+
+// The rounds of a While.
+#[cycle(elements)]
+fn run_while<O: Outside>(
+    plan: &Plan,
+    at_failure: Signal,
+    depth: u8,
+    name: &[u8],
+    condition: &Template,
+    children: &[u16],
+    progress: &mut Progress,
+    outside: &mut O,
+) -> M<Signal>
+    requires { progress.old.rounds ≤ max_rounds }
+    ensures { IfOk result (λ signal. Plays (O.account outside.old) progress.old
+        (rounds max_rounds (while_turns name.now condition.now) (λ i. in_order (meaning (here_of plan.now at_failure) depth) i children.now) 0)
+        signal progress.new (O.account outside.new)) }
+{
+    let mut round = 0;
+    'rounds: loop {
+        let Some(text) = progress.text(condition, outside)? else {
+            return Ok(Signal::Stop(End::ValueLimit));
+        };
+        if !goes_on(text.bytes(), round, last_ok(&progress.user.vars)) {
+            return Ok(Signal::Normal);
+        }
+        match progress.open_round(name, round)? {
+            Signal::Normal => {}
+            other => return Ok(other),
+        }
+        match run_children(plan, at_failure, depth, children, round, progress, outside)? {
+            Signal::Normal => {}
+            other => return Ok(other),
+        }
+        round += 1;
+    }
+}
+
+// The rounds of a ForEach.
+#[cycle(elements)]
+fn run_each<O: Outside>(
+    plan: &Plan,
+    at_failure: Signal,
+    depth: u8,
+    name: &[u8],
+    input: &Text,
+    span: Span,
+    output: &Text,
+    children: &[u16],
+    progress: &mut Progress,
+    outside: &mut O,
+) -> M<Signal>
+    requires { progress.old.rounds ≤ max_rounds }
+    ensures { IfOk result (λ signal. Plays (O.account outside.old) progress.old
+        (rounds max_rounds
+        (each_turns name.now (record { input = input.now; separator = span.separator; start = span.start; end = span.end }) output.now)
+        (λ i. in_order (meaning (here_of plan.now at_failure) depth) i children.now) 0)
+        signal progress.new (O.account outside.new)) }
+{
+    let mut round = 0;
+    'rounds: while let Some(value) = value_at(
+        progress.alloc,
+        &progress.user.vars,
+        input.bytes(),
+        span,
+        round,
+    )? {
+        match progress.open_each_round(name, round, output.bytes(), value.bytes())? {
+            Signal::Normal => {}
+            other => return Ok(other),
+        }
+        match run_children(plan, at_failure, depth, children, round, progress, outside)? {
+            Signal::Normal => {}
+            other => return Ok(other),
+        }
+        round += 1;
+    }
+    Ok(Signal::Normal)
+}

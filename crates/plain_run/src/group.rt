@@ -1,0 +1,108 @@
+// A thread: its first variables, and the rounds of its group.
+
+ghost use Rattle.std.specs.Prelude.{◌≡◌, ◌≤◌, IfOk, slice_get};
+ghost use Rattle.jm_meaning.specs.Beginning.{max_rounds};
+ghost use Rattle.jm_meaning.specs.Rounds.{rounds, group_turns, round_of_group};
+ghost use Rattle.jm_meaning.specs.Children.{in_order};
+ghost use Rattle.jm_meaning.specs.Meaning.{meaning, group_part, here_at, thread_part};
+ghost use Rattle.plain_run.specs.Plays.{Plays, here_of, caught_signal};
+
+use crate::elements::run_children;
+use crate::progress::Progress;
+use crate::rules::{children_of, round_begins};
+use element_tree::{Kind, Loops, Plan};
+use jm_base::{M, Outside};
+use jm_meaning::{Signal, signal_of};
+
+/// Sets the first variables, and runs the rounds of the group at this element.
+pub fn run_thread<O: Outside>(
+    plan: &Plan,
+    group: u16,
+    progress: &mut Progress,
+    outside: &mut O,
+) -> M<Signal>
+    requires { progress.old.rounds ≤ max_rounds }
+    ensures { IfOk result (λ signal. Plays (O.account outside.old) progress.old
+        (thread_part plan.now group) signal progress.new (O.account outside.new)) }
+{
+    match progress.set_first(plan, outside)? {
+        Signal::Normal => {
+            let signal = run_group(plan, group, progress, outside)?;
+            Ok(signal)
+        }
+        other => Ok(other),
+    }
+}
+
+// Runs the rounds of the group at this element.
+fn run_group<O: Outside>(
+    plan: &Plan,
+    group: u16,
+    progress: &mut Progress,
+    outside: &mut O,
+) -> M<Signal>
+    requires { progress.old.rounds ≤ max_rounds }
+    ensures { IfOk result (λ signal. Plays (O.account outside.old) progress.old
+        (group_part (here_at plan.now group) (slice_get plan.now.elements group)) signal progress.new (O.account outside.new)) }
+{
+    let Some(element) = plan.element(group) else {
+        return Ok(Signal::Normal);
+    };
+    let Kind::ThreadGroup {
+        loops,
+        on_error,
+        ..
+    } = &element.kind
+    else {
+        return Ok(Signal::Normal);
+    };
+    let children = children_of(progress.alloc, plan, element)?;
+    let signal = run_rounds(
+        plan,
+        signal_of(*on_error),
+        *loops,
+        children.as_slice(),
+        progress,
+        outside,
+    )?;
+    Ok(signal)
+}
+
+// The rounds of a group. Below it elements nest at most 30 deep.
+fn run_rounds<O: Outside>(
+    plan: &Plan,
+    at_failure: Signal,
+    loops: Loops,
+    children: &[u16],
+    progress: &mut Progress,
+    outside: &mut O,
+) -> M<Signal>
+    requires { progress.old.rounds ≤ max_rounds }
+    ensures { IfOk result (λ signal. Plays (O.account outside.old) progress.old
+        (rounds max_rounds (group_turns loops) (λ i s. round_of_group (in_order (meaning (here_of plan.now at_failure) 30) i children.now s)) 0)
+        signal progress.new (O.account outside.new)) }
+{
+    let mut round = 0;
+    'rounds: while round_begins(loops, round) {
+        match progress.take_round() {
+            Signal::Normal => {}
+            other => return Ok(other),
+        }
+        match caught(run_children(plan, at_failure, 30, children, round, progress, outside)?) {
+            Signal::Normal => {}
+            other => return Ok(other),
+        }
+        round += 1;
+    }
+    Ok(Signal::Normal)
+}
+
+// The signal behind a round of a group: NextLoop ends the round alone.
+fn caught(signal: Signal) -> Signal
+    ensures { result ≡ caught_signal signal }
+{
+    match signal {
+        Signal::NextLoop => Signal::Normal,
+        other => other,
+    }
+}

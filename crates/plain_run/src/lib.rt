@@ -1,0 +1,90 @@
+//! The run of a plan, by recursion on its elements: slow, and plainly the definition. Its contract is that what a thread
+//! shows is the meaning of its plan.
+#![tactic(auto)]
+
+mod elements;
+mod group;
+mod progress;
+mod rules;
+
+ghost use Rattle.std.specs.Prelude.{length, ◌<◌, ◌≡◌, [], ℕ, IfOk, OnOk};
+ghost use Rattle.jm_base.specs.Run.{Run, over};
+ghost use Rattle.element_tree.specs.Tree.{threads_of};
+ghost use Rattle.jm_meaning.specs.Beginning.{first_of};
+ghost use Rattle.jm_meaning.specs.Meaning.{events, end_of, behind_pause};
+ghost use Rattle.jm_meaning.specs.Shown.{Shows};
+
+use crate::group::run_thread;
+use crate::progress::Progress;
+use element_tree::Plan;
+use jm_base::{End, M, Outside};
+use jm_meaning::{Item, Signal, ramp_up_pause};
+use std::alloc::Global;
+use var_functions::{FnState, Props, UserState, Vars};
+
+/// What a thread of the plan does over this outside, from its ramp-up pause to its end, by recursion on the elements: what
+/// its trace shows, but for interval numbers and places.
+///
+/// Threads are numbered from 0 over all groups. `seed` is that of the random words, `props` are the properties of the run,
+/// and `budget` is how many units of the sample budget the thread may use. It is slow, and takes memory for the whole
+/// trace at once.
+pub fn run_plainly<O: Outside>(
+    alloc: Global,
+    plan: &Plan,
+    thread: u16,
+    seed: u64,
+    props: &Props,
+    budget: u32,
+    outside: &mut O,
+) -> M<Vec<Item>>
+    requires { thread < length (threads_of plan.now) }
+    ensures { IfOk result (λ items. Shows (O.account outside.old) []
+        (events plan.now thread (record { seed = seed; props = props.now; budget = budget }))
+        (over tt) items.items (O.account outside.new)) }
+{
+    let mut progress = Progress {
+        alloc,
+        user: first_user(alloc, plan, thread, seed, props)?,
+        units: budget,
+        rounds: 16_777_216,
+        items: Vec::new(alloc),
+    };
+    pause(ramp_up_pause(plan, thread), outside, &mut progress.items)?;
+    let signal = run_thread(plan, plan.group_of(thread), &mut progress, outside)?;
+    progress.items.push(Item::Ended(end_of(signal)))?;
+    Ok(progress.items)
+}
+
+// The variables and what functions keep, before anything is set.
+fn first_user(alloc: Global, plan: &Plan, thread: u16, seed: u64, props: &Props) -> M<UserState>
+    requires { thread < length (threads_of plan.now) }
+    ensures { IfOk result (λ user. (budget : ℕ) → user ≡ (first_of plan.now thread (record { seed = seed; props = props.now; budget = budget })).user) }
+{
+    let number = plan.thread(thread).number;
+    Ok(UserState {
+        vars: Vars::new(alloc),
+        fns: FnState::new(alloc, props, number, u64::from(thread), seed)?,
+    })
+}
+
+// A pause of so many milliseconds, if it is any.
+fn pause<O: Outside>(ms: u32, outside: &mut O, items: &mut Vec<Item>) -> M<()>
+    ensures { OnOk result ((run : Run Unit) → Shows (O.account outside.old) items.old.items
+        (behind_pause ms run) run items.new.items (O.account outside.new)) }
+{
+    if ms > 0 {
+        outside.pause(ms)?;
+        items.push(Item::Paused(ms))?;
+    }
+    Ok(())
+}
+
+// How the thread ends.
+fn end_of(signal: Signal) -> End
+    ensures { result ≡ end_of signal }
+{
+    match signal {
+        Signal::Normal | Signal::NextLoop => End::Completed,
+        Signal::Stop(end) => end,
+    }
+}

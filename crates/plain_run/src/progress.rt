@@ -1,0 +1,176 @@
+// How far a thread has come, and the steps of its run that are no recursion.
+
+ghost use Rattle.std.specs.Prelude.{◌≡◌, ◌<◌, [], IfOk, MatchResult};
+ghost use Rattle.jm_base.specs.declared.types.End.TheVariants.{ValueLimit as PastValueLimit};
+ghost use Rattle.jm_base.specs.Run.{over};
+ghost use Rattle.jm_base.specs.Outside.{Account, Goes};
+ghost use Rattle.logic_controllers.specs.Rounds.{index_name};
+ghost use Rattle.jm_meaning.specs.State.{and_then, normal, put, text, with_round, with_unit};
+ghost use Rattle.jm_meaning.specs.Rounds.{set_index};
+ghost use Rattle.jm_meaning.specs.Beginning.{set_first};
+ghost use Rattle.jm_meaning.specs.Sampling.{sampling, after_sample};
+ghost use Rattle.plain_run.specs.Plays.{Plays};
+
+use crate::rules::{decimal_text, index_name};
+use element_tree::Plan;
+use jm_base::{End, M, NoMemory, Outside, Text};
+use jm_meaning::{Item, Signal, put_copy, run_sampler, set_first};
+use std::alloc::Global;
+use template_text::Template;
+use var_functions::{UserState, VarError, expand};
+
+/// How far a thread has come.
+#[derive(Drop)]
+pub struct Progress {
+    pub alloc: Global,
+    /// Its variables, and what its functions keep.
+    pub user: UserState,
+    /// The units left of its sample budget.
+    pub units: u32,
+    /// The rounds left.
+    pub rounds: u32,
+    /// What its trace shows so far.
+    pub items: Vec<Item>,
+}
+
+// A refusal past a limit stops the thread.
+fn refused(error: VarError) -> M<Signal>
+    ensures { MatchResult result (λ signal. (error ≡ VarError.ValueLimit) × (signal ≡ Signal.Stop PastValueLimit)) (λ e. error ≡ VarError.NoMemory) }
+{
+    match error {
+        VarError::ValueLimit => Ok(Signal::Stop(End::ValueLimit)),
+        VarError::NoMemory => Err(NoMemory),
+    }
+}
+
+// The signal behind a sample.
+fn after_sample(ok: bool, at_failure: Signal) -> Signal
+    ensures { result ≡ after_sample ok at_failure }
+{
+    if ok { Signal::Normal } else { at_failure }
+}
+
+impl Progress {
+    /// The text of a template, or none past a limit.
+    pub fn text<O: Outside>(&mut self, template: &Template, outside: &mut O) -> M<Option<Text>>
+        ensures came { IfOk result (λ came. Goes (O.account outside.old) (text template.now self.old.user) []
+            (over (record { came = came; user = self.new.user })) (O.account outside.new)) }
+        ensures same { self.new ≡ record self.old { user = self.new.user } }
+    {
+        match expand(self.alloc, template, &mut self.user, outside) {
+            Ok(text) => Ok(Some(text)),
+            Err(VarError::ValueLimit) => Ok(None),
+            Err(VarError::NoMemory) => Err(NoMemory),
+        }
+    }
+
+    /// Sets a variable.
+    pub fn put(&mut self, name: &[u8], value: &[u8]) -> M<Signal>
+        ensures plays { IfOk result (λ signal. (a : Account) → Plays a self.old (put name.now value.now) signal self.new a) }
+        ensures same { self.new ≡ record self.old { user = self.new.user } }
+    {
+        match put_copy(self.alloc, name, value, &mut self.user.vars) {
+            Ok(()) => Ok(Signal::Normal),
+            Err(error) => refused(error),
+        }
+    }
+
+    /// Sets the index variable of an element of this name.
+    pub fn set_index(&mut self, name: &[u8], index: u32) -> M<Signal>
+        ensures plays { IfOk result (λ signal. (a : Account) → Plays a self.old (set_index name.now index) signal self.new a) }
+        ensures same { self.new ≡ record self.old { user = self.new.user } }
+    {
+        let name = index_name(self.alloc, name)?;
+        let value = decimal_text(self.alloc, u64::from(index))?;
+        let signal = self.put(name.bytes(), value.bytes())?;
+        Ok(signal)
+    }
+
+    /// Takes one of the rounds left.
+    pub fn take_round(&mut self) -> Signal
+        ensures plays { (a : Account) → Plays a self.old (λ s. with_round s (λ s. over (normal s))) result self.new a }
+        ensures taken { result ≡ Signal.Normal → self.new.rounds < self.old.rounds }
+    {
+        if self.rounds == 0 {
+            return Signal::Stop(End::RoundLimit);
+        }
+        self.rounds -= 1;
+        Signal::Normal
+    }
+
+    /// Begins a round of a Loop or a While: it is taken from those left, and the index variable is set.
+    pub fn open_round(&mut self, name: &[u8], index: u32) -> M<Signal>
+        ensures plays { IfOk result (λ signal. (a : Account) → Plays a self.old (λ s. with_round s (set_index name.now index)) signal self.new a) }
+        ensures taken { IfOk result (λ signal. signal ≡ Signal.Normal → self.new.rounds < self.old.rounds) }
+    {
+        match self.take_round() {
+            Signal::Normal => {
+                let signal = self.set_index(name, index)?;
+                Ok(signal)
+            }
+            other => Ok(other),
+        }
+    }
+
+    /// Begins a round of a ForEach: behind the index variable the value goes to the output.
+    pub fn open_each_round(
+        &mut self,
+        name: &[u8],
+        index: u32,
+        output: &[u8],
+        value: &[u8],
+    ) -> M<Signal>
+        ensures plays { IfOk result (λ signal. (a : Account) → Plays a self.old
+            (λ s. with_round s (λ s. and_then (set_index name.now index s) (put output.now value.now))) signal self.new a) }
+        ensures taken { IfOk result (λ signal. signal ≡ Signal.Normal → self.new.rounds < self.old.rounds) }
+    {
+        match self.open_round(name, index)? {
+            Signal::Normal => {
+                let signal = self.put(output, value)?;
+                Ok(signal)
+            }
+            other => Ok(other),
+        }
+    }
+
+    /// Runs a sampler by its label, its element's number and its request, where a unit is left.
+    pub fn sample<O: Outside>(
+        &mut self,
+        label: u16,
+        number: u16,
+        request: &Template,
+        at_failure: Signal,
+        outside: &mut O,
+    ) -> M<Signal>
+        ensures { IfOk result (λ signal. Plays (O.account outside.old) self.old
+            (λ s. with_unit s (sampling label number request.now at_failure)) signal self.new (O.account outside.new)) }
+    {
+        if self.units == 0 {
+            return Ok(Signal::Stop(End::SampleLimit));
+        }
+        self.units -= 1;
+        match run_sampler(self.alloc, label, number, request, &mut self.user, outside) {
+            Ok(None) => {
+                self.items.push(Item::Null(number))?;
+                Ok(Signal::Normal)
+            }
+            Ok(Some(sample)) => {
+                let signal = after_sample(sample.ok, at_failure);
+                self.items.push(Item::Sampled(sample))?;
+                Ok(signal)
+            }
+            Err(error) => refused(error),
+        }
+    }
+
+    /// Sets the first variables.
+    pub fn set_first<O: Outside>(&mut self, plan: &Plan, outside: &mut O) -> M<Signal>
+        ensures { IfOk result (λ signal. Plays (O.account outside.old) self.old
+            (set_first plan.now.elements) signal self.new (O.account outside.new)) }
+    {
+        match set_first(self.alloc, plan, &mut self.user, outside) {
+            Ok(()) => Ok(Signal::Normal),
+            Err(error) => refused(error),
+        }
+    }
+}
