@@ -8,7 +8,7 @@ cd "$(dirname "$0")/.." || exit 1
 python3 - <<'PY'
 import json, os, subprocess, tempfile, time
 
-PROGRAM = ["crates/jm_program/out/jm_program", "solo"]
+PROGRAM = "crates/jm_program/out/jm_program"
 
 def script(name, replies, **props):
     return {"type": "Script", "name": name, "props": {"replies": replies, **props}}
@@ -26,13 +26,13 @@ def source(text):
     file.seek(0)
     return file
 
-def seconds(text):
+def seconds(text, *words):
     best = None
     for _ in range(5):
         with source(text) as plan_file, open("/dev/null", "wb") as sink:
             start = time.perf_counter()
-            child = subprocess.Popen(PROGRAM, stdin=plan_file, stdout=sink, stderr=subprocess.PIPE)
-            report = child.stderr.read().decode().strip()
+            child = subprocess.Popen([PROGRAM, *words], stdin=plan_file, stdout=sink, stderr=subprocess.PIPE)
+            report = child.stderr.read().decode().strip().replace("\n", " / ")
             child.wait()
             took = time.perf_counter() - start
         best = took if best is None else min(best, took)
@@ -41,7 +41,7 @@ def seconds(text):
 # The results are written once all of them are there, so the peak is reached when the first bytes come.
 def peak_and_lines(text):
     with source(text) as plan_file:
-        child = subprocess.Popen(PROGRAM, stdin=plan_file, stdout=subprocess.PIPE, stderr=subprocess.DEVNULL)
+        child = subprocess.Popen([PROGRAM, "solo"], stdin=plan_file, stdout=subprocess.PIPE, stderr=subprocess.DEVNULL)
         first = child.stdout.read(1)
         with open(f"/proc/{child.pid}/status") as status:
             peak = next((int(line.split()[1]) for line in status if line.startswith("VmHWM")), 0)
@@ -50,10 +50,10 @@ def peak_and_lines(text):
     return peak, lines
 
 def sampled(name, text):
-    took, report = seconds(text)
+    took, report = seconds(text, "solo")
     peak, lines = peak_and_lines(text)
     print(f"{name}: {lines} samples in {took * 1000:.1f} ms, {lines / took:,.0f} a second, "
-          f"{peak} KiB at the peak, {peak * 1024 / lines:.0f} bytes a sample; {report}")
+          f"{peak} KiB at the peak, {peak * 1024 / lines:.0f} bytes a sample; {report[report.index('all,'):]}")
 
 sampled("4,093 samplers of one reply", plan([script("S", [{}]) for _ in range(4093)]))
 loop = {"type": "Loop", "props": {"loops": 65536}, "children": [script("S", [{"ms": 1}])]}
@@ -70,6 +70,13 @@ outer = controller("Loop", "O", [inner], loops="${__P(rounds,64)}")
 variables = {"type": "UserVariables", "props": {"vars": [["user", "ann"], ["rounds", "${__P(rounds,64)}"]] + values}}
 sampled("nested loops, an If and a ForEach with templates", plan([variables, outer]))
 
-took, report = seconds(plan([{"type": "Loop", "props": {"loops": -1}, "children": [{"type": "Simple"}]}]))
+# Loops as `make` makes them.
+made = [controller("Loop", f"L{i}", [script(f"S{i % 16}", [{"ms": i % 10, "code": 500 if i % 5 == 4 else 200}])], loops=i % 7 + 1)
+        for i in range(1000)]
+sampled("1,000 loops as make has them", plan(made))
+took, report = seconds(b"", "make", "--size", "2047")
+print(f"make --size 2047: {took * 1000:.1f} ms; {report[report.index('all,'):]}")
+
+took, report = seconds(plan([{"type": "Loop", "props": {"loops": -1}, "children": [{"type": "Simple"}]}]), "solo")
 print(f"a loop without end over an empty Simple: {took:.2f} s; {report}")
 PY

@@ -1,12 +1,21 @@
 -- The commands, their options, and what they ask for.
-use Rattle.std.specs.Prelude.{false, ◌^◌, ◌-◌, List, [], ◌∷◌, Option, Some, None, option_map, option_and_then, unwrap_or, if◌then◌else◌, codes, find}
+use Rattle.std.specs.Prelude.{true, false, ◌^◌, ◌-◌, List, [], ◌∷◌, Option, Some, None, option_map, option_and_then, unwrap_or, if◌then◌else◌, codes, find}
 use Rattle.std.specs.List.{list_all}
 use Rattle.std.specs.Str.{bytes_eq}
 use Rattle.command_words.specs.declared.command.Command.{Command}
-use Rattle.command_words.specs.declared.command.Command.TheVariants.{Check, Solo as RunSolo}
+use Rattle.command_words.specs.declared.command.Command.TheVariants.{Check, Make as RunMake, Solo as RunSolo}
+use Rattle.command_words.specs.declared.command.Make.{Make}
 use Rattle.command_words.specs.declared.command.Solo.{Solo}
 use Rattle.command_words.specs.Grammar.{Word, Options, is_word, given_for, value_of}
 use Rattle.command_words.specs.Values.{number_between, properties_of}
+
+-- the option of `make` by the text of its value
+abbrev pub make_from : Word → Option Make
+make_from size = option_map (λ n. record { size = n }) (number_between 1 2047 size)
+
+-- the option of `make` by the value that is given; nothing stands for one that is not
+abbrev pub make_of : (Word → Option Word) → Option Make
+make_of value = option_and_then make_from (value (codes "size"))
 
 -- the options of `solo` by the texts of their values
 abbrev pub solo_from : Word → Word → Word → Word → Option Solo
@@ -32,6 +41,13 @@ pub record CommandRule : Type 0 where
 abbrev pub check : CommandRule
 check = record { name = codes "check"; options = []; meaning = λ value. Some Check }
 
+abbrev pub make : CommandRule
+make = record {
+  name = codes "make";
+  options = (codes "size", true) ∷ [];
+  meaning = λ value. option_map RunMake (make_of value);
+}
+
 abbrev pub solo : CommandRule
 solo = record {
   name = codes "solo";
@@ -40,7 +56,7 @@ solo = record {
 }
 
 abbrev pub commands : List CommandRule
-commands = check ∷ solo ∷ []
+commands = check ∷ make ∷ solo ∷ []
 
 abbrev pub command_named : Word → Option CommandRule
 command_named name = find (λ c. bytes_eq c.name name) commands

@@ -8,6 +8,10 @@ use Rattle.clap.specs.declared.builder.value_parser.ValueParser.TheVariants.{Non
 abbrev pub option_rule : Text → Rule
 option_rule name = record (new_rule name) { long = Some name; action = Some Set; parser = Some NonEmptyString }
 
+-- the same, where it must be given
+abbrev pub required_rule : Text → Rule
+required_rule name = record (option_rule name) { required = true }
+
 -- a command with these options
 abbrev pub with_options : App → List Text → App
 with_options a [] = a
@@ -15,6 +19,9 @@ with_options a (name ∷ names) = with_options (with_rule a (option_rule name)) 
 
 abbrev pub check_app : App
 check_app = new_app (codes "check")
+
+abbrev pub make_app : App
+make_app = with_rule (new_app (codes "make")) (required_rule (codes "size"))
 
 abbrev pub solo_app : App
 solo_app = with_options (new_app (codes "solo")) (codes "seed" ∷ codes "props" ∷ codes "samples" ∷ codes "thread" ∷ [])
@@ -26,7 +33,7 @@ abbrev pub bare_app : App
 bare_app = record (new_app (codes "jm")) { top = bare_shape (new_app (codes "jm")).top }
 
 abbrev pub jm_app : App
-jm_app = with_subcommand (with_subcommand bare_app check_app.top) solo_app.top
+jm_app = with_subcommand (with_subcommand (with_subcommand bare_app check_app.top) make_app.top) solo_app.top
 
 -- `clap` takes the words
 abbrev pub AreTaken : List Text → Type 0

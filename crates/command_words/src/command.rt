@@ -7,8 +7,17 @@ use var_functions::Props;
 pub enum Command {
     /// `check`: read a plan and write it out whole.
     Check,
+    /// `make`: run a plan that is made for a size.
+    Make(Make),
     /// `solo`: run one thread of a plan over the plan's own replies.
     Solo(Solo),
+}
+
+/// The option of `make`.
+#[derive(Drop)]
+pub struct Make {
+    /// `--size`, how many loops the plan has that is made: 1 to 2,047.
+    pub size: u16,
 }
 
 /// The options of `solo`.

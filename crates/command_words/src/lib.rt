@@ -7,7 +7,7 @@ mod parser;
 mod reading;
 mod value;
 
-pub use command::{Command, Solo};
+pub use command::{Command, Make, Solo};
 pub use error::WordsError;
 pub use reading::read_words;
 

@@ -4,7 +4,7 @@ ghost use Rattle.std.specs.Prelude.{◌≡◌, [], map, false, true, IfOk, Some,
 ghost use Rattle.clap.specs.Words.{app_of, rule_of, shape_of, subcommand_rows_of, with_rule, with_subcommand, fault_of, subcommand_of, is_simple_and_free};
 ghost use Rattle.clap.specs.Simple.{is_simple};
 ghost use Rattle.clap.specs.declared.builder.command.Command.TheViews.{out-Command as fields_of};
-ghost use Rattle.command_words.specs.Parser.{option_rule, solo_app, bare_app, jm_app};
+ghost use Rattle.command_words.specs.Parser.{option_rule, make_app, solo_app, bare_app, jm_app};
 
 use crate::error::WordsError;
 use clap::builder::ValueParser;
@@ -45,6 +45,14 @@ fn with_command<'a>(program: Command<'a>, command: Command<'a>) -> Result<Comman
     program.subcommand(command)
 }
 
+/// `make` with its option, which must be given.
+fn make_command<'a>(alloc: Global) -> Result<Command<'a>, AllocError>
+    ensures app { IfOk result (λ c. app_of c ≡ make_app) }
+    ensures globals { IfOk result (λ c. (fields_of c).has_globals ≡ false) }
+{
+    Command::new(alloc, "make").arg(text_option(alloc, "size").required(true))
+}
+
 /// `solo` with its options.
 fn solo_command<'a>(alloc: Global) -> Result<Command<'a>, AllocError>
     ensures app { IfOk result (λ c. app_of c ≡ solo_app) }
@@ -74,6 +82,7 @@ pub(crate) fn jm_command<'a>(alloc: Global) -> Result<Command<'a>, AllocError>
 {
     let command = bare_command(alloc);
     let command = with_command(command, Command::new(alloc, "check"))?;
+    let command = with_command(command, make_command(alloc)?)?;
     with_command(command, solo_command(alloc)?)
 }
 

@@ -4,15 +4,15 @@ ghost use Rattle.std.specs.Prelude.{◌≡◌, ◌≢◌, IsSome, IsNone, IsErr,
 ghost use Rattle.std.specs.List.{list_all};
 ghost use Rattle.clap.specs.Words.{app_of, subcommand_rows_of};
 ghost use Rattle.command_words.specs.Grammar.{Given, is_word};
-ghost use Rattle.command_words.specs.Commands.{CommandRule, solo_of, command_of};
+ghost use Rattle.command_words.specs.Commands.{CommandRule, make_of, solo_of, command_of};
 ghost use Rattle.command_words.specs.Parser.{AreTaken, taken_rows};
 ghost use Rattle.command_words.specs.Spelling.{IsCommandLine, IsNoCommandLine};
 ghost use Rattle.command_words.specs.Shown.{shown_name, shown_value, Shows, ShowsReading, asked_by};
 
-use crate::command::{Command, Solo};
+use crate::command::{Command, Make, Solo};
 use crate::error::WordsError;
 use crate::parser::{jm_command, parse};
-use crate::value::solo_from;
+use crate::value::{make_from, solo_from};
 use clap::ArgMatches;
 use std::alloc::Global;
 
@@ -82,6 +82,13 @@ fn value_or<'a>(matches: &ArgMatches<'a>, name: &str, default: &'a str) -> &'a s
     }
 }
 
+/// The option of `make`.
+fn make(matches: &ArgMatches) -> Option<Make>
+    ensures { result ≡ make_of (shown_value matches.now) }
+{
+    make_from(option_value(matches, "size")?)
+}
+
 /// The options of `solo`.
 fn solo(alloc: Global, matches: &ArgMatches) -> Result<Solo, WordsError>
     ensures ok { IfOk result (λ s. solo_of (shown_value matches.now) ≡ Some s) }
@@ -113,6 +120,10 @@ fn command(alloc: Global, matches: &ArgMatches) -> Result<Command, WordsError>
 {
     match command_name(matches) {
         Some("check") => Ok(Command::Check),
+        Some("make") => match make(matches) {
+            Some(make) => Ok(Command::Make(make)),
+            None => Err(WordsError::BadWords),
+        },
         Some("solo") => match solo(alloc, matches) {
             Ok(solo) => Ok(Command::Solo(solo)),
             Err(WordsError::BadWords) => Err(WordsError::BadWords),

@@ -53,6 +53,7 @@ fn solo_text(alloc: Global, solo: &Solo) -> Result<String, Fail> {
 fn answer(alloc: Global, words: &[String]) -> Result<String, Fail> {
     match read_words(alloc, words) {
         Ok(Command::Check) => Ok(String::from_str(alloc, "check")?),
+        Ok(Command::Make(make)) => Ok(format!(in alloc; "make {}", make.size)?),
         Ok(Command::Solo(solo)) => solo_text(alloc, &solo),
         Err(WordsError::BadWords) => Ok(String::from_str(alloc, "bad")?),
         Err(WordsError::NoMemory) => Ok(String::from_str(alloc, "no memory")?),
@@ -68,8 +69,8 @@ fn words_of(alloc: Global, line: &str) -> Result<Vec<String>, Fail> {
     Ok(words)
 }
 
-/// Command lines, their words parted by bars, and their answers: `bad`, `check`, or the seed, the samples, the thread and
-/// two properties of `solo`.
+/// Command lines, their words parted by bars, and their answers: `bad`, `check`, `make` and its size, or the seed, the
+/// samples, the thread and two properties of `solo`.
 const LINES: &str = r#"check~>check
 check|~>bad
 check|check~>bad
@@ -96,7 +97,105 @@ help|solo~>bad
 -h~>bad
 --version~>bad
 make~>bad
-make|--size|7~>bad
+make|--size|7~>make 7
+make|--size=7~>make 7
+make|--size|1~>make 1
+make|--size=1~>make 1
+make|--size|2047~>make 2047
+make|--size=2047~>make 2047
+make|--size|2046~>make 2046
+make|--size|0~>bad
+make|--size=0~>bad
+make|--size|2048~>bad
+make|--size=2048~>bad
+make|--size|65537~>bad
+make|--size|4294967297~>bad
+make|--size|18446744073709551617~>bad
+make|--size|00007~>make 7
+make|--size|00000000000000000007~>make 7
+make|--size=00000000000000000007~>make 7
+make|--size|000000000000000000007~>bad
+make|--size|00000000000000002047~>make 2047
+make|--size|00000000000000002048~>bad
+make|--size|00000000000000000000~>bad
+make|--size|340282366920938463463374607431768211457~>bad
+make|--size~>bad
+make|--size=~>bad
+make|--size|~>bad
+make|--size|-5~>bad
+make|--size=-5~>bad
+make|--size|+5~>bad
+make|--size=+5~>bad
+make|--size| 5~>bad
+make|--size|5 ~>bad
+make|--size|1_000~>bad
+make|--size|7.0~>bad
+make|--size|1e3~>bad
+make|--size|0x10~>bad
+make|--size|٣~>bad
+make|--size|seven~>bad
+make|--size==7~>bad
+make|--size|7|--size|7~>bad
+make|--size=7|--size=8~>bad
+make|--size=7|--size|7~>bad
+make|--size|--size|7~>bad
+make|--size|--seed=7~>bad
+make|--size|-~>bad
+make|--size|--~>bad
+make|--|--size|7~>bad
+make|--size|7|--~>bad
+make|-~>bad
+make|~>bad
+make|--size|7|~>bad
+make|--size|7|7~>bad
+make|--size|7|x~>bad
+make|x|--size|7~>bad
+make|7~>bad
+make|size=7~>bad
+make|size|7~>bad
+make|--size 7~>bad
+make|--=7~>bad
+make|--siz|7~>bad
+make|--sizes|7~>bad
+make|--SIZE|7~>bad
+make|-s|7~>bad
+make|-size|7~>bad
+make|---size|7~>bad
+make|--seed|7~>bad
+make|--seed=7~>bad
+make|--size|7|--seed|1~>bad
+make|--seed|1|--size|7~>bad
+make|--size=7|--props=a=1~>bad
+make|--size|7|--samples|1~>bad
+make|--size|7|--thread|0~>bad
+make|help~>bad
+make|--help~>bad
+make|check~>bad
+make|solo~>bad
+make|make~>bad
+make|make|--size|7~>bad
+make|solo|--size|7~>bad
+make|--size|7|make~>bad
+make|--size|7|solo~>bad
+check|make~>bad
+check|make|--size|7~>bad
+check|--size|7~>bad
+solo|make~>bad
+solo|make|--size|7~>bad
+solo|--seed|1|--size|7~>bad
+|make|--size|7~>bad
+--|make|--size|7~>bad
+--size|7~>bad
+--size|7|make~>bad
+--size=7|make~>bad
+--make|--size|7~>bad
+MAKE|--size|7~>bad
+mak|--size|7~>bad
+makes|--size|7~>bad
+make |--size|7~>bad
+make=7~>bad
+weave|--size|7~>bad
+run|--size|7~>bad
 weave~>bad
 run~>bad
 run|--seed|1~>bad
@@ -231,7 +330,7 @@ fn command_lines_are_read_by_the_table_of_commands(rt: HostRuntime) -> Result<()
         assert_eq!(rt; found.as_str(), wanted, "{line}");
         count = count.wrapping_add(1);
     }
-    assert_eq!(rt; count, 150);
+    assert_eq!(rt; count, 248);
     Ok(())
 }
 

@@ -2,9 +2,9 @@
 
 ghost use Rattle.std.specs.Prelude.{◌≡◌, ◌≤◌, IfOk, IfSome, Some, None};
 ghost use Rattle.command_words.specs.Values.{number_between, properties_of};
-ghost use Rattle.command_words.specs.Commands.{solo_from};
+ghost use Rattle.command_words.specs.Commands.{make_from, solo_from};
 
-use crate::command::Solo;
+use crate::command::{Make, Solo};
 use crate::error::WordsError;
 use std::alloc::Global;
 use var_functions::{Props, PropsError};
@@ -46,6 +46,14 @@ fn properties_of(alloc: Global, text: &[u8]) -> Result<Props, WordsError>
         Err(PropsError::BadProps) => Err(WordsError::BadWords),
         Err(PropsError::NoMemory) => Err(WordsError::NoMemory),
     }
+}
+
+/// The option of `make` by the text of its value.
+pub(crate) fn make_from(size: &str) -> Option<Make>
+    ensures { result ≡ make_from size.now }
+{
+    let size = number_between(1, 2047, size.as_bytes())?;
+    Some(Make { size: size as u16 })
 }
 
 /// The options of `solo` by the texts of their values.

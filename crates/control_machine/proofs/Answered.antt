@@ -18,16 +18,19 @@ use Rattle.jm_meaning.specs.declared.signal.Signal.TheVariants.{Normal, NextLoop
 use Rattle.jm_meaning.specs.State.{State, Own, Ending, state_of, at_rounds, normal, stopped, and_then}
 use Rattle.jm_meaning.specs.Children.{children_of, one_of}
 use Rattle.jm_meaning.specs.Meaning.{Here, meaning}
-use Rattle.jm_meaning.proofs.PartLaws.{one-round}
+use Rattle.jm_meaning.specs.Transactions.{gives_sample}
+use Rattle.jm_meaning.proofs.PartLaws.{no-rounds, one-round}
 use Rattle.control_machine.specs.declared.stack.Frame.{Frame}
 use Rattle.control_machine.specs.declared.machine.Group.{Group}
 use Rattle.control_machine.specs.declared.machine.Machine.{Machine}
 use Rattle.control_machine.specs.Moves.{turned}
-use Rattle.control_machine.specs.Cursors.{round_in}
-use Rattle.control_machine.specs.Left.{here_in, left_in, left_of, left_behind, children_at, ended, IsOut, rest_of}
+use Rattle.control_machine.specs.Cursors.{tally_in, round_in}
+use Rattle.control_machine.specs.Left.{here_in, left_in, left_of, left_behind, label_at, closing, closed, children_at, ended, IsOut, rest_of}
+use Rattle.control_machine.specs.Turns.{went, closing_of}
+use Rattle.control_machine.proofs.ClosingLaws.{stop_closing, out_gives, closed_out}
 use Rattle.control_machine.proofs.PassLaws.{none-left}
 use Rattle.control_machine.proofs.StackLaws.{left_by, innermost, inside_top, stop_through, out_of_top}
-use Rattle.control_machine.proofs.Following.{left_normal, left_later, no_round, group_child}
+use Rattle.control_machine.proofs.Following.{left_normal, left_later, group_child}
 use Rattle.control_machine.proofs.Turning.{IsLike, at_own}
 
 -- a run that is another one has come to where that one has come
@@ -37,27 +40,34 @@ came_as a b run x on limit res is came = subst (λ r. CameTo a r b on limit res)
 -- what is left behind the answer of an element that was taken out of the open ones
 abbrev pub answered : Tree → Machine → Frame → Element → State → Turn → Run Ending
 answered plan m f e s turn =
-    left_behind plan m (turned (meaning (here_in plan m) f.depth) (round_in f.round f.cursor) (children_of plan.elements e) (left_by (here_in plan m) f e) s turn)
+    left_behind plan m (closed (here_in plan m) f (turned (meaning (here_in plan m) f.depth) (round_in f.round f.cursor) (children_of plan.elements e) (left_by (here_in plan m) f e) s turn))
 
 module _ (plan : Tree) (m : Machine) (f : Frame) (e : Element) (user : UserState) (own : Own) (there : slice_get plan.elements f.element ≡ Some e) where
   -- the element is left
   pub is_over : (turn : Turn) → turn ≡ Over → m.signal ≡ Normal → (k : ℕ) → k ≡ own.rounds
-      → answered plan m f e (state_of user own) turn ≡ left_of plan m (state_of user (at_rounds own k))
+      → answered plan m f e (state_of user own) turn ≡ went plan m (state_of user (at_rounds own k)) (closing_of f)
   is_over turn is signal k same =
-      ap (answered plan m f e (state_of user own)) is ∙ sym (left_normal plan m (state_of user own) signal) ∙ ap (left_of plan m) (at_own user own k same)
+      ap (answered plan m f e (state_of user own)) is
+      ∙ ap (λ x. left_behind plan m (closed (here_in plan m) f (over (record { state = state_of user own; signal = x })))) (sym signal)
+      ∙ closed_out plan m f.element (tally_in f.cursor) (state_of user own) (ap gives_sample signal)
+      ∙ ap (λ s. went plan m s (closing_of f)) (at_own user own k same)
 
   -- no round is left for it
   pub no_round_left : (turn : Turn) → turn ≡ Round → own.rounds ≡ 0 → (k : ℕ) → k ≡ own.rounds
       → answered plan m f e (state_of user own) turn ≡ over (ended RoundLimit (state_of user (at_rounds own k)))
   no_round_left turn is none k same =
-      ap (answered plan m f e (state_of user own)) is ∙ no_round (here_in plan m) m.group m.stack.frames user own (left_by (here_in plan m) f e) none k same
+      ap (answered plan m f e (state_of user own)) is
+      ∙ ap (λ r. left_behind plan m (closed (here_in plan m) f r)) (no-rounds (state_of user own) (left_by (here_in plan m) f e) none)
+      ∙ ap (left_behind plan m) (stop_closing (label_at plan.elements f.element) (tally_in f.cursor) RoundLimit (state_of user own) refl)
+      ∙ stop_through (here_in plan m) m.group m.stack.frames RoundLimit (state_of user own) refl
+      ∙ ap (λ s. over (ended RoundLimit s)) (at_own user own k same)
 
   -- a round is taken
   pub round_taken : (turn : Turn) → turn ≡ Round → (m' : Machine) → IsLike m m' → m'.stack.frames ≡ f ∷ m.stack.frames → (n : ℕ) → own.rounds ≡ suc n
       → answered plan m f e (state_of user own) turn ≡ left_of plan m' (state_of user (at_rounds own n))
   round_taken turn is m' like frames n some =
       ap (answered plan m f e (state_of user own)) is
-      ∙ ap (left_behind plan m) (one-round (state_of user own) (left_by (here_in plan m) f e) n some)
+      ∙ ap (λ r. left_behind plan m (closed (here_in plan m) f r)) (one-round (state_of user own) (left_by (here_in plan m) f e) n some)
       ∙ sym (innermost (here_in plan m) m.group f m.stack.frames e (state_of user (at_rounds own n)) there)
       ∙ sym (left_later plan m m' m.group (f ∷ m.stack.frames) (state_of user (at_rounds own n)) like.group like.failure like.signal frames)
 
@@ -75,7 +85,7 @@ module _ (plan : Tree) (m : Machine) (f : Frame) (e : Element) (user : UserState
       → answered plan m f e (state_of user own) turn ≡ left_behind plan m' (meaning (here_in plan m') f.depth child r (state_of user own))
   child_next turn place child r is found round m' like frames =
       ap (answered plan m f e (state_of user own)) is
-      ∙ ap (λ o. left_behind plan m (and_then (one_of (meaning (here_in plan m) f.depth) (round_in f.round f.cursor) o (state_of user own)) (left_by (here_in plan m) f e))) found
+      ∙ ap (λ o. left_behind plan m (closed (here_in plan m) f (and_then (one_of (meaning (here_in plan m) f.depth) (round_in f.round f.cursor) o (state_of user own)) (left_by (here_in plan m) f e)))) found
       ∙ sym (inside_top (here_in plan m) m.group f m.stack.frames e (meaning (here_in plan m) f.depth child (round_in f.round f.cursor) (state_of user own)) there)
       ∙ ap (λ r. left_in (here_in plan m) m.group (f ∷ m.stack.frames) (meaning (here_in plan m) f.depth child r (state_of user own))) (sym round)
       ∙ sym (same_place m' like frames (λ here. meaning here f.depth child r (state_of user own)))
@@ -85,7 +95,7 @@ module _ (plan : Tree) (m : Machine) (f : Frame) (e : Element) (user : UserState
       → (k : ℕ) → k ≡ own.rounds → answered plan m f e (state_of user own) turn ≡ left_of plan m' (state_of user (at_rounds own k))
   no_child turn place is found m' like frames k same =
       ap (answered plan m f e (state_of user own)) is
-      ∙ ap (λ o. left_behind plan m (and_then (one_of (meaning (here_in plan m) f.depth) (round_in f.round f.cursor) o (state_of user own)) (left_by (here_in plan m) f e))) found
+      ∙ ap (λ o. left_behind plan m (closed (here_in plan m) f (and_then (one_of (meaning (here_in plan m) f.depth) (round_in f.round f.cursor) o (state_of user own)) (left_by (here_in plan m) f e)))) found
       ∙ sym (innermost (here_in plan m) m.group f m.stack.frames e (state_of user own) there)
       ∙ sym (left_later plan m m' m.group (f ∷ m.stack.frames) (state_of user own) like.group like.failure like.signal frames)
       ∙ ap (left_of plan m') (at_own user own k same)
@@ -114,14 +124,17 @@ out s signal = over (record { state = s; signal = signal })
 -- one more open element is left
 pub out_of_one : (plan : Tree) (m m' : Machine) (f : Frame) (user : UserState) (own : Own) → (m.signal ≡ Normal → ⊥) → m.stack.frames ≡ f ∷ m'.stack.frames
     → m'.group ≡ m.group → m'.at_failure ≡ m.at_failure → m'.signal ≡ m.signal → (k : ℕ) → k ≡ own.rounds
-    → left_of plan m (state_of user own) ≡ left_of plan m' (state_of user (at_rounds own k))
-out_of_one plan m m' f user own away frames group failure signal k same =
+    → IsOut m.signal → left_of plan m (state_of user own) ≡ went plan m' (state_of user (at_rounds own k)) (closing_of f)
+out_of_one plan m m' f user own away frames group failure signal k same is_out =
     ap (λ fs. left_in (here_in plan m) m.group fs (out (state_of user own) m.signal)) frames
     ∙ out_of_top (here_in plan m) m.group f m'.stack.frames (state_of user own) m.signal away
-    ∙ ap (λ g. left_in (here_in plan m) g m'.stack.frames (out (state_of user own) m.signal)) (sym group)
-    ∙ ap (λ x. left_in (record { plan = plan; at_failure = x }) m'.group m'.stack.frames (out (state_of user own) m.signal)) (sym failure)
-    ∙ ap (λ x. left_in (here_in plan m') m'.group m'.stack.frames (out (state_of user own) x)) (sym signal)
-    ∙ ap (left_of plan m') (at_own user own k same)
+    ∙ ap (λ g. left_in (here_in plan m) g m'.stack.frames (at_top (out (state_of user own) m.signal))) (sym group)
+    ∙ ap (λ x. left_in (record { plan = plan; at_failure = x }) m'.group m'.stack.frames (at_top (out (state_of user own) m.signal))) (sym failure)
+    ∙ ap (λ x. left_in (here_in plan m') m'.group m'.stack.frames (at_top (out (state_of user own) x))) (sym signal)
+    ∙ closed_out plan m' f.element (tally_in f.cursor) (state_of user own) (ap gives_sample signal ∙ out_gives m.signal is_out)
+    ∙ ap (λ s. went plan m' s (closing_of f)) (at_own user own k same) where
+      at_top : Run Ending → Run Ending
+      at_top inner = closing (label_at plan.elements f.element) (tally_in f.cursor) inner
 
 -- an end of a way out
 pub end_out : (end : End) (s : State) → IsOut (Stop end) → stopped end s ≡ ended end s
@@ -129,11 +142,17 @@ end_out StopThread s h = refl
 end_out StopTest s h = refl
 end_out end s h = absurd h
 
-pub all_out : (plan : Tree) (m : Machine) (end : End) (user : UserState) (own : Own) → m.signal ≡ Stop end → IsOut m.signal → (k : ℕ) → k ≡ own.rounds
+-- where no element is open an end is the end
+stop_at_group : (here : Here) (g : Group) (end : End) (s : State) → left_in here g [] (over (stopped end s)) ≡ over (stopped end s)
+unfolding left_in rest_of
+stop_at_group here g end s = refl
+
+pub all_out : (plan : Tree) (m : Machine) (end : End) (user : UserState) (own : Own) → m.stack.frames ≡ [] → m.signal ≡ Stop end → IsOut m.signal → (k : ℕ) → k ≡ own.rounds
     → left_of plan m (state_of user own) ≡ over (ended end (state_of user (at_rounds own k)))
-all_out plan m end user own signal is_out k same =
+all_out plan m end user own empty signal is_out k same =
     ap (λ x. left_behind plan m (out (state_of user own) x)) signal
-    ∙ stop_through (here_in plan m) m.group m.stack.frames end (state_of user own)
+    ∙ ap (λ fs. left_in (here_in plan m) m.group fs (over (stopped end (state_of user own)))) empty
+    ∙ stop_at_group (here_in plan m) m.group end (state_of user own)
     ∙ ap over (end_out end (state_of user own) (subst IsOut signal is_out))
     ∙ ap (λ s. over (ended end s)) (at_own user own k same)
 

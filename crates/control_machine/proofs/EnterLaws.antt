@@ -29,6 +29,25 @@ use Rattle.control_machine.specs.Moves.{begun, pass_left}
 use Rattle.control_machine.specs.Cursors.{simple_left, once_left, if_left, round_left, loop_left, while_left, each_left, if_left_in, while_left_in, each_left_in}
 use Rattle.control_machine.proofs.PassLaws.{none-left, all-left}
 use Rattle.control_machine.proofs.StepLaws.{text-law}
+use Rattle.control_machine.proofs.PassLaws.{count-is}
+use Rattle.std.proofs.Common.{Some, [], ap, ◌∙◌}
+use Rattle.std.specs.Prelude.{slice_get, unwrap_or}
+use Rattle.std.specs.Option.{option_map}
+use Rattle.element_tree.specs.declared.kinds.Element.{Element}
+use Rattle.element_tree.specs.Tree.{Tree}
+use Rattle.element_tree.specs.Names.{label_of}
+use Rattle.cursor_steps.specs.declared.pass.Pass.{Pass}
+use Rattle.cursor_steps.specs.Children.{run_count}
+use Rattle.jm_meaning.specs.declared.signal.Signal.{Signal}
+use Rattle.jm_meaning.specs.declared.transaction.Tally.{Tally}
+use Rattle.jm_meaning.specs.Children.{children_of}
+use Rattle.jm_meaning.specs.Meaning.{kind_meaning}
+use Rattle.jm_meaning.specs.Transactions.{tally_of, transaction_from}
+use Rattle.jm_meaning.proofs.TransactionLaws.{by-tally}
+use Rattle.control_machine.specs.declared.cursor.Cursor.TheVariants.{Transaction}
+use Rattle.control_machine.specs.declared.enter.Entered.TheVariants.{Open}
+use Rattle.control_machine.specs.Left.{label_at}
+use Rattle.control_machine.specs.Entering.{here_with, entered}
 
 -- before the first child of a pass all are left
 whole : (n : ℕ) (children : List ℕ) → n ≡ length children → pass_left (pass_over n) children ≡ children
@@ -99,3 +118,14 @@ pub each-enter-in : (k : Kind) (name : List ℕ) (row : Row) (output : List ℕ)
 each-enter-in k name row output below children n c s is =
     subst (λ k. rounds max_rounds (each_turns name row output) (λ i. in_order below i children) 0 s ≡ (each_enters n c s.user >>= begun (each_left_in k name below children) s.own)) (sym is)
     (each-enter name row output below children n c s)
+
+-- a transaction begins with all its children, and no sample counted
+pub transaction-enter : (plan : Tree) (failure : Signal) (below : Below) (number round : ℕ) (e : Element) (s : State) (pass : Pass) (tally : Tally) → slice_get plan.elements number ≡ Some e
+    → pass ≡ pass_over (run_count plan.elements e) → tally ≡ tally_of []
+    → kind_meaning (here_with plan failure) below number e kinds.Transaction round s
+    ≡ entered (here_with plan failure) below number round e s (Open (Transaction (record { children = record { element = number; pass = pass }; tally = tally })))
+transaction-enter plan failure below number round e s pass tally there all none =
+    by-tally (label_of plan.elements e.name) (in_order below round (children_of plan.elements e)) s
+    ∙ ap (λ l. transaction_from l (tally_of []) (in_order below round (children_of plan.elements e) s)) (sym (ap (λ o. unwrap_or (option_map (λ e. label_of plan.elements e.name) o) 0) there))
+    ∙ ap (λ t. transaction_from (label_at plan.elements number) t (in_order below round (children_of plan.elements e) s)) (sym none)
+    ∙ ap (λ cs. transaction_from (label_at plan.elements number) tally (in_order below round cs s)) (sym (ap (λ p. pass_left p (children_of plan.elements e)) all ∙ whole (run_count plan.elements e) (children_of plan.elements e) (sym (count-is plan.elements e))))

@@ -8,7 +8,7 @@ use Rattle.cursor_steps.specs.Children.{is_left, pass_over}
 use Rattle.logic_controllers.specs.LoopController.{round_begins}
 use Rattle.var_functions.specs.declared.state.UserState.{UserState}
 use Rattle.jm_meaning.specs.declared.signal.Signal.TheVariants.{Normal}
-use Rattle.jm_meaning.specs.State.{State, Own, Part, state_of, at_rounds, normal, stopped, and_then, with_round}
+use Rattle.jm_meaning.specs.State.{State, Own, state_of, at_rounds, normal, stopped, and_then}
 use Rattle.jm_meaning.specs.Rounds.{rounds, group_turns, where_begun, where_so, round_of_group}
 use Rattle.jm_meaning.specs.Children.{in_order}
 use Rattle.jm_meaning.specs.Beginning.{max_rounds}
@@ -19,7 +19,6 @@ use Rattle.control_machine.specs.declared.machine.Group.{Group}
 use Rattle.control_machine.specs.declared.machine.Machine.{Machine}
 use Rattle.control_machine.specs.Left.{left_in, rest_of, left_of, here_in, children_at, ended}
 use Rattle.control_machine.proofs.PassLaws.{front, none-left, all-left}
-use Rattle.control_machine.proofs.StackLaws.{stop_through}
 
 -- what is left in a machine whose signal is Normal
 pub left_normal : (plan : Tree) (m : Machine) (s : State) → m.signal ≡ Normal → left_of plan m s ≡ left_in (here_in plan m) m.group m.stack.frames (over (normal s))
@@ -32,13 +31,6 @@ left_later plan m n group frames s g f is fs = rw (is, g, f, fs) refl
 
 pub own_same : (own : Own) (n : ℕ) → n ≡ own.rounds → at_rounds own n ≡ own
 own_same own n is = ap (at_rounds own) is
-
-module _ (here : Here) (g : Group) (fs : List Frame) (user : UserState) (own : Own) where
-  -- no round is left
-  pub no_round : (left : Part) → own.rounds ≡ 0 → (n : ℕ) → n ≡ own.rounds
-      → left_in here g fs (with_round (state_of user own) left) ≡ over (ended RoundLimit (state_of user (at_rounds own n)))
-  no_round left none n is =
-      ap (left_in here g fs) (no-rounds (state_of user own) left none) ∙ stop_through here g fs RoundLimit (state_of user own) ∙ ap (λ o. over (stopped RoundLimit (state_of user o))) (sym (own_same own n is))
 
 -- ---- the group
 

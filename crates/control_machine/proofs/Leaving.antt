@@ -1,6 +1,5 @@
 -- Ways out: an open element is left, or the way out is over.
-use Rattle.std.proofs.Common.{◌≡◌, ℕ, ◌<◌, true, false, List, [], ◌∷◌, Option, Some, None, refl, sym, ap, ◌∙◌, subst}
-use Rattle.std.specs.Prelude.{MatchOption, is_some}
+use Rattle.std.proofs.Common.{◌≡◌, ℕ, List, [], ◌∷◌, refl, sym, ap, ◌∙◌, subst}
 use Rattle.jm_base.specs.declared.types.End.{End}
 use Rattle.jm_base.specs.Run.{over}
 use Rattle.element_tree.specs.declared.kinds.Element.{Element}
@@ -9,43 +8,18 @@ use Rattle.var_functions.specs.declared.state.UserState.{UserState}
 use Rattle.jm_meaning.specs.declared.signal.Signal.{Signal}
 use Rattle.jm_meaning.specs.declared.signal.Signal.TheVariants.{Normal, NextLoop, Stop}
 use Rattle.jm_meaning.specs.State.{Own, state_of, at_rounds, normal}
-use Rattle.control_machine.specs.Opened.{Opened}
 use Rattle.control_machine.specs.declared.stack.Frame.{Frame}
 use Rattle.control_machine.specs.declared.machine.Group.{Group}
 use Rattle.control_machine.specs.declared.machine.Machine.{Machine}
 use Rattle.control_machine.specs.declared.moves.Move.{Move}
 use Rattle.control_machine.specs.declared.moves.Move.TheVariants.{Iteration, RunSampler, EnterSection, LeaveSection, TransactionSample, Finished}
-use Rattle.control_machine.specs.Load.{load_of}
 use Rattle.control_machine.specs.Left.{here_in, left_in, left_of, ended, AreOpen, GroupIsOpen, IsOut, StandsIn}
-use Rattle.control_machine.specs.Turns.{IsNormalAt}
+use Rattle.control_machine.specs.Turns.{went, closing_of, IsNormalAt}
 use Rattle.control_machine.proofs.Answered.{out, out_of_one, all_out, next_loop, round_over}
-use Rattle.control_machine.proofs.Lightening.{popped_light}
 
--- what was taken out of the open elements, if there was one
-abbrev pub Popped : Opened → Opened → Option Frame → Type 0
-Popped old new o = MatchOption o ((old.frames ≡ []) × (new ≡ old)) (λ f. (old.frames ≡ f ∷ new.frames) × (0 < new.room))
-
-pub none_of_pop : (old new : Opened) (o : Option Frame) → Popped old new o → is_some o ≡ false → new.frames ≡ []
-none_of_pop old new None h is = ap (λ s. s.frames) h.1 ∙ h.0
-none_of_pop old new (Some f) h is = absurd (cc)
-
-none_before : (old new : Opened) (o : Option Frame) → Popped old new o → is_some o ≡ false → old.frames ≡ []
-none_before old new None h is = h.0
-none_before old new (Some f) h is = absurd (cc)
-
-pub popped_same : (plan : Tree) (m m' : Machine) (o : Option Frame) (user : UserState) (own : Own) → Popped m.stack m'.stack o → is_some o ≡ true → (m.signal ≡ Normal → ⊥)
-    → m'.group ≡ m.group → m'.at_failure ≡ m.at_failure → m'.signal ≡ m.signal → (k : ℕ) → k ≡ own.rounds
-    → left_of plan m (state_of user own) ≡ left_of plan m' (state_of user (at_rounds own k))
-popped_same plan m m' None user own h is away group failure signal k same = absurd (cc)
-popped_same plan m m' (Some f) user own h is away group failure signal k same = out_of_one plan m m' f user own away h.0 group failure signal k same
-
-pub popped_lighter : (elements : List Element) (m m' : Machine) (o : Option Frame) → Popped m.stack m'.stack o → is_some o ≡ true → m'.group ≡ m.group → m'.rounds ≡ m.rounds → load_of elements m' < load_of elements m
-popped_lighter elements m m' None h is group rounds = absurd (cc)
-popped_lighter elements m m' (Some f) h is group rounds = popped_light elements m m' f h.0 group rounds
-
-pub stop_same : (plan : Tree) (m : Machine) (end : End) (user : UserState) (own : Own) → m.signal ≡ Stop end → StandsIn plan m → own.rounds ≡ m.rounds
+pub stop_same : (plan : Tree) (m : Machine) (end : End) (user : UserState) (own : Own) → m.stack.frames ≡ [] → m.signal ≡ Stop end → StandsIn plan m → own.rounds ≡ m.rounds
     → left_of plan m (state_of user own) ≡ over (ended end (state_of user (at_rounds own m.rounds)))
-stop_same plan m end user own is stands same = all_out plan m end user own is stands.signal m.rounds (sym same)
+stop_same plan m end user own empty is stands same = all_out plan m end user own empty is stands.signal m.rounds (sym same)
 
 -- a signal that is neither Normal nor a Stop
 next_is : (signal : Signal) → (signal ≡ Normal → ⊥) → ((end : End) → signal ≡ Stop end → ⊥) → signal ≡ NextLoop
@@ -54,25 +28,32 @@ next_is NextLoop away other = refl
 next_is (Stop end) away other = absurd (other end refl)
 
 -- a way out to the next round is over: the group goes on where its round is over
-pub loop_same : (plan : Tree) (m : Machine) (stack : Opened) (o : Option Frame) (user : UserState) (own : Own) → Popped m.stack stack o → is_some o ≡ false → (m.signal ≡ Normal → ⊥) → ((end : End) → m.signal ≡ Stop end → ⊥)
-    → left_of plan m (state_of user own) ≡ left_of plan (record { group = round_over m.group; stack = stack; rounds = m.rounds; at_failure = m.at_failure; signal = Normal }) (state_of user own)
-loop_same plan m stack o user own h is away other =
+pub loop_same : (plan : Tree) (m : Machine) (user : UserState) (own : Own) → m.stack.frames ≡ [] → (m.signal ≡ Normal → ⊥) → ((end : End) → m.signal ≡ Stop end → ⊥)
+    → left_of plan m (state_of user own) ≡ left_of plan (record { group = round_over m.group; stack = m.stack; rounds = m.rounds; places = m.places; at_failure = m.at_failure; signal = Normal }) (state_of user own)
+loop_same plan m user own empty away other =
     ap (λ x. left_in (here_in plan m) m.group m.stack.frames (out (state_of user own) x)) (next_is m.signal away other)
-    ∙ ap (λ fs. left_in (here_in plan m) m.group fs (out (state_of user own) NextLoop)) (none_before m.stack stack o h is)
+    ∙ ap (λ fs. left_in (here_in plan m) m.group fs (out (state_of user own) NextLoop)) empty
     ∙ next_loop (here_in plan m) m.group (state_of user own)
-    ∙ ap (λ fs. left_in (here_in plan m) (round_over m.group) fs (over (normal (state_of user own)))) (sym (none_of_pop m.stack stack o h is))
+    ∙ ap (λ fs. left_in (here_in plan m) (round_over m.group) fs (over (normal (state_of user own)))) (sym empty)
 
 pub loop_group : (elements : List Element) (left : ℕ) (g : Group) → GroupIsOpen elements left g → GroupIsOpen elements left (round_over g)
 loop_group elements left g o = record { element = o.element; there = o.there; below = o.below; pass = o.pass; bound = o.bound }
 
-pub loop_stands : (plan : Tree) (m m' : Machine) (stack : Opened) (o : Option Frame) → Popped m.stack stack o → is_some o ≡ false → StandsIn plan m → GroupIsOpen plan.elements m'.rounds m'.group
-    → (m'.stack ≡ stack) × (m'.signal ≡ Normal) → m'.at_failure ≡ m.at_failure → StandsIn plan m'
-loop_stands plan m m' stack o h is stands group rest failure = record {
+pub loop_stands : (plan : Tree) (m m' : Machine) → m.stack.frames ≡ [] → StandsIn plan m → GroupIsOpen plan.elements m'.rounds m'.group
+    → (m'.stack ≡ m.stack) × (m'.signal ≡ Normal) → m'.at_failure ≡ m.at_failure → StandsIn plan m'
+loop_stands plan m m' empty stands group rest failure = record {
   group = group;
-  open_ = subst (AreOpen plan.elements m'.rounds) (sym (ap (λ s. s.frames) rest.0 ∙ none_of_pop m.stack stack o h is)) tt;
+  open_ = subst (AreOpen plan.elements m'.rounds) (sym (ap (λ s. s.frames) rest.0 ∙ empty)) tt;
   failure = subst IsOut (sym failure) stands.failure;
   signal = subst IsOut (sym rest.1) tt;
 }
+
+-- an element that was taken out of the open ones, on a way out
+pub popped_same : (plan : Tree) (m m' : Machine) (f : Frame) (user : UserState) (own : Own) → m.stack.frames ≡ f ∷ m'.stack.frames → (m.signal ≡ Normal → ⊥)
+    → m'.group ≡ m.group → m'.at_failure ≡ m.at_failure → m'.signal ≡ m.signal → StandsIn plan m → (k : ℕ) → k ≡ own.rounds
+    → left_of plan m (state_of user own) ≡ went plan m' (state_of user (at_rounds own k)) (closing_of f)
+popped_same plan m m' f user own frames away group failure signal stands k same =
+    out_of_one plan m m' f user own away frames group failure signal k same stands.signal
 
 pub at_normal : (move : Move) (signal : Signal) → signal ≡ Normal → IsNormalAt move signal
 at_normal (Iteration index) signal is = is

@@ -2,6 +2,12 @@ pub mod PassLaws
 pub mod StepLaws
 pub mod CursorLaws
 pub mod EnterLaws
+pub mod ShuffleLaws
+pub mod ChoiceLaws
+pub mod ChoicePass
+pub mod ClosingLaws
+pub mod Closed
+pub mod HearingLaws
 pub mod StackLaws
 pub mod Opening
 pub mod LoadLaws
@@ -13,7 +19,6 @@ pub mod Turning
 pub mod Answered
 pub mod Standing
 pub mod Lightening
-pub mod Refusals
 pub mod Rounding
 pub mod Grouping
 pub mod Leaving

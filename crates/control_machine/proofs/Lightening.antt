@@ -3,14 +3,11 @@ use Rattle.std.proofs.Common.{◌≡◌, ℕ, suc, ◌+◌, ◌*◌, ◌≤◌, 
 use Rattle.element_tree.specs.declared.kinds.Element.{Element}
 use Rattle.element_tree.specs.declared.package.Turn.{Turn}
 use Rattle.element_tree.specs.declared.package.Turn.TheVariants.{Child}
-use Rattle.cursor_steps.specs.declared.pass.Pass.{Pass}
-use Rattle.cursor_steps.specs.Children.{Passes}
 use Rattle.control_machine.specs.declared.stack.Frame.{Frame}
 use Rattle.control_machine.specs.declared.machine.Machine.{Machine}
 use Rattle.control_machine.specs.declared.machine.Went.{Went}
 use Rattle.control_machine.specs.declared.machine.Went.TheVariants.{On, To}
-use Rattle.control_machine.specs.Cursors.{pass_of}
-use Rattle.control_machine.specs.Load.{children_count, scale, remaining, load, load_of}
+use Rattle.control_machine.specs.Load.{children_count, scale, remaining, children_left, TakesChild, load, load_of}
 use Rattle.control_machine.specs.Turns.{Lightens, IsOpened, load_in}
 use Rattle.control_machine.proofs.LoadLaws.{left_light, child_light, plain_light, round_light, group_light}
 
@@ -28,7 +25,7 @@ pub over_lighter : (elements : List Element) (m : Machine) (old : Frame) → loa
 over_lighter elements m old = let l = left_light (children_count elements) old m.stack.frames in omega (arith, l)
 
 -- a round begins
-pub round_lighter : (elements : List Element) (m m' : Machine) (old f : Frame) → remaining (pass_of f.cursor) ≤ children_count elements → f.depth ≤ 29 → m'.stack.frames ≡ f ∷ m.stack.frames
+pub round_lighter : (elements : List Element) (m m' : Machine) (old f : Frame) → children_left f.cursor ≤ children_count elements → f.depth ≤ 29 → m'.stack.frames ≡ f ∷ m.stack.frames
     → m'.group ≡ m.group → m.rounds ≡ suc m'.rounds → load_of elements m' < load_in elements m (old ∷ m.stack.frames)
 round_lighter elements m m' old f few deep frames group rounds =
     subst (λ fs. load (children_count elements) fs + (remaining m'.group.pass + m'.rounds) * scale (children_count elements) 31 < load_in elements m (old ∷ m.stack.frames)) (sym frames)
@@ -36,11 +33,8 @@ round_lighter elements m m' old f few deep frames group rounds =
     (round_light (children_count elements) (remaining m.group.pass) m'.rounds m.rounds old f m.stack.frames few deep rounds))
 
 -- a child is taken from a pass
-one_fewer : (old new : Pass) (turn : Turn) (place : ℕ) → turn ≡ Child place → Passes old new turn → remaining new < remaining old
-one_fewer old new turn place is passes =
-    let p = subst (Passes old new) is passes in
-    let n = ap (λ q. remaining q) p.2 in
-    omega (arith, n, p.1)
+one_fewer : (old new : ℕ) (turn : Turn) (place : ℕ) → turn ≡ Child place → TakesChild old new turn → new < old
+one_fewer old new turn place is takes = subst (TakesChild old new) is takes
 
 same_total : (elements : List Element) (m m' : Machine) (fs : List Frame) → m'.group ≡ m.group → m'.rounds ≡ m.rounds → load (children_count elements) m'.stack.frames < load (children_count elements) fs
     → load_of elements m' < load_in elements m fs
@@ -50,18 +44,18 @@ same_total elements m m' fs group rounds less =
     omega (arith, r, less)
 
 pub child_lighter : (elements : List Element) (m m' : Machine) (old f : Frame) (turn : Turn) (place : ℕ) (between : List Frame) (w : Went) → turn ≡ Child place → 1 ≤ f.depth → old.depth ≡ f.depth
-    → Passes (pass_of old.cursor) (pass_of f.cursor) turn → between ≡ f ∷ m.stack.frames → IsOpened elements f.depth between m'.stack.frames → m'.group ≡ m.group → m'.rounds ≡ m.rounds
+    → TakesChild (children_left old.cursor) (children_left f.cursor) turn → between ≡ f ∷ m.stack.frames → IsOpened elements f.depth between m'.stack.frames → m'.group ≡ m.group → m'.rounds ≡ m.rounds
     → Lightens w (load_in elements m (old ∷ m.stack.frames)) (load_of elements m')
-child_lighter elements m m' old f turn place between w is some depth passes at opened group rounds =
+child_lighter elements m m' old f turn place between w is some depth takes at opened group rounds =
     lightens w _ _ (same_total elements m m' (old ∷ m.stack.frames) group rounds
-    (child_light elements f.depth old f m.stack.frames m'.stack.frames some depth refl (one_fewer (pass_of old.cursor) (pass_of f.cursor) turn place is passes) (subst (λ fs. IsOpened elements f.depth fs m'.stack.frames) at opened)))
+    (child_light elements f.depth old f m.stack.frames m'.stack.frames some depth refl (one_fewer (children_left old.cursor) (children_left f.cursor) turn place is takes) (subst (λ fs. IsOpened elements f.depth fs m'.stack.frames) at opened)))
 
 pub none_lighter : (elements : List Element) (m m' : Machine) (old f : Frame) (turn : Turn) (place : ℕ) → turn ≡ Child place → old.depth ≡ f.depth
-    → Passes (pass_of old.cursor) (pass_of f.cursor) turn → m'.stack.frames ≡ f ∷ m.stack.frames → m'.group ≡ m.group → m'.rounds ≡ m.rounds
+    → TakesChild (children_left old.cursor) (children_left f.cursor) turn → m'.stack.frames ≡ f ∷ m.stack.frames → m'.group ≡ m.group → m'.rounds ≡ m.rounds
     → load_of elements m' < load_in elements m (old ∷ m.stack.frames)
-none_lighter elements m m' old f turn place is depth passes frames group rounds =
+none_lighter elements m m' old f turn place is depth takes frames group rounds =
     same_total elements m m' (old ∷ m.stack.frames) group rounds
-    (plain_light elements old f m.stack.frames m'.stack.frames depth (one_fewer (pass_of old.cursor) (pass_of f.cursor) turn place is passes) frames)
+    (plain_light elements old f m.stack.frames m'.stack.frames depth (one_fewer (children_left old.cursor) (children_left f.cursor) turn place is takes) frames)
 
 -- the group's child
 pub group_lighter : (elements : List Element) (m m' : Machine) (w : Went) → m.stack.frames ≡ [] → remaining m'.group.pass < remaining m.group.pass → m'.rounds ≡ m.rounds → IsOpened elements 30 [] m'.stack.frames

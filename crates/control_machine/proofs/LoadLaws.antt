@@ -9,8 +9,7 @@ use Rattle.element_tree.specs.declared.kinds.Element.{Element}
 use Rattle.cursor_steps.specs.Children.{is_run_at, runs_of}
 use Rattle.jm_meaning.specs.Children.{children_of}
 use Rattle.control_machine.specs.declared.stack.Frame.{Frame}
-use Rattle.control_machine.specs.Cursors.{pass_of}
-use Rattle.control_machine.specs.Load.{children_count, scale, remaining, load}
+use Rattle.control_machine.specs.Load.{children_count, scale, children_left, load}
 use Rattle.control_machine.specs.Turns.{IsOpened}
 
 pub scale-positive : (c d : ℕ) → 1 ≤ scale c d
@@ -47,7 +46,7 @@ light c d r few =
     let e' : (c + 2) * scale c d ≡ (c + 1) * scale c d + scale c d = grind arith in
     omega arith
 
-pub load_front : (c : ℕ) (f : Frame) (fs : List Frame) → load c (f ∷ fs) ≡ suc (remaining (pass_of f.cursor)) * scale c f.depth + load c fs
+pub load_front : (c : ℕ) (f : Frame) (fs : List Frame) → load c (f ∷ fs) ≡ suc (children_left f.cursor) * scale c f.depth + load c fs
 unfolding load
 load_front c f fs = refl
 
@@ -59,44 +58,44 @@ load_none c = refl
 pub left_light : (c : ℕ) (f : Frame) (fs : List Frame) → load c fs < load c (f ∷ fs)
 left_light c f fs =
     let p = scale-positive c f.depth in
-    let e : 1 * scale c f.depth ≤ suc (remaining (pass_of f.cursor)) * scale c f.depth = mul-le-mul_right (scale c f.depth) (omega arith) in
+    let e : 1 * scale c f.depth ≤ suc (children_left f.cursor) * scale c f.depth = mul-le-mul_right (scale c f.depth) (omega arith) in
     let is = load_front c f fs in
     omega (arith, p, e, is)
 
 -- a child is taken
-taken : (c : ℕ) (f g : Frame) (fs : List Frame) → g.depth ≡ f.depth → remaining (pass_of g.cursor) < remaining (pass_of f.cursor)
+taken : (c : ℕ) (f g : Frame) (fs : List Frame) → g.depth ≡ f.depth → children_left g.cursor < children_left f.cursor
     → load c (g ∷ fs) + scale c f.depth ≤ load c (f ∷ fs)
 taken c f g fs same less =
-    let e : suc (suc (remaining (pass_of g.cursor))) * scale c f.depth ≤ suc (remaining (pass_of f.cursor)) * scale c f.depth = mul-le-mul_right (scale c f.depth) (omega (arith, less)) in
-    let e' : suc (suc (remaining (pass_of g.cursor))) * scale c f.depth ≡ suc (remaining (pass_of g.cursor)) * scale c f.depth + scale c f.depth = grind arith in
+    let e : suc (suc (children_left g.cursor)) * scale c f.depth ≤ suc (children_left f.cursor) * scale c f.depth = mul-le-mul_right (scale c f.depth) (omega (arith, less)) in
+    let e' : suc (suc (children_left g.cursor)) * scale c f.depth ≡ suc (children_left g.cursor) * scale c f.depth + scale c f.depth = grind arith in
     let i = load_front c f fs in
-    let j : load c (g ∷ fs) ≡ suc (remaining (pass_of g.cursor)) * scale c f.depth + load c fs = load_front c g fs ∙ ap (λ d. suc (remaining (pass_of g.cursor)) * scale c d + load c fs) same in
+    let j : load c (g ∷ fs) ≡ suc (children_left g.cursor) * scale c f.depth + load c fs = load_front c g fs ∙ ap (λ d. suc (children_left g.cursor) * scale c d + load c fs) same in
     omega (arith, e, e', i, j)
 
 -- one more element is open
-opened_light : (c depth : ℕ) (h : Frame) (fs : List Frame) → 1 ≤ depth → h.depth ≡ depth - 1 → remaining (pass_of h.cursor) ≤ c → load c (h ∷ fs) < load c fs + scale c depth
+opened_light : (c depth : ℕ) (h : Frame) (fs : List Frame) → 1 ≤ depth → h.depth ≡ depth - 1 → children_left h.cursor ≤ c → load c (h ∷ fs) < load c fs + scale c depth
 opened_light c depth h fs some is few =
-    let l = light c h.depth (remaining (pass_of h.cursor)) few in
+    let l = light c h.depth (children_left h.cursor) few in
     let d : suc h.depth ≡ depth = omega (arith, some, is) in
     let s : scale c (suc h.depth) ≡ scale c depth = ap (scale c) d in
     let i = load_front c h fs in
     omega (arith, l, s, i)
 
 -- a child that is taken lightens the load by itself
-pub plain_light : (elements : List Element) (f g : Frame) (fs new : List Frame) → f.depth ≡ g.depth → remaining (pass_of g.cursor) < remaining (pass_of f.cursor) → new ≡ g ∷ fs
+pub plain_light : (elements : List Element) (f g : Frame) (fs new : List Frame) → f.depth ≡ g.depth → children_left g.cursor < children_left f.cursor → new ≡ g ∷ fs
     → load (children_count elements) new < load (children_count elements) (f ∷ fs)
 plain_light elements f g fs new same less is =
     let t = taken (children_count elements) f g fs (sym same) less in
     let p = scale-positive (children_count elements) f.depth in
     subst (λ l. load (children_count elements) l < load (children_count elements) (f ∷ fs)) (sym is) (omega (arith, t, p))
 
-pub child_light : (elements : List Element) (depth : ℕ) (f g : Frame) (fs new : List Frame) → 1 ≤ depth → f.depth ≡ depth → g.depth ≡ depth → remaining (pass_of g.cursor) < remaining (pass_of f.cursor)
+pub child_light : (elements : List Element) (depth : ℕ) (f g : Frame) (fs new : List Frame) → 1 ≤ depth → f.depth ≡ depth → g.depth ≡ depth → children_left g.cursor < children_left f.cursor
     → IsOpened elements depth (g ∷ fs) new → load (children_count elements) new < load (children_count elements) (f ∷ fs)
 child_light elements depth f g fs new some fd gd less opened = elim opened [ inl is ↦ plain is | inr o ↦ more o ] where
   plain : new ≡ g ∷ fs → load (children_count elements) new < load (children_count elements) (f ∷ fs)
   plain is = let t = taken (children_count elements) f g fs (gd ∙ sym fd) less in let p = scale-positive (children_count elements) f.depth in rw is (omega (arith, t, p))
 
-  more : (h : Frame) × (new ≡ h ∷ g ∷ fs) × (h.depth ≡ depth - 1) × (remaining (pass_of h.cursor) ≤ children_count elements) → load (children_count elements) new < load (children_count elements) (f ∷ fs)
+  more : (h : Frame) × (new ≡ h ∷ g ∷ fs) × (h.depth ≡ depth - 1) × (children_left h.cursor ≤ children_count elements) → load (children_count elements) new < load (children_count elements) (f ∷ fs)
   more o =
       let t = taken (children_count elements) f g fs (gd ∙ sym fd) less in
       let l = opened_light (children_count elements) depth o.0 (g ∷ fs) some o.2 o.3 in
@@ -104,10 +103,10 @@ child_light elements depth f g fs new some fd gd less opened = elim opened [ inl
       rw o.1 (omega (arith, t, l, s))
 
 -- a round begins
-pub round_light : (c r n m : ℕ) (f g : Frame) (fs : List Frame) → remaining (pass_of g.cursor) ≤ c → g.depth ≤ 29 → m ≡ suc n
+pub round_light : (c r n m : ℕ) (f g : Frame) (fs : List Frame) → children_left g.cursor ≤ c → g.depth ≤ 29 → m ≡ suc n
     → load c (g ∷ fs) + (r + n) * scale c 31 < load c (f ∷ fs) + (r + m) * scale c 31
 round_light c r n m f g fs few deep is =
-    let l = light c g.depth (remaining (pass_of g.cursor)) few in
+    let l = light c g.depth (children_left g.cursor) few in
     let s = scale-le c (suc g.depth) 31 (omega (arith, deep)) in
     let i = load_front c g fs in
     let j = left_light c f fs in
@@ -127,7 +126,7 @@ group_light elements r s n new less opened = elim opened [ inl is ↦ plain is |
   plain : new ≡ [] → load (children_count elements) new + (s + n) * scale (children_count elements) 31 < load (children_count elements) [] + (r + n) * scale (children_count elements) 31
   plain is = let f = fewer in let p = scale-positive (children_count elements) 31 in rw is (omega (arith, f, p))
 
-  more : (h : Frame) × (new ≡ h ∷ []) × (h.depth ≡ 30 - 1) × (remaining (pass_of h.cursor) ≤ children_count elements)
+  more : (h : Frame) × (new ≡ h ∷ []) × (h.depth ≡ 30 - 1) × (children_left h.cursor ≤ children_count elements)
       → load (children_count elements) new + (s + n) * scale (children_count elements) 31 < load (children_count elements) [] + (r + n) * scale (children_count elements) 31
   more o =
       let f = fewer in

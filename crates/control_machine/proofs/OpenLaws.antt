@@ -30,16 +30,22 @@ kind_came a b here below n e k k' round s on limit res is came = subst (λ k. Ca
 pub other_kind : (here : Here) (below : Below) (n : ℕ) (e : Element) (k : Kind) (round : ℕ) (s : State)
     → ((replies : List ScriptReply) (request : Pieces) → k ≡ kinds.Script replies request → ⊥) → (k ≡ kinds.Simple → ⊥) → (k ≡ kinds.OnceOnly → ⊥) → ((loops : Pieces) → k ≡ kinds.Loop loops → ⊥)
     → ((all : Bool) (condition : Pieces) → k ≡ kinds.If all condition → ⊥) → ((condition : Pieces) → k ≡ kinds.While condition → ⊥)
-    → ((end : ℕ) (input output : List ℕ) (separator : Bool) (start : ℕ) → k ≡ kinds.ForEach end input output separator start → ⊥)
+    → ((end : ℕ) (input output : List ℕ) (separator : Bool) (start : ℕ) → k ≡ kinds.ForEach end input output separator start → ⊥) → (k ≡ kinds.Interleave → ⊥) → (k ≡ kinds.Random → ⊥) → (k ≡ kinds.RandomOrder → ⊥)
+    → ((value : Pieces) → k ≡ kinds.Switch value → ⊥) → (k ≡ kinds.Transaction → ⊥)
     → kind_meaning here below n e k round s ≡ over (normal s)
-other_kind here below n e (kinds.Script replies request) round s a b c d f g h = absurd (a replies request refl)
-other_kind here below n e kinds.Simple round s a b c d f g h = absurd (b refl)
-other_kind here below n e kinds.OnceOnly round s a b c d f g h = absurd (c refl)
-other_kind here below n e (kinds.Loop loops) round s a b c d f g h = absurd (d loops refl)
-other_kind here below n e (kinds.If all condition) round s a b c d f g h = absurd (f all condition refl)
-other_kind here below n e (kinds.While condition) round s a b c d f g h = absurd (g condition refl)
-other_kind here below n e (kinds.ForEach end input output separator start) round s a b c d f g h = absurd (h end input output separator start refl)
-other_kind here below n e k round s a b c d f g h = refl
+other_kind here below number e (kinds.Script replies request) round s a b c d f g h i j l m n = absurd (a replies request refl)
+other_kind here below number e kinds.Simple round s a b c d f g h i j l m n = absurd (b refl)
+other_kind here below number e kinds.OnceOnly round s a b c d f g h i j l m n = absurd (c refl)
+other_kind here below number e (kinds.Loop loops) round s a b c d f g h i j l m n = absurd (d loops refl)
+other_kind here below number e (kinds.If all condition) round s a b c d f g h i j l m n = absurd (f all condition refl)
+other_kind here below number e (kinds.While condition) round s a b c d f g h i j l m n = absurd (g condition refl)
+other_kind here below number e (kinds.ForEach end input output separator start) round s a b c d f g h i j l m n = absurd (h end input output separator start refl)
+other_kind here below number e kinds.Interleave round s a b c d f g h i j l m n = absurd (i refl)
+other_kind here below number e kinds.Random round s a b c d f g h i j l m n = absurd (j refl)
+other_kind here below number e kinds.RandomOrder round s a b c d f g h i j l m n = absurd (l refl)
+other_kind here below number e (kinds.Switch value) round s a b c d f g h i j l m n = absurd (m value refl)
+other_kind here below number e kinds.Transaction round s a b c d f g h i j l m n = absurd (n refl)
+other_kind here below number e k round s a b c d f g h i j l m n = refl
 
 -- a Script sampler means that it is run
 pub script_means : (here : Here) (below : Below) (n : ℕ) (e : Element) (k : Kind) (replies : List ScriptReply) (request : Pieces) (round : ℕ) (s : State) → k ≡ kinds.Script replies request

@@ -1,15 +1,18 @@
 -- The children that are left in a pass.
 use Rattle.std.proofs.Common.{◌≡◌, ℕ, zero, suc, ◌+◌, ◌≤◌, ◌<◌, true, false, List, [], ◌∷◌, length, drop, Some, None, refl, ap, ◌∙◌, arith, add-one}
-use Rattle.std.specs.Prelude.{slice_get, take}
+use Rattle.std.specs.Prelude.{slice_get, take, Result, Ok, Err, IfOk, IsOkAnd}
 use Rattle.std.proofs.Math.Seq.{drop-cons}
 use Rattle.std.proofs.lemmas.List.{take_all, drop_all, length-take, get_or-take}
 use Rattle.std.proofs.lemmas.Option.{slice_get_past, slice_get-get_or}
 use Rattle.std.proofs.Math.ListN.{get_or}
 use Rattle.element_tree.specs.declared.kinds.Element.{Element}
 use Rattle.cursor_steps.specs.declared.pass.Pass.{Pass}
-use Rattle.cursor_steps.specs.Children.{is_left, behind_child, run_count, runs_of}
+use Rattle.element_tree.specs.declared.package.Turn.{Turn}
+use Rattle.element_tree.specs.declared.package.Turn.TheVariants.{Child, Round, Over}
+use Rattle.cursor_steps.specs.Children.{is_left, behind_child, run_count, runs_of, Passes}
 use Rattle.jm_meaning.specs.Children.{children_of}
 use Rattle.control_machine.specs.Moves.{pass_left}
+use Rattle.control_machine.specs.Load.{remaining, TakesChild}
 
 left_means : (p : Pass) → is_left p ≡ true → p.next < p.children
 left_means p h = grind (arith, h)
@@ -60,3 +63,14 @@ taken_get (x ∷ xs) (suc n) (suc i) h = taken_get xs n i (omega (arith, h))
 
 pub past_taken : (xs : List ℕ) (n i : ℕ) → n ≤ i → slice_get (take n xs) i ≡ None
 past_taken xs n i h = slice_get_past (take n xs) i (let l = length-take n xs in omega (arith, l, h))
+
+-- a child that is run is taken from its pass
+pub passes_fewer : (old new : Pass) (turn : Turn) → Passes old new turn → TakesChild (remaining old) (remaining new) turn
+passes_fewer old new (Child place) p = let n = ap (λ q. remaining q) p.2 in omega (arith, n, p.1)
+passes_fewer old new Round p = tt
+passes_fewer old new Over p = tt
+
+-- what holds of an answer that always comes
+pub of_answer : {A E : Type 0} (res : Result A E) (P Q : A → Type 0) → ((x : A) → P x → Q x) → IsOkAnd res P → IfOk res Q
+of_answer (Ok x) P Q h p = h x p
+of_answer (Err e) P Q h p = tt

@@ -39,7 +39,7 @@ module _ (plan : Tree) (m : Machine) (user : UserState) (own : Own) (open' : Gro
   rounds_are_spent begins none = at_group ∙ rounds_stop (here_in plan m) m.group user own (none_means m.group.pass past_all) within begins (same ∙ none) m.rounds (sym same)
 
   pub round_has_begun : round_begins m.group.loops m.group.begun ≡ true → (m.rounds ≡ 0 → ⊥)
-      → left_of plan m (state_of user own) ≡ left_of plan (record { group = next_group m.group; stack = m.stack; rounds = m.rounds - 1; at_failure = m.at_failure; signal = m.signal }) (state_of user (at_rounds own (m.rounds - 1)))
+      → left_of plan m (state_of user own) ≡ left_of plan (record { group = next_group m.group; stack = m.stack; rounds = m.rounds - 1; places = m.places; at_failure = m.at_failure; signal = m.signal }) (state_of user (at_rounds own (m.rounds - 1)))
   round_has_begun begins some =
       at_group
       ∙ round_begun (here_in plan m) m.group user own (m.rounds - 1) (none_means m.group.pass past_all) within begins

@@ -1,6 +1,6 @@
 -- A machine stands in its plan behind each turn.
-use Rattle.std.proofs.Common.{◌≡◌, inr, ℕ, zero, suc, ◌+◌, ◌-◌, ◌≤◌, ◌<◌, Bool, true, false, List, [], ◌∷◌, length, take, Some, refl, sym, subst, arith}
-use Rattle.std.specs.Prelude.{if◌then◌else◌, slice_get, Result, Ok, Err, MatchResult, IfOk}
+use Rattle.std.proofs.Common.{◌≡◌, inr, ℕ, zero, suc, ◌+◌, ◌-◌, ◌≤◌, ◌<◌, Bool, true, false, List, [], ◌∷◌, length, take, Option, Some, None, refl, sym, subst, arith}
+use Rattle.std.specs.Prelude.{if◌then◌else◌, slice_get, Result, Ok, Err, MatchResult, IfOk, IfSome}
 use Rattle.std.specs.List.{AllByRecursion, filter}
 use Rattle.std.proofs.lemmas.Option.{slice_get_within}
 use Rattle.element_tree.specs.declared.kinds.Element.{Element}
@@ -12,17 +12,17 @@ use Rattle.logic_controllers.specs.Rounds.{begun_after}
 use Rattle.jm_meaning.specs.Children.{children_of}
 use Rattle.jm_meaning.specs.Beginning.{max_rounds}
 use Rattle.control_machine.specs.declared.cursor.Cursor.{Cursor}
-use Rattle.control_machine.specs.declared.cursor.Cursor.TheVariants.{Simple, Once, Loop, If, While, Each}
+use Rattle.control_machine.specs.declared.cursor.Cursor.TheVariants.{Simple, Once, Loop, If, While, Each, Interleave, Random, Order, Switch, Transaction}
 use Rattle.control_machine.specs.declared.stack.Frame.{Frame}
 use Rattle.control_machine.specs.declared.machine.Group.{Group}
-use Rattle.control_machine.specs.Cursors.{FitsKind, begun_of, pass_of}
+use Rattle.control_machine.specs.Cursors.{FitsKind, begun_of}
 use Rattle.control_machine.specs.declared.machine.Machine.{Machine}
 use Rattle.control_machine.specs.declared.machine.Went.{Went}
 use Rattle.control_machine.specs.declared.machine.Went.TheVariants.{On}
 use Rattle.var_functions.specs.declared.error.VarError.{VarError}
 use Rattle.var_functions.specs.declared.error.VarError.TheVariants.{NoMemory}
 use Rattle.cursor_steps.specs.Children.{is_run_at, runs_of}
-use Rattle.control_machine.specs.Load.{children_count, remaining}
+use Rattle.control_machine.specs.Load.{children_count, waiting, children_left}
 use Rattle.control_machine.specs.Left.{IsOpen, AreOpen, GroupIsOpen, IsOut, StandsIn}
 use Rattle.control_machine.specs.Turns.{IsOpened, IsRoundless, IsRoundIn}
 use Rattle.control_machine.proofs.LoadLaws.{few_runs}
@@ -66,17 +66,26 @@ all_at P (y ∷ xs) zero x all h = subst P (same h) all.0 where
   same h = cc
 all_at P (y ∷ xs) (suc i) x all h = all_at P xs i x all.1 h
 
--- a cursor has no more children in its pass than run
-pub few_in_pass : (n count : ℕ) (k : Kind) (c : Cursor) → FitsKind n count k c → (pass_of c).children ≤ count
-few_in_pass n count k (Simple c) h = h.2
-few_in_pass n count k (Once c) h = h.2
+few_chosen : (count : ℕ) (chosen : Option ℕ) → IfSome chosen (λ place. place < count) → waiting chosen ≤ count
+few_chosen count None h = omega arith
+few_chosen count (Some place) h = omega (arith, h)
+
+-- a cursor has no more children left than run
+pub few_in_pass : (n count : ℕ) (k : Kind) (c : Cursor) → FitsKind n count k c → children_left c ≤ count
+few_in_pass n count k (Simple c) h = let e = h.2 in omega (arith, e)
+few_in_pass n count k (Once c) h = let e = h.2 in omega (arith, e)
 few_in_pass n count k (Loop c) h = let e = h.2 in omega (arith, e)
-few_in_pass n count k (If c) h = h.2
+few_in_pass n count k (If c) h = let e = h.2 in omega (arith, e)
 few_in_pass n count k (While c) h = let e = h.2 in omega (arith, e)
 few_in_pass n count k (Each c) h = let e = h.2 in omega (arith, e)
+few_in_pass n count k (Interleave c) h = few_chosen count c.chosen h.2
+few_in_pass n count k (Random c) h = few_chosen count c.chosen h.2
+few_in_pass n count k (Order c) h = let e = h.2 in omega (arith, e)
+few_in_pass n count k (Switch c) h = few_chosen count c.chosen h.2
+few_in_pass n count k (Transaction c) h = let e = h.2 in omega (arith, e)
 
 -- an open element has no more children left than all elements have children
-pub few_left : (elements : List Element) (limit left : ℕ) (f : Frame) → IsOpen elements limit left f → remaining (pass_of f.cursor) ≤ children_count elements
+pub few_left : (elements : List Element) (limit left : ℕ) (f : Frame) → IsOpen elements limit left f → children_left f.cursor ≤ children_count elements
 few_left elements limit left f o =
     let p = few_in_pass f.element (length (children_of elements o.element)) o.element.kind f.cursor o.fits in
     let r = few_runs elements f.element o.element o.there in

@@ -1,5 +1,5 @@
 -- A machine before its first round.
-use Rattle.std.proofs.Common.{◌≡◌, ℕ, false, [], Some, refl, sym, ap, ◌∙◌, subst, arith}
+use Rattle.std.proofs.Common.{◌≡◌, ℕ, false, List, [], Some, refl, sym, ap, ◌∙◌, subst, arith}
 use Rattle.std.specs.Prelude.{slice_get, unwrap_or}
 use Rattle.std.specs.Option.{option_map}
 use Rattle.jm_base.specs.Run.{over}
@@ -23,11 +23,12 @@ use Rattle.control_machine.proofs.PassLaws.{none-left, count-is}
 use Rattle.control_machine.proofs.CameSteps.{same_element}
 
 -- the machine of this group
-abbrev pub first_of : ℕ → Loops → ℕ → Opened → Signal → Machine
-first_of number loops children stack failure = record {
+abbrev pub first_of : ℕ → Loops → ℕ → Opened → List ℕ → Signal → Machine
+first_of number loops children stack places failure = record {
   group = record { element = number; loops = loops; begun = 0; pass = record { children = children; next = children } };
   stack = stack;
   rounds = 16777216;
+  places = places;
   at_failure = failure;
   signal = Normal;
 }
@@ -38,10 +39,10 @@ action_out on_errors.NextLoop = tt
 action_out on_errors.StopThread = tt
 action_out on_errors.StopTest = tt
 
-pub new_stands : (plan : Tree) (number : ℕ) (e : Element) (loops : Loops) (on_error : OnError) (children : ℕ) (stack : Opened) (failure : Signal)
+pub new_stands : (plan : Tree) (number : ℕ) (e : Element) (loops : Loops) (on_error : OnError) (children : ℕ) (stack : Opened) (places : List ℕ) (failure : Signal)
     → IsGroup plan.elements number → Some e ≡ slice_get plan.elements number → children ≡ run_count plan.elements e → stack.frames ≡ [] → failure ≡ signal_of on_error
-    → StandsIn plan (first_of number loops children stack failure)
-new_stands plan number e loops on_error children stack failure group there count empty action =
+    → StandsIn plan (first_of number loops children stack places failure)
+new_stands plan number e loops on_error children stack places failure group there count empty action =
     let d = same_element plan.elements number group.element e group.there (sym there) in
     record {
       group = record {
@@ -66,11 +67,11 @@ first_rounds : (here : Here) (number children : ℕ) (loops : Loops) (s : State)
 unfolding left_in rest_of
 first_rounds here number children loops s = rw (none-left (record { children = children; next = children }) (children_at here.plan.elements number) (not_less children)) refl
 
-pub new_whole : (plan : Tree) (thread number : ℕ) (e : Element) (loops : Loops) (on_error : OnError) (ramp_ms threads children : ℕ) (stack : Opened) (failure : Signal) (user : UserState) (own : Own)
+pub new_whole : (plan : Tree) (thread number : ℕ) (e : Element) (loops : Loops) (on_error : OnError) (ramp_ms threads children : ℕ) (stack : Opened) (places : List ℕ) (failure : Signal) (user : UserState) (own : Own)
     → number ≡ group_of plan thread → Some e ≡ slice_get plan.elements number → e.kind ≡ ThreadGroup loops on_error ramp_ms threads → children ≡ run_count plan.elements e → stack.frames ≡ [] → failure ≡ signal_of on_error
-    → left_of plan (first_of number loops children stack failure) (state_of user own)
+    → left_of plan (first_of number loops children stack places failure) (state_of user own)
     ≡ group_part (here_at plan (group_of plan thread)) (slice_get plan.elements (group_of plan thread)) (state_of user own)
-new_whole plan thread number e loops on_error ramp_ms threads children stack failure user own is there kind count empty action =
+new_whole plan thread number e loops on_error ramp_ms threads children stack places failure user own is there kind count empty action =
     ap (λ fs. left_in here m.group fs (over (normal s))) empty
     ∙ first_rounds here number children loops s
     ∙ ap (λ o. group_rounds 16777216 (meaning here 30) loops (unwrap_or (option_map (children_of plan.elements) o) []) 0 s) (sym there)
@@ -79,7 +80,7 @@ new_whole plan thread number e loops on_error ramp_ms threads children stack fai
     ∙ ap (λ f. group_part (record { plan = plan; at_failure = f }) (slice_get plan.elements number) s) (action ∙ ap failure_in (sym kind) ∙ ap failure_of there)
     ∙ ap (λ n. group_part (here_at plan n) (slice_get plan.elements n) s) is where
       m : Machine
-      m = first_of number loops children stack failure
+      m = first_of number loops children stack places failure
 
       here : Here
       here = record { plan = plan; at_failure = failure }

@@ -1,11 +1,10 @@
 -- What is left of an open element, by its cursor.
-use Rattle.std.specs.Prelude.{◌≡◌, ℕ, ◌-◌, ◌≤◌, Bool, true, false, List}
+use Rattle.std.specs.Prelude.{◌≡◌, ℕ, ◌-◌, ◌<◌, ◌≤◌, Bool, true, false, List, [], ◌∷◌, length, map, drop, Option, Some, None, slice_get, IfSome}
 use Rattle.jm_base.specs.Run.{over}
 use Rattle.template_text.specs.Pieces.{Pieces}
 use Rattle.element_tree.specs.declared.kinds.Element.{Element}
 use Rattle.element_tree.specs.declared.kinds.Kind.{Kind}
 use Rattle.element_tree.specs.declared.kinds.Kind.TheVariants as kinds
-use Rattle.cursor_steps.specs.declared.pass.Pass.{Pass}
 use Rattle.logic_controllers.specs.declared.rounds.Rounds.{Rounds}
 use Rattle.logic_controllers.specs.declared.simple_cursor.SimpleCursor.{SimpleCursor}
 use Rattle.logic_controllers.specs.declared.once_cursor.OnceCursor.{OnceCursor}
@@ -13,14 +12,21 @@ use Rattle.logic_controllers.specs.declared.loop_cursor.LoopCursor.{LoopCursor}
 use Rattle.logic_controllers.specs.declared.if_cursor.IfCursor.{IfCursor}
 use Rattle.logic_controllers.specs.declared.while_cursor.WhileCursor.{WhileCursor}
 use Rattle.logic_controllers.specs.declared.each_cursor.EachCursor.{EachCursor}
+use Rattle.choice_controllers.specs.declared.interleave_cursor.InterleaveCursor.{InterleaveCursor}
+use Rattle.choice_controllers.specs.declared.random_cursor.RandomCursor.{RandomCursor}
+use Rattle.choice_controllers.specs.declared.order_cursor.OrderCursor.{OrderCursor}
+use Rattle.choice_controllers.specs.declared.switch_cursor.SwitchCursor.{SwitchCursor}
+use Rattle.choice_controllers.specs.RandomOrderController.{order_of}
 use Rattle.logic_controllers.specs.Rounds.{opened_vars}
 use Rattle.logic_controllers.specs.ForEachController.{Row, kind_of, output_vars}
 use Rattle.jm_meaning.specs.State.{Part, normal, and_then, with_vars, text}
 use Rattle.jm_meaning.specs.Rounds.{Turns, rounds, loop_turns, while_turns, each_turns}
-use Rattle.jm_meaning.specs.Children.{Below, in_order, once_only, if_each}
+use Rattle.jm_meaning.specs.Children.{Below, in_order, one_of, once_only, if_each}
+use Rattle.jm_meaning.specs.Choices.{chosen}
+use Rattle.jm_meaning.specs.declared.transaction.Tally.{Tally}
 use Rattle.jm_meaning.specs.Beginning.{max_rounds}
 use Rattle.control_machine.specs.declared.cursor.Cursor.{Cursor}
-use Rattle.control_machine.specs.declared.cursor.Cursor.TheVariants.{Simple, Once, Loop, If, While, Each}
+use Rattle.control_machine.specs.declared.cursor.Cursor.TheVariants.{Simple, Once, Loop, If, While, Each, Interleave, Random, Order, Switch, Transaction}
 use Rattle.control_machine.specs.Moves.{pass_left}
 
 abbrev pub simple_left : Below → ℕ → List ℕ → SimpleCursor → Part
@@ -56,6 +62,25 @@ each_left name row output below children c s =
     and_then (with_vars (opened_vars name c.rounds s.user.vars) s) (λ s.
     and_then (with_vars (output_vars output c.value s.user.vars) s) (round_left (each_turns name row output) below children c.rounds))
 
+-- the child that was chosen, where it is still to be run
+abbrev pub interleave_left : Below → ℕ → List ℕ → InterleaveCursor → Part
+interleave_left below round children c = chosen below round children c.chosen
+
+abbrev pub random_left : Below → ℕ → List ℕ → RandomCursor → Part
+random_left below round children c = chosen below round children c.chosen
+
+abbrev pub switch_left : Below → ℕ → List ℕ → SwitchCursor → Part
+switch_left below round children c = chosen below round children c.chosen
+
+-- each of them, where it is there, one after another
+abbrev pub each_of : Below → ℕ → List (Option ℕ) → Part
+each_of below round [] s = over (normal s)
+each_of below round (o ∷ os) s = and_then (one_of below round o s) (each_of below round os)
+
+-- the children at the places that are left of the order
+abbrev pub order_left : Below → ℕ → List ℕ → OrderCursor → Part
+order_left below round children c = each_of below round (map (slice_get children) (drop c.next (order_of c)))
+
 -- ---- a cursor of any kind, at an element of its kind
 
 abbrev pub if_left_in : Kind → Below → ℕ → List ℕ → IfCursor → Part
@@ -79,6 +104,16 @@ cursor_left below round children e (Loop c) = loop_left e.name below children c
 cursor_left below round children e (If c) = if_left_in e.kind below round children c
 cursor_left below round children e (While c) = while_left_in e.kind e.name below children c
 cursor_left below round children e (Each c) = each_left_in e.kind e.name below children c
+cursor_left below round children e (Interleave c) = interleave_left below round children c
+cursor_left below round children e (Random c) = random_left below round children c
+cursor_left below round children e (Order c) = order_left below round children c
+cursor_left below round children e (Switch c) = switch_left below round children c
+cursor_left below round children e (Transaction c) = simple_left below round children c.children
+
+-- what a transaction has counted of the samples in it; the other controllers count none
+abbrev pub tally_in : Cursor → Option Tally
+tally_in (Transaction c) = Some c.tally
+tally_in c = None
 
 -- how many rounds have begun
 abbrev pub begun_of : Cursor → ℕ
@@ -88,6 +123,11 @@ begun_of (Loop c) = c.rounds.begun
 begun_of (If c) = 0
 begun_of (While c) = c.rounds.begun
 begun_of (Each c) = c.rounds.begun
+begun_of (Interleave c) = 0
+begun_of (Random c) = 0
+begun_of (Order c) = 0
+begun_of (Switch c) = 0
+begun_of (Transaction c) = 0
 
 -- the round that the children are in, from 0: that of the element itself where it has rounds
 abbrev pub round_in : ℕ → Cursor → ℕ
@@ -97,15 +137,11 @@ round_in round (Loop c) = c.rounds.begun - 1
 round_in round (If c) = round
 round_in round (While c) = c.rounds.begun - 1
 round_in round (Each c) = c.rounds.begun - 1
-
--- the pass over the children
-abbrev pub pass_of : Cursor → Pass
-pass_of (Simple c) = c.pass
-pass_of (Once c) = c.pass
-pass_of (Loop c) = c.rounds.pass
-pass_of (If c) = c.pass
-pass_of (While c) = c.rounds.pass
-pass_of (Each c) = c.rounds.pass
+round_in round (Interleave c) = round
+round_in round (Random c) = round
+round_in round (Order c) = round
+round_in round (Switch c) = round
+round_in round (Transaction c) = round
 
 -- A cursor stands at the element of this number, which is of its kind and has so many children that run.
 abbrev pub FitsKind : ℕ → ℕ → Kind → Cursor → Type 0
@@ -115,3 +151,8 @@ FitsKind n count k (Loop c) = (c.element ≡ n) × ((t : Pieces) × (k ≡ kinds
 FitsKind n count k (If c) = (c.element ≡ n) × ((all : Bool) × (t : Pieces) × (k ≡ kinds.If all t)) × (c.pass.children ≤ count)
 FitsKind n count k (While c) = (c.element ≡ n) × ((t : Pieces) × (k ≡ kinds.While t)) × (c.rounds.pass.children ≡ count)
 FitsKind n count k (Each c) = (c.element ≡ n) × ((row : Row) × (output : List ℕ) × (k ≡ kind_of row output)) × (c.rounds.pass.children ≡ count)
+FitsKind n count k (Interleave c) = (c.element ≡ n) × (k ≡ kinds.Interleave) × IfSome c.chosen (λ place. place < count)
+FitsKind n count k (Random c) = (c.element ≡ n) × (k ≡ kinds.Random) × IfSome c.chosen (λ place. place < count)
+FitsKind n count k (Order c) = (c.element ≡ n) × (k ≡ kinds.RandomOrder) × (length (order_of c) ≤ count)
+FitsKind n count k (Switch c) = (c.element ≡ n) × ((t : Pieces) × (k ≡ kinds.Switch t)) × IfSome c.chosen (λ place. place < count)
+FitsKind n count k (Transaction c) = (c.children.element ≡ n) × (k ≡ kinds.Transaction) × (c.children.pass.children ≤ count)

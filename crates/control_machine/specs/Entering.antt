@@ -10,8 +10,8 @@ use Rattle.jm_meaning.specs.Children.{Below}
 use Rattle.jm_meaning.specs.Meaning.{Here, children_in}
 use Rattle.control_machine.specs.declared.enter.Entered.{Entered}
 use Rattle.control_machine.specs.declared.enter.Entered.TheVariants.{Nothing, Sampler, Open}
-use Rattle.control_machine.specs.Cursors.{cursor_left, begun_of, FitsKind}
-use Rattle.control_machine.specs.Left.{kind_part, IsScript}
+use Rattle.control_machine.specs.Cursors.{cursor_left, tally_in, begun_of, FitsKind}
+use Rattle.control_machine.specs.Left.{kind_part, label_at, closing, IsScript}
 
 -- a thread of this plan whose failed samples lead to this signal
 abbrev pub here_with : Tree → Signal → Here
@@ -20,7 +20,8 @@ here_with plan failure = record { plan = plan; at_failure = failure }
 abbrev pub entered : Here → Below → ℕ → ℕ → Element → State → Entered → Run Ending
 entered here below n round e s Nothing = over (normal s)
 entered here below n round e s Sampler = kind_part here n e e.kind s
-entered here below n round e s (Open c) = cursor_left below round (children_in here e) e c s
+entered here below n round e s (Open c) =
+    closing (label_at here.plan.elements n) (tally_in c) (cursor_left below round (children_in here e) e c s)
 
 -- what stands behind it
 abbrev pub EnteredFits : ℕ → ℕ → Kind → Entered → Type 0

@@ -7,15 +7,18 @@ use Rattle.jm_base.specs.declared.types.End.TheVariants.{Completed, StopThread, 
 use Rattle.jm_base.specs.Run.{Run, over}
 use Rattle.element_tree.specs.declared.kinds.Element.{Element}
 use Rattle.element_tree.specs.declared.kinds.Kind.{Kind}
-use Rattle.element_tree.specs.declared.kinds.Kind.TheVariants.{Script}
+use Rattle.element_tree.specs.declared.kinds.Kind.TheVariants.{Script, Transaction}
 use Rattle.element_tree.specs.Tree.{Tree, Nests}
 use Rattle.element_tree.specs.Names.{label_of}
+use Rattle.var_functions.specs.declared.state.UserState.{UserState}
 use Rattle.jm_meaning.specs.declared.signal.Signal.{Signal}
 use Rattle.jm_meaning.specs.declared.signal.Signal.TheVariants.{Normal, NextLoop, Stop}
-use Rattle.jm_meaning.specs.State.{State, Ending, Part, normal, stopped, and_then, with_unit}
+use Rattle.jm_meaning.specs.State.{State, Own, Ending, Part, state_of, normal, stopped, and_then, with_unit}
 use Rattle.jm_meaning.specs.Rounds.{round_of_group}
 use Rattle.jm_meaning.specs.Children.{children_of, in_order}
 use Rattle.jm_meaning.specs.Sampling.{sampling}
+use Rattle.jm_meaning.specs.Transactions.{with_own_sample, transaction_from}
+use Rattle.jm_meaning.specs.declared.transaction.Tally.{Tally}
 use Rattle.jm_meaning.specs.Beginning.{max_rounds}
 use Rattle.jm_meaning.specs.Meaning.{Here, children_in, meaning, group_rounds}
 use Rattle.control_machine.specs.declared.stack.Frame.{Frame}
@@ -24,15 +27,27 @@ use Rattle.control_machine.specs.declared.machine.Machine.{Machine}
 use Rattle.control_machine.specs.declared.moves.Move.{Move}
 use Rattle.control_machine.specs.declared.moves.Move.TheVariants.{Iteration, RunSampler, EnterSection, LeaveSection, TransactionSample, Finished}
 use Rattle.control_machine.specs.Moves.{pass_left}
-use Rattle.control_machine.specs.Cursors.{cursor_left, begun_of, FitsKind}
+use Rattle.control_machine.specs.Cursors.{cursor_left, tally_in, begun_of, FitsKind}
 
 -- what an open element gives behind the child that is open
 abbrev pub frame_left : Here → Frame → Option Element → Part
 frame_left here f None s = over (normal s)
 frame_left here f (Some e) s = cursor_left (meaning here f.depth) f.round (children_in here e) e f.cursor s
 
+-- the label of the element of this number
+abbrev pub label_at : List Element → ℕ → ℕ
+label_at elements number = unwrap_or (option_map (λ e. label_of elements e.name) (slice_get elements number)) 0
+
+-- what an open element makes of the run in it: a transaction counts the samples, and gives its own behind them
+abbrev pub closing : ℕ → Option Tally → Run Ending → Run Ending
+closing label None inner = inner
+closing label (Some tally) inner = transaction_from label tally inner
+
+abbrev pub closed : Here → Frame → Run Ending → Run Ending
+closed here f inner = closing (label_at here.plan.elements f.element) (tally_in f.cursor) inner
+
 abbrev pub around : Here → Frame → Run Ending → Run Ending
-around here f inner = and_then inner (frame_left here f (slice_get here.plan.elements f.element))
+around here f inner = closed here f (and_then inner (frame_left here f (slice_get here.plan.elements f.element)))
 
 -- the rest of the open elements, the innermost first
 unfoldable pub rest_of : Here → List Frame → Run Ending → Run Ending
@@ -65,6 +80,13 @@ left_behind plan m inner = left_in (here_in plan m) m.group m.stack.frames inner
 abbrev pub left_of : Tree → Machine → State → Run Ending
 left_of plan m s = left_behind plan m (over (record { state = s; signal = m.signal }))
 
+-- what the thread carries beside its variables, with so many units left: the machine keeps the rounds and the places
+abbrev pub own_at : Machine → ℕ → Own
+own_at m units = record { units = units; rounds = m.rounds; places = m.places }
+
+abbrev pub state_at : Machine → ℕ → UserState → State
+state_at m units user = state_of user (own_at m units)
+
 -- ---- moves
 
 -- a sampler by its number
@@ -81,13 +103,14 @@ abbrev pub ended : End → State → Ending
 ended Completed s = normal s
 ended end s = stopped end s
 
--- what is left behind a move; sections and transactions come to no move yet
+-- what is left behind a move; sections come to no move yet
 abbrev pub moved : Tree → Machine → State → Move → Run Ending
 moved plan m s (Iteration index) = left_of plan m s
 moved plan m s (RunSampler number) = left_behind plan m (sampler_part (here_in plan m) number (slice_get plan.elements number) s)
 moved plan m s (EnterSection lock) = left_of plan m s
 moved plan m s (LeaveSection lock) = left_of plan m s
-moved plan m s (TransactionSample element tally) = left_of plan m s
+moved plan m s (TransactionSample element tally) =
+    left_behind plan m (with_own_sample (label_at plan.elements element) tally (record { state = s; signal = m.signal }))
 moved plan m s (Finished end) = over (ended end s)
 
 -- the ends that a machine finishes with
@@ -111,13 +134,19 @@ pub record IsSampler (elements : List Element) (number : ℕ) : Type 0 where
   pub there : slice_get elements number ≡ Some element
   pub script : IsScript element.kind
 
+-- the number is that of a transaction
+pub record IsTransaction (elements : List Element) (number : ℕ) : Type 0 where
+  pub element : Element
+  pub there : slice_get elements number ≡ Some element
+  pub kind : element.kind ≡ Transaction
+
 -- the moves that a machine makes
 abbrev pub IsMove : List Element → Move → Type 0
 IsMove elements (Iteration index) = Unit {0}
 IsMove elements (RunSampler number) = IsSampler elements number
 IsMove elements (EnterSection lock) = ⊥
 IsMove elements (LeaveSection lock) = ⊥
-IsMove elements (TransactionSample element tally) = ⊥
+IsMove elements (TransactionSample element tally) = IsTransaction elements element
 IsMove elements (Finished end) = IsFinish end
 
 -- ---- what holds of a machine

@@ -5,3 +5,4 @@ pub mod Left
 pub mod Load
 pub mod Entering
 pub mod Turns
+pub mod Hearing

@@ -1,10 +1,14 @@
 -- How many turns the open elements can still take, at most: the measure of the machine's search for its next move.
-use Rattle.std.specs.Prelude.{ℕ, zero, suc, ◌+◌, ◌-◌, ◌*◌, List, [], ◌∷◌, length}
+use Rattle.std.specs.Prelude.{ℕ, zero, suc, ◌+◌, ◌-◌, ◌*◌, ◌<◌, List, [], ◌∷◌, length, Option, Some, None}
 use Rattle.element_tree.specs.declared.kinds.Element.{Element}
+use Rattle.element_tree.specs.declared.package.Turn.{Turn}
+use Rattle.element_tree.specs.declared.package.Turn.TheVariants as turns
 use Rattle.cursor_steps.specs.declared.pass.Pass.{Pass}
+use Rattle.choice_controllers.specs.RandomOrderController.{order_of}
+use Rattle.control_machine.specs.declared.cursor.Cursor.{Cursor}
+use Rattle.control_machine.specs.declared.cursor.Cursor.TheVariants.{Simple, Once, Loop, If, While, Each, Interleave, Random, Order, Switch, Transaction}
 use Rattle.control_machine.specs.declared.stack.Frame.{Frame}
 use Rattle.control_machine.specs.declared.machine.Machine.{Machine}
-use Rattle.control_machine.specs.Cursors.{pass_of}
 
 -- how many children the elements have together
 unfoldable pub children_count : List Element → ℕ
@@ -20,10 +24,34 @@ scale children (suc depth) = (children + 2) * scale children depth
 abbrev pub remaining : Pass → ℕ
 remaining p = p.children - p.next
 
+-- the child that was chosen
+abbrev pub waiting : Option ℕ → ℕ
+waiting None = 0
+waiting (Some place) = 1
+
+abbrev pub children_left : Cursor → ℕ
+children_left (Simple c) = remaining c.pass
+children_left (Once c) = remaining c.pass
+children_left (Loop c) = remaining c.rounds.pass
+children_left (If c) = remaining c.pass
+children_left (While c) = remaining c.rounds.pass
+children_left (Each c) = remaining c.rounds.pass
+children_left (Interleave c) = waiting c.chosen
+children_left (Random c) = waiting c.chosen
+children_left (Order c) = length (order_of c) - c.next
+children_left (Switch c) = waiting c.chosen
+children_left (Transaction c) = remaining c.children.pass
+
+-- an element that answers a child has fewer of them left
+abbrev pub TakesChild : ℕ → ℕ → Turn → Type 0
+TakesChild old new (turns.Child place) = new < old
+TakesChild old new turns.Round = Unit {0}
+TakesChild old new turns.Over = Unit {0}
+
 -- the load of the open elements
 unfoldable pub load : ℕ → List Frame → ℕ
 load children [] = 0
-load children (f ∷ fs) = suc (remaining (pass_of f.cursor)) * scale children f.depth + load children fs
+load children (f ∷ fs) = suc (children_left f.cursor) * scale children f.depth + load children fs
 
 -- with that of the group's round and of the rounds left
 abbrev pub load_of : List Element → Machine → ℕ

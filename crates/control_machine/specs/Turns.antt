@@ -1,5 +1,5 @@
 -- What one turn of a machine comes to.
-use Rattle.std.specs.Prelude.{◌≡◌, ◌⊎◌, ℕ, ◌+◌, ◌-◌, ◌*◌, ◌<◌, ◌≤◌, List, ◌∷◌}
+use Rattle.std.specs.Prelude.{◌≡◌, ◌⊎◌, ℕ, ◌+◌, ◌-◌, ◌*◌, ◌<◌, ◌≤◌, List, ◌∷◌, Option, Some, None, nat_lt, if◌then◌else◌}
 use Rattle.jm_base.specs.declared.types.End.TheVariants.{StopThread, StopTest}
 use Rattle.jm_base.specs.Run.{Run}
 use Rattle.element_tree.specs.declared.kinds.Element.{Element}
@@ -13,12 +13,13 @@ use Rattle.control_machine.specs.declared.machine.Machine.{Machine}
 use Rattle.control_machine.specs.declared.machine.Went.{Went}
 use Rattle.control_machine.specs.declared.machine.Went.TheVariants.{On, To}
 use Rattle.control_machine.specs.declared.moves.Move.{Move}
-use Rattle.control_machine.specs.declared.moves.Move.TheVariants.{Iteration, RunSampler}
+use Rattle.control_machine.specs.declared.moves.Move.TheVariants.{Iteration, RunSampler, TransactionSample}
 use Rattle.control_machine.specs.declared.moves.Leave.{Leave}
 use Rattle.control_machine.specs.declared.moves.Leave.TheVariants as leaves
-use Rattle.control_machine.specs.Cursors.{pass_of}
+use Rattle.jm_meaning.specs.declared.transaction.Tally.{Tally}
+use Rattle.control_machine.specs.Cursors.{tally_in}
 use Rattle.control_machine.specs.Left.{left_of, left_in, here_in, moved, IsMove}
-use Rattle.control_machine.specs.Load.{children_count, scale, load, remaining}
+use Rattle.control_machine.specs.Load.{children_count, scale, load, remaining, children_left}
 
 -- what is left behind a turn
 abbrev pub went : Tree → Machine → State → Went → Run Ending
@@ -28,6 +29,14 @@ went plan m s (To move) = moved plan m s move
 abbrev pub IsWent : List Element → Went → Type 0
 IsWent elements On = Unit {0}
 IsWent elements (To move) = IsMove elements move
+
+-- what an element that is left comes to: a transaction that has counted samples gives its own
+abbrev pub closing_move : ℕ → Option Tally → Went
+closing_move element None = On
+closing_move element (Some tally) = if nat_lt 0 tally.samples then To (TransactionSample element tally) else On
+
+abbrev pub closing_of : Frame → Went
+closing_of f = closing_move f.element (tally_in f.cursor)
 
 -- a turn that goes on has lightened the load
 abbrev pub Lightens : Went → ℕ → ℕ → Type 0
@@ -51,7 +60,7 @@ load_in elements m frames = load (children_count elements) frames + (remaining m
 -- the open elements where a child was opened at which elements nest so deep: one more of them, or none
 abbrev pub IsOpened : List Element → ℕ → List Frame → List Frame → Type 0
 IsOpened elements depth old new =
-    (new ≡ old) ⊎ ((f : Frame) × (new ≡ f ∷ old) × (f.depth ≡ depth - 1) × (remaining (pass_of f.cursor) ≤ children_count elements))
+    (new ≡ old) ⊎ ((f : Frame) × (new ≡ f ∷ old) × (f.depth ≡ depth - 1) × (children_left f.cursor ≤ children_count elements))
 
 -- the begin of a round of the group takes one of the rounds that are left, and no move gives one back
 abbrev pub TakesRound : Move → ℕ → ℕ → Type 0

@@ -4,15 +4,18 @@ ghost use Rattle.std.specs.Prelude.{◌≡◌, ◌+◌, ◌≤◌, slice_get, le
 ghost use Rattle.element_tree.specs.declared.kinds.Element.{Element};
 ghost use Rattle.var_functions.specs.Came.{CameTo};
 ghost use Rattle.logic_controllers.specs.Rounds.{begun_after};
-ghost use Rattle.cursor_steps.specs.Children.{Passes};
 ghost use Rattle.jm_meaning.specs.State.{Own, state_of};
 ghost use Rattle.jm_meaning.specs.Children.{Below, children_of};
 ghost use Rattle.jm_meaning.specs.Beginning.{max_rounds};
 ghost use Rattle.control_machine.specs.Moves.{turned, past};
-ghost use Rattle.control_machine.specs.Cursors.{cursor_left, begun_of, round_in, pass_of, FitsKind};
+ghost use Rattle.control_machine.specs.Cursors.{cursor_left, tally_in, begun_of, round_in, FitsKind};
+ghost use Rattle.control_machine.specs.Load.{children_left, TakesChild};
+ghost use Rattle.control_machine.specs.Hearing.{hearing};
 
+use crate::transaction::OpenTransaction;
+use choice_controllers::{InterleaveCursor, OrderCursor, RandomCursor, SwitchCursor};
 use element_tree::{Plan, Turn};
-use jm_base::Outside;
+use jm_base::{Outside, Sample};
 use logic_controllers::{EachCursor, IfCursor, LoopCursor, OnceCursor, SimpleCursor, WhileCursor};
 use std::alloc::Global;
 use var_functions::{UserState, VarError};
@@ -26,6 +29,11 @@ pub enum Cursor {
     If(IfCursor),
     While(WhileCursor),
     Each(EachCursor),
+    Interleave(InterleaveCursor),
+    Random(RandomCursor),
+    Order(OrderCursor),
+    Switch(SwitchCursor),
+    Transaction(OpenTransaction),
 }
 
 impl Cursor {
@@ -39,6 +47,10 @@ impl Cursor {
             Cursor::Loop(cursor) => u64::from(cursor.rounds.begun.saturating_sub(1)),
             Cursor::While(cursor) => u64::from(cursor.rounds.begun.saturating_sub(1)),
             Cursor::Each(cursor) => u64::from(cursor.rounds.begun.saturating_sub(1)),
+            Cursor::Interleave(_) | Cursor::Random(_) | Cursor::Order(_) | Cursor::Switch(_) => {
+                round
+            }
+            Cursor::Transaction(_) => round,
         }
     }
 
@@ -59,7 +71,8 @@ impl Cursor {
             (turned below (round_in round self.new) (children_of plan.now.elements e) (cursor_left below round (children_of plan.now.elements e) e self.new) (state_of state.new own))
             (past (state_of state.new own)) result }
         ensures begun { IfOk result (λ turn. begun_of self.new ≤ begun_after (begun_of self.old) turn) }
-        ensures pass { IfOk result (Passes (pass_of self.old) (pass_of self.new)) }
+        ensures pass { IfOk result (TakesChild (children_left self.old) (children_left self.new)) }
+        ensures tally { tally_in self.new ≡ tally_in self.old }
         ensures fits { (e : Element) (n : ℕ) → slice_get plan.now.elements n ≡ Some e
             → FitsKind n (length (children_of plan.now.elements e)) e.kind self.old → FitsKind n (length (children_of plan.now.elements e)) e.kind self.new }
     {
@@ -70,6 +83,20 @@ impl Cursor {
             Cursor::If(cursor) => cursor.next(alloc, plan, round, state, outside),
             Cursor::While(cursor) => cursor.next(alloc, plan, round, state, outside),
             Cursor::Each(cursor) => cursor.next(alloc, plan, round, state, outside),
+            Cursor::Interleave(cursor) => cursor.next(alloc, plan, round, state, outside),
+            Cursor::Random(cursor) => cursor.next(alloc, plan, round, state, outside),
+            Cursor::Order(cursor) => cursor.next(alloc, plan, round, state, outside),
+            Cursor::Switch(cursor) => cursor.next(alloc, plan, round, state, outside),
+            Cursor::Transaction(open) => open.children.next(alloc, plan, round, state, outside),
+        }
+    }
+
+    /// Tells of a sampler's sample: a transaction counts it.
+    pub fn hear(&mut self, sample: &Sample)
+        ensures { self.new ≡ hearing sample.now self.old }
+    {
+        if let Cursor::Transaction(open) = self {
+            open.tally = open.tally.with(sample);
         }
     }
 }

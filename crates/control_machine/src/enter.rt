@@ -6,7 +6,7 @@ ghost use Rattle.element_tree.specs.declared.kinds.Element.{Element};
 ghost use Rattle.var_functions.specs.Came.{CameTo};
 ghost use Rattle.cursor_steps.specs.Step.{IsThere};
 ghost use Rattle.logic_controllers.specs.ForEachController.{Row, kind_of};
-ghost use Rattle.jm_meaning.specs.State.{Own, state_of};
+ghost use Rattle.jm_meaning.specs.State.{Own, State, state_of, at_places};
 ghost use Rattle.jm_meaning.specs.Children.{Below, children_of};
 ghost use Rattle.jm_meaning.specs.Meaning.{kind_meaning};
 ghost use Rattle.jm_meaning.specs.declared.signal.Signal.{Signal};
@@ -14,8 +14,12 @@ ghost use Rattle.control_machine.specs.Moves.{past};
 ghost use Rattle.control_machine.specs.Entering.{here_with, entered, EnteredFits};
 
 use crate::cursor::Cursor;
-use element_tree::{Kind, Plan};
+use crate::transaction::OpenTransaction;
+use choice_controllers::{InterleaveCursor, OrderCursor, RandomCursor, SwitchCursor};
+use cursor_steps::{Pass, run_count};
+use element_tree::{Element, Kind, Plan};
 use jm_base::Outside;
+use jm_meaning::{Places, Tally};
 use logic_controllers::{EachCursor, IfCursor, LoopCursor, OnceCursor, SimpleCursor, WhileCursor};
 use std::alloc::Global;
 use var_functions::{UserState, VarError};
@@ -157,17 +161,127 @@ fn enter_each<O: Outside>(
     }
 }
 
-/// Enters the element of this number: a Loop or an If without `all` expands its text.
-pub fn enter<O: Outside>(
+fn enter_interleave<O: Outside>(
+    alloc: Global,
+    plan: &Plan,
+    child: u16,
+    places: &mut Places,
+    state: &mut UserState,
+    outside: &mut O,
+) -> Result<Entered, VarError>
+    requires there { (e : Element) × IsThere plan.now.elements child e (Kind.Interleave) }
+    ensures came { (e : Element) (failure : Signal) (below : Below) (round : ℕ) (own : Own) → IsThere plan.now.elements child e (Kind.Interleave)
+        → CameTo (O.account outside.old) (kind_meaning (here_with plan.now failure) below child e (Kind.Interleave) round (state_of state.old (at_places own places.old))) (O.account outside.new)
+        (entered (here_with plan.now failure) below child round e (state_of state.new (at_places own places.new))) (past (state_of state.new (at_places own places.new))) result }
+    ensures fits { IfOk result (λ x. (e : Element) → slice_get plan.now.elements child ≡ Some e
+        → EnteredFits child (length (children_of plan.now.elements e)) e.kind x) }
+{
+    let mut cursor = InterleaveCursor {
+        element: child,
+        place: places.of(child),
+        chosen: None,
+    };
+    match cursor.enter(alloc, plan, state, outside) {
+        Ok(()) => {
+            places.set(child, cursor.place);
+            Ok(Entered::Open(Cursor::Interleave(cursor)))
+        }
+        Err(error) => Err(error),
+    }
+}
+
+fn enter_random<O: Outside>(
     alloc: Global,
     plan: &Plan,
     child: u16,
     state: &mut UserState,
     outside: &mut O,
 ) -> Result<Entered, VarError>
-    ensures came { (e : Element) (failure : Signal) (below : Below) (round : ℕ) (own : Own) → slice_get plan.now.elements child ≡ Some e
-        → CameTo (O.account outside.old) (kind_meaning (here_with plan.now failure) below child e e.kind round (state_of state.old own)) (O.account outside.new)
+    requires there { (e : Element) × IsThere plan.now.elements child e (Kind.Random) }
+    ensures came { (e : Element) (failure : Signal) (below : Below) (round : ℕ) (own : Own) → IsThere plan.now.elements child e (Kind.Random)
+        → CameTo (O.account outside.old) (kind_meaning (here_with plan.now failure) below child e (Kind.Random) round (state_of state.old own)) (O.account outside.new)
         (entered (here_with plan.now failure) below child round e (state_of state.new own)) (past (state_of state.new own)) result }
+    ensures fits { IfOk result (λ x. (e : Element) → slice_get plan.now.elements child ≡ Some e
+        → EnteredFits child (length (children_of plan.now.elements e)) e.kind x) }
+{
+    let mut cursor = RandomCursor::new(child);
+    match cursor.enter(alloc, plan, state, outside) {
+        Ok(()) => Ok(Entered::Open(Cursor::Random(cursor))),
+        Err(error) => Err(error),
+    }
+}
+
+fn enter_order<O: Outside>(
+    alloc: Global,
+    plan: &Plan,
+    child: u16,
+    state: &mut UserState,
+    outside: &mut O,
+) -> Result<Entered, VarError>
+    requires there { (e : Element) × IsThere plan.now.elements child e (Kind.RandomOrder) }
+    ensures came { (e : Element) (failure : Signal) (below : Below) (round : ℕ) (own : Own) → IsThere plan.now.elements child e (Kind.RandomOrder)
+        → CameTo (O.account outside.old) (kind_meaning (here_with plan.now failure) below child e (Kind.RandomOrder) round (state_of state.old own)) (O.account outside.new)
+        (entered (here_with plan.now failure) below child round e (state_of state.new own)) (past (state_of state.new own)) result }
+    ensures fits { IfOk result (λ x. (e : Element) → slice_get plan.now.elements child ≡ Some e
+        → EnteredFits child (length (children_of plan.now.elements e)) e.kind x) }
+{
+    let mut cursor = OrderCursor::new(child);
+    match cursor.enter(alloc, plan, state, outside) {
+        Ok(()) => Ok(Entered::Open(Cursor::Order(cursor))),
+        Err(error) => Err(error),
+    }
+}
+
+fn enter_switch<O: Outside>(
+    alloc: Global,
+    plan: &Plan,
+    child: u16,
+    state: &mut UserState,
+    outside: &mut O,
+) -> Result<Entered, VarError>
+    requires there { (e : Element) × (value : Pieces) × IsThere plan.now.elements child e (Kind.Switch value) }
+    ensures came { (e : Element) (value : Pieces) (failure : Signal) (below : Below) (round : ℕ) (own : Own) → IsThere plan.now.elements child e (Kind.Switch value)
+        → CameTo (O.account outside.old) (kind_meaning (here_with plan.now failure) below child e (Kind.Switch value) round (state_of state.old own)) (O.account outside.new)
+        (entered (here_with plan.now failure) below child round e (state_of state.new own)) (past (state_of state.new own)) result }
+    ensures fits { IfOk result (λ x. (e : Element) → slice_get plan.now.elements child ≡ Some e
+        → EnteredFits child (length (children_of plan.now.elements e)) e.kind x) }
+{
+    let mut cursor = SwitchCursor::new(child);
+    match cursor.enter(alloc, plan, state, outside) {
+        Ok(()) => Ok(Entered::Open(Cursor::Switch(cursor))),
+        Err(error) => Err(error),
+    }
+}
+
+// A transaction begins a pass over its children, and has counted no sample.
+fn enter_transaction(plan: &Plan, child: u16, element: &Element) -> Entered
+    requires there { IsThere plan.now.elements child element.now (Kind.Transaction) }
+    ensures came { (failure : Signal) (below : Below) (round : ℕ) (s : State) → kind_meaning (here_with plan.now failure) below child element.now (Kind.Transaction) round s
+        ≡ entered (here_with plan.now failure) below child round element.now s result }
+    ensures fits { EnteredFits child (length (children_of plan.now.elements element.now)) element.now.kind result }
+{
+    Entered::Open(Cursor::Transaction(OpenTransaction {
+        children: SimpleCursor {
+            element: child,
+            pass: Pass::over(run_count(plan, element)),
+        },
+        tally: Tally::none(),
+    }))
+}
+
+/// Enters the element of this number: a Loop, a Switch or an If without `all` expands its text, and the controllers that
+/// choose choose their child, by which an Interleave's place moves on.
+pub fn enter<O: Outside>(
+    alloc: Global,
+    plan: &Plan,
+    child: u16,
+    places: &mut Places,
+    state: &mut UserState,
+    outside: &mut O,
+) -> Result<Entered, VarError>
+    ensures came { (e : Element) (failure : Signal) (below : Below) (round : ℕ) (own : Own) → slice_get plan.now.elements child ≡ Some e
+        → CameTo (O.account outside.old) (kind_meaning (here_with plan.now failure) below child e e.kind round (state_of state.old (at_places own places.old))) (O.account outside.new)
+        (entered (here_with plan.now failure) below child round e (state_of state.new (at_places own places.new))) (past (state_of state.new (at_places own places.new))) result }
     ensures fits { IfOk result (λ x. (e : Element) → slice_get plan.now.elements child ≡ Some e
         → EnteredFits child (length (children_of plan.now.elements e)) e.kind x) }
 {
@@ -182,6 +296,11 @@ pub fn enter<O: Outside>(
         Kind::If { .. } => enter_if(alloc, plan, child, state, outside),
         Kind::While { .. } => enter_while(alloc, plan, child, state, outside),
         Kind::ForEach { .. } => enter_each(alloc, plan, child, state, outside),
+        Kind::Interleave => enter_interleave(alloc, plan, child, places, state, outside),
+        Kind::Random => enter_random(alloc, plan, child, state, outside),
+        Kind::RandomOrder => enter_order(alloc, plan, child, state, outside),
+        Kind::Switch { .. } => enter_switch(alloc, plan, child, state, outside),
+        Kind::Transaction => Ok(enter_transaction(plan, child, element)),
         _ => Ok(Entered::Nothing),
     }
 }

@@ -6,9 +6,12 @@ pub mod enter;
 pub mod machine;
 pub mod moves;
 pub mod stack;
+pub mod transaction;
 mod turns;
 
 pub use cursor::Cursor;
+pub use jm_meaning::Tally;
 pub use machine::{Group, Machine};
-pub use moves::{Leave, Move, Tally};
+pub use moves::{Leave, Move};
 pub use stack::{Frame, Stack};
+pub use transaction::OpenTransaction;

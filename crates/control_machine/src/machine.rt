@@ -1,23 +1,24 @@
 // The machine: the group's rounds, and the elements that are open in its round.
 
-ghost use Rattle.std.specs.Prelude.{◌≡◌, ◌<◌, slice_get, length, IfOk};
-ghost use Rattle.element_tree.specs.Tree.{threads_of, group_of};
+ghost use Rattle.std.specs.Prelude.{◌≡◌, ◌<◌, ℕ, slice_get, length, IfOk};
+ghost use Rattle.element_tree.specs.Tree.{Tree, threads_of, group_of};
 ghost use Rattle.var_functions.specs.Came.{CameTo};
-ghost use Rattle.jm_meaning.specs.State.{Own, state_of, at_rounds};
+ghost use Rattle.jm_meaning.specs.State.{Own, state_of};
 ghost use Rattle.jm_meaning.specs.Sampling.{after_sample};
 ghost use Rattle.jm_meaning.specs.Meaning.{group_part, here_at, failure_of};
-ghost use Rattle.jm_meaning.specs.Beginning.{max_rounds};
+ghost use Rattle.jm_meaning.specs.Beginning.{max_rounds, first_places};
 ghost use Rattle.control_machine.specs.Moves.{past};
-ghost use Rattle.control_machine.specs.Left.{StandsIn, left_of, moved, IsMove};
+ghost use Rattle.control_machine.specs.Left.{StandsIn, left_of, state_at, moved, IsMove};
 ghost use Rattle.control_machine.specs.Turns.{Lightens, TakesRound, IsRoundless, IsNormalAt, IsNormalOn, IsRoundOf, IsRoundIn, went, IsWent, signal_left};
 ghost use Rattle.control_machine.specs.Load.{load_of};
+ghost use Rattle.control_machine.specs.Hearing.{told};
 
 use crate::moves::{Leave, Move};
 use crate::stack::Stack;
 use cursor_steps::{Pass, run_count};
 use element_tree::{Kind, Loops, Plan};
 use jm_base::{End, M, Outside, Sample};
-use jm_meaning::{Signal, signal_of};
+use jm_meaning::{Places, Signal, signal_of};
 use std::alloc::Global;
 use var_functions::{UserState, VarError};
 
@@ -33,13 +34,15 @@ pub struct Group {
     pub pass: Pass,
 }
 
-/// A thread's place in its plan: the group's rounds, the open elements, the rounds that the thread has left, what a failed
-/// sample leads to, and whether the thread is on its way out. It is used with the plan for which it was made.
+/// A thread's place in its plan: the group's rounds, the open elements, the rounds that the thread has left, the places of
+/// its Interleave Controllers, what a failed sample leads to, and whether the thread is on its way out. It is used with the
+/// plan for which it was made.
 #[derive(Drop)]
 pub struct Machine {
     pub group: Group,
     pub stack: Stack,
     pub rounds: u32,
+    pub places: Places,
     pub at_failure: Signal,
     pub signal: Signal,
 }
@@ -61,6 +64,7 @@ impl Machine {
             (slice_get plan.now.elements (group_of plan.now thread)) (state_of user own)) }
         ensures failure { IfOk result (λ m. m.at_failure ≡ failure_of (slice_get plan.now.elements (group_of plan.now thread))) }
         ensures rounds { IfOk result (λ m. m.rounds ≡ max_rounds) }
+        ensures places { IfOk result (λ m. m.places ≡ first_places plan.now.elements) }
     {
         let number = plan.group_of(thread);
         let Some(element) = plan.element(number) else {
@@ -75,6 +79,7 @@ impl Machine {
             unreachable!();
         };
         let children = run_count(plan, element);
+        let places = Places::first(alloc, plan)?;
         Ok(Machine {
             group: Group {
                 element: number,
@@ -87,6 +92,7 @@ impl Machine {
             },
             stack: Stack::new(alloc),
             rounds: 16_777_216,
+            places,
             at_failure: signal_of(*on_error),
             signal: Signal::Normal,
         })
@@ -102,10 +108,10 @@ impl Machine {
         outside: &mut O,
     ) -> Result<Move, VarError>
         requires { StandsIn plan.now self.old }
-        ensures came { (own : Own) → own.rounds ≡ self.old.rounds
-            → CameTo (O.account outside.old) (left_of plan.now self.old (state_of state.old own)) (O.account outside.new)
-            (moved plan.now self.new (state_of state.new (at_rounds own self.new.rounds)))
-            (past (state_of state.new (at_rounds own self.new.rounds))) result }
+        ensures came { (units : ℕ)
+            → CameTo (O.account outside.old) (left_of plan.now self.old (state_at self.old units state.old)) (O.account outside.new)
+            (moved plan.now self.new (state_at self.new units state.new))
+            (past (state_at self.new units state.new)) result }
         ensures given { IfOk result (IsMove plan.now.elements) }
         ensures stands { IfOk result (λ m. StandsIn plan.now self.new) }
         ensures normal { IfOk result (λ m. IsNormalAt m self.new.signal) }
@@ -122,27 +128,22 @@ impl Machine {
         }
     }
 
-    /// Tells of the sample of the sampler that the last move named: where it failed the next moves follow the group's action
-    /// after a sampler error.
+    /// Tells of the sample of the sampler that the last move named: the open transactions count it, and where it failed the
+    /// next moves follow the group's action after a sampler error.
     pub fn after(&mut self, sample: &Sample)
-        ensures { self.new ≡ record self.old { signal = after_sample sample.now.ok self.old.at_failure } }
+        ensures told { self.new ≡ told sample.now self.old }
+        ensures stands { (plan : Tree) → StandsIn plan self.old → StandsIn plan self.new }
     {
-        self.signal = if sample.ok {
-            Signal::Normal
-        } else {
-            self.at_failure
-        };
+        self.stack.hear(sample);
+        self.signal = signal_behind(sample.ok, self.at_failure);
     }
 
     /// Makes the next moves those of a way out.
     pub fn leave(&mut self, how: Leave)
-        ensures { self.new ≡ record self.old { signal = signal_left how } }
+        ensures left { self.new ≡ record self.old { signal = signal_left how } }
+        ensures stands { (plan : Tree) → StandsIn plan self.old → StandsIn plan self.new }
     {
-        self.signal = match how {
-            Leave::NextLoop => Signal::NextLoop,
-            Leave::StopThread => Signal::Stop(End::StopThread),
-            Leave::StopTest => Signal::Stop(End::StopTest),
-        };
+        self.signal = signal_left(how);
     }
 
     // One turn: a child is opened, a round begun, or an element left.
@@ -154,10 +155,10 @@ impl Machine {
         outside: &mut O,
     ) -> Result<Went, VarError>
         requires { StandsIn plan.now self.old }
-        ensures came { (own : Own) → own.rounds ≡ self.old.rounds
-            → CameTo (O.account outside.old) (left_of plan.now self.old (state_of state.old own)) (O.account outside.new)
-            (went plan.now self.new (state_of state.new (at_rounds own self.new.rounds)))
-            (past (state_of state.new (at_rounds own self.new.rounds))) result }
+        ensures came { (units : ℕ)
+            → CameTo (O.account outside.old) (left_of plan.now self.old (state_at self.old units state.old)) (O.account outside.new)
+            (went plan.now self.new (state_at self.new units state.new))
+            (past (state_at self.new units state.new)) result }
         ensures given { IfOk result (IsWent plan.now.elements) }
         ensures stands { IfOk result (λ w. StandsIn plan.now self.new) }
         ensures lighter { IfOk result (λ w. Lightens w (load_of plan.now.elements self.old) (load_of plan.now.elements self.new)) }
@@ -170,5 +171,23 @@ impl Machine {
             Signal::Normal => self.go_on(alloc, plan, state, outside),
             Signal::NextLoop | Signal::Stop(_) => Ok(self.leave_one()),
         }
+    }
+}
+
+// The signal behind a sample.
+fn signal_behind(ok: bool, at_failure: Signal) -> Signal
+    ensures { result ≡ after_sample ok at_failure }
+{
+    if ok { Signal::Normal } else { at_failure }
+}
+
+// The signal of a way out.
+fn signal_left(how: Leave) -> Signal
+    ensures { result ≡ signal_left how }
+{
+    match how {
+        Leave::NextLoop => Signal::NextLoop,
+        Leave::StopThread => Signal::Stop(End::StopThread),
+        Leave::StopTest => Signal::Stop(End::StopTest),
     }
 }

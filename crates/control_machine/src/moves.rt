@@ -1,17 +1,7 @@
 // What comes next in a thread's plan.
 
 use jm_base::End;
-
-/// The samples of a transaction: the stamp of the first, how many there are and how many failed, and the sums of their
-/// elapsed times in milliseconds and of their bytes, each at most 2^32 - 1.
-#[derive(Clone, Copy, PartialEq, Eq, Debug)]
-pub struct Tally {
-    pub stamp: u64,
-    pub samples: u32,
-    pub failed: u32,
-    pub elapsed: u32,
-    pub bytes: u32,
-}
+use jm_meaning::Tally;
 
 /// The next move of a thread.
 #[derive(Clone, Copy, PartialEq, Eq, Debug)]

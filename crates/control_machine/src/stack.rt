@@ -1,9 +1,10 @@
 // The open elements of a thread's round.
 
-ghost use Rattle.std.specs.Prelude.{◌≡◌, ◌<◌, [], ◌∷◌, OnOk, OnErr, MatchOption};
+ghost use Rattle.std.specs.Prelude.{◌≡◌, ◌<◌, [], ◌∷◌, OnOk, OnErr, MatchOption, vec_capacity};
+ghost use Rattle.control_machine.specs.Hearing.{all_hearing};
 
 use crate::cursor::Cursor;
-use jm_base::M;
+use jm_base::{M, Sample};
 use std::alloc::Global;
 use std::marker::Model;
 
@@ -68,5 +69,22 @@ impl Stack {
         if pushed.is_err() {
             unreachable!();
         }
+    }
+
+    /// Tells the open elements of a sampler's sample.
+    pub fn hear(&mut self, sample: &Sample)
+        ensures { self.new ≡ record { frames = all_hearing sample.now self.old.frames; room = self.old.room } }
+    {
+        hear_all(&mut self.frames, sample);
+    }
+}
+
+// Tells each of the elements of a sampler's sample.
+fn hear_all(frames: &mut Vec<Frame>, sample: &Sample)
+    ensures frames { frames.new.items ≡ all_hearing sample.now frames.old.items }
+    ensures room { vec_capacity frames.new ≡ vec_capacity frames.old }
+{
+    for frame in frames.iter_mut() {
+        frame.cursor.hear(sample);
     }
 }

@@ -1,24 +1,24 @@
 // The turns of a machine.
 
-ghost use Rattle.std.specs.Prelude.{◌≡◌, ◌+◌, ◌-◌, ◌≤◌, ◌<◌, slice_get, Some, List, [], ◌∷◌, IfOk, MatchResult};
+ghost use Rattle.std.specs.Prelude.{◌≡◌, ◌+◌, ◌-◌, ◌≤◌, ◌<◌, ℕ, slice_get, Some, List, [], ◌∷◌, IfOk, MatchResult};
 ghost use Rattle.std.specs.List.{filter};
-ghost use Rattle.cursor_steps.specs.Children.{is_run_at, Passes};
+ghost use Rattle.cursor_steps.specs.Children.{is_run_at};
 ghost use Rattle.element_tree.specs.declared.kinds.Element.{Element};
 ghost use Rattle.element_tree.specs.Tree.{Tree, Nests};
 ghost use Rattle.jm_base.specs.Run.{over};
 ghost use Rattle.var_functions.specs.Came.{CameTo};
 ghost use Rattle.logic_controllers.specs.Rounds.{begun_after};
 ghost use Rattle.logic_controllers.specs.LoopController.{round_begins};
-ghost use Rattle.jm_meaning.specs.State.{Own, state_of, at_rounds, normal};
+ghost use Rattle.jm_meaning.specs.State.{normal};
 ghost use Rattle.jm_meaning.specs.Children.{children_of};
 ghost use Rattle.jm_meaning.specs.Meaning.{meaning};
 ghost use Rattle.jm_meaning.specs.Beginning.{max_rounds};
 ghost use Rattle.jm_meaning.specs.declared.signal.Signal.{Signal};
 ghost use Rattle.control_machine.specs.Moves.{turned, past};
-ghost use Rattle.control_machine.specs.Cursors.{cursor_left, round_in, pass_of};
-ghost use Rattle.control_machine.specs.Left.{StandsIn, GroupIsOpen, IsOpen, left_of, left_behind, moved, IsMove, here_in};
-ghost use Rattle.control_machine.specs.Turns.{Lightens, TakesRound, IsRoundless, IsNormalOn, IsRoundOf, IsRoundIn, went, IsWent, left_from, load_in, IsOpened};
-ghost use Rattle.control_machine.specs.Load.{load_of};
+ghost use Rattle.control_machine.specs.Cursors.{cursor_left, round_in};
+ghost use Rattle.control_machine.specs.Left.{StandsIn, GroupIsOpen, IsOpen, left_of, left_behind, closed, state_at, moved, IsMove, here_in};
+ghost use Rattle.control_machine.specs.Turns.{Lightens, TakesRound, IsRoundless, IsNormalAt, IsNormalOn, IsRoundOf, IsRoundIn, went, IsWent, closing_of, left_from, load_in, IsOpened};
+ghost use Rattle.control_machine.specs.Load.{children_left, TakesChild, load_of};
 
 use crate::cursor::Cursor;
 use crate::enter::{Entered, enter};
@@ -36,8 +36,8 @@ impl Machine {
     // On a way out: the innermost open element is left, or the way out is over.
     pub(crate) fn leave_one(&mut self) -> Went
         requires { self.old.group.begun + self.old.rounds ≤ max_rounds }
-        ensures same { (plan : Tree) (user : UserState) (own : Own) → StandsIn plan self.old → (self.old.signal ≡ Signal.Normal → ⊥) → own.rounds ≡ self.old.rounds
-            → left_of plan self.old (state_of user own) ≡ went plan self.new (state_of user (at_rounds own self.new.rounds)) result }
+        ensures same { (plan : Tree) (units : ℕ) (user : UserState) → StandsIn plan self.old → (self.old.signal ≡ Signal.Normal → ⊥)
+            → left_of plan self.old (state_at self.old units user) ≡ went plan self.new (state_at self.new units user) result }
         ensures given { (plan : Tree) → StandsIn plan self.old → (self.old.signal ≡ Signal.Normal → ⊥) → IsWent plan.elements result }
         ensures stands { (plan : Tree) → StandsIn plan self.old → StandsIn plan self.new }
         ensures lighter { (elements : List Element) → Lightens result (load_of elements self.old) (load_of elements self.new) }
@@ -46,23 +46,39 @@ impl Machine {
         ensures index { IsRoundIn result self.new.group }
         ensures thread { (self.new.group.element ≡ self.old.group.element) × (self.new.at_failure ≡ self.old.at_failure) }
     {
-        if self.stack.pop().is_some() {
-            return Went::On;
+        match self.stack.pop() {
+            Some(frame) => close(&frame),
+            None => Went::To(self.leave_round()),
         }
+    }
+
+    // On a way out, with no element open: the thread ends, or the group goes on with its next round.
+    fn leave_round(&mut self) -> Move
+        requires bound { self.old.group.begun + self.old.rounds ≤ max_rounds }
+        requires empty { self.old.stack.frames ≡ [] }
+        ensures same { (plan : Tree) (units : ℕ) (user : UserState) → StandsIn plan self.old → (self.old.signal ≡ Signal.Normal → ⊥)
+            → left_of plan self.old (state_at self.old units user) ≡ moved plan self.new (state_at self.new units user) result }
+        ensures given { (plan : Tree) → StandsIn plan self.old → (self.old.signal ≡ Signal.Normal → ⊥) → IsMove plan.elements result }
+        ensures stands { (plan : Tree) → StandsIn plan self.old → StandsIn plan self.new }
+        ensures normal { IsNormalAt result self.new.signal }
+        ensures rounds { TakesRound result self.old.rounds self.new.rounds }
+        ensures index { IsRoundOf result self.new.group }
+        ensures thread { (self.new.group.element ≡ self.old.group.element) × (self.new.at_failure ≡ self.old.at_failure) }
+    {
         if let Signal::Stop(end) = self.signal {
-            return Went::To(Move::Finished(end));
+            return Move::Finished(end);
         }
         self.signal = Signal::Normal;
         self.group.pass.next = self.group.pass.children;
-        Went::To(self.next_round())
+        self.next_round()
     }
 
     // Behind the last child of a round of the group: the next round begins, or the rounds are over.
     fn next_round(&mut self) -> Move
         requires { self.old.group.begun + self.old.rounds ≤ max_rounds }
-        ensures same { (plan : Tree) (user : UserState) (own : Own) → GroupIsOpen plan.elements self.old.rounds self.old.group → self.old.stack.frames ≡ []
-            → self.old.signal ≡ Signal.Normal → self.old.group.pass.children ≤ self.old.group.pass.next → own.rounds ≡ self.old.rounds
-            → left_of plan self.old (state_of user own) ≡ moved plan self.new (state_of user (at_rounds own self.new.rounds)) result }
+        ensures same { (plan : Tree) (units : ℕ) (user : UserState) → GroupIsOpen plan.elements self.old.rounds self.old.group → self.old.stack.frames ≡ []
+            → self.old.signal ≡ Signal.Normal → self.old.group.pass.children ≤ self.old.group.pass.next
+            → left_of plan self.old (state_at self.old units user) ≡ moved plan self.new (state_at self.new units user) result }
         ensures given { (elements : List Element) → IsMove elements result }
         ensures group { (elements : List Element) → GroupIsOpen elements self.old.rounds self.old.group → GroupIsOpen elements self.new.rounds self.new.group }
         ensures rest { (self.new.stack ≡ self.old.stack) × (self.new.signal ≡ self.old.signal) }
@@ -93,10 +109,10 @@ impl Machine {
     ) -> Result<Went, VarError>
         requires stands { StandsIn plan.now self.old }
         requires normal { self.old.signal ≡ Signal.Normal }
-        ensures came { (own : Own) → own.rounds ≡ self.old.rounds
-            → CameTo (O.account outside.old) (left_of plan.now self.old (state_of state.old own)) (O.account outside.new)
-            (went plan.now self.new (state_of state.new (at_rounds own self.new.rounds)))
-            (past (state_of state.new (at_rounds own self.new.rounds))) result }
+        ensures came { (units : ℕ)
+            → CameTo (O.account outside.old) (left_of plan.now self.old (state_at self.old units state.old)) (O.account outside.new)
+            (went plan.now self.new (state_at self.new units state.new))
+            (past (state_at self.new units state.new)) result }
         ensures given { IfOk result (IsWent plan.now.elements) }
         ensures stands { IfOk result (λ w. StandsIn plan.now self.new) }
         ensures lighter { IfOk result (λ w. Lightens w (load_of plan.now.elements self.old) (load_of plan.now.elements self.new)) }
@@ -124,10 +140,10 @@ impl Machine {
         requires normal { self.old.signal ≡ Signal.Normal }
         requires open { IsOpen plan.now.elements max_rounds self.old.rounds frame }
         requires room { 0 < self.old.stack.room }
-        ensures came { (own : Own) → own.rounds ≡ self.old.rounds
-            → CameTo (O.account outside.old) (left_from plan.now self.old frame (over (normal (state_of state.old own)))) (O.account outside.new)
-            (went plan.now self.new (state_of state.new (at_rounds own self.new.rounds)))
-            (past (state_of state.new (at_rounds own self.new.rounds))) result }
+        ensures came { (units : ℕ)
+            → CameTo (O.account outside.old) (left_from plan.now self.old frame (over (normal (state_at self.old units state.old)))) (O.account outside.new)
+            (went plan.now self.new (state_at self.new units state.new))
+            (past (state_at self.new units state.new)) result }
         ensures given { IfOk result (IsWent plan.now.elements) }
         ensures stands { IfOk result (λ w. StandsIn plan.now self.new) }
         ensures lighter { IfOk result (λ w. Lightens w (load_in plan.now.elements self.old (frame ∷ self.old.stack.frames)) (load_of plan.now.elements self.new)) }
@@ -165,15 +181,16 @@ impl Machine {
         requires normal { self.old.signal ≡ Signal.Normal }
         requires open { IsOpen plan.now.elements (begun_after max_rounds turn) self.old.rounds frame }
         requires room { 0 < self.old.stack.room }
-        ensures came { (e : Element) (own : Own) → slice_get plan.now.elements frame.element ≡ Some e → own.rounds ≡ self.old.rounds
+        ensures came { (e : Element) (units : ℕ) → slice_get plan.now.elements frame.element ≡ Some e
             → CameTo (O.account outside.old)
-            (left_behind plan.now self.old (turned (meaning (here_in plan.now self.old) frame.depth) (round_in frame.round frame.cursor) (children_of plan.now.elements e)
-            (cursor_left (meaning (here_in plan.now self.old) frame.depth) frame.round (children_of plan.now.elements e) e frame.cursor) (state_of state.old own) turn))
-            (O.account outside.new) (went plan.now self.new (state_of state.new (at_rounds own self.new.rounds)))
-            (past (state_of state.new (at_rounds own self.new.rounds))) result }
+            (left_behind plan.now self.old (closed (here_in plan.now self.old) frame
+            (turned (meaning (here_in plan.now self.old) frame.depth) (round_in frame.round frame.cursor) (children_of plan.now.elements e)
+            (cursor_left (meaning (here_in plan.now self.old) frame.depth) frame.round (children_of plan.now.elements e) e frame.cursor) (state_at self.old units state.old) turn)))
+            (O.account outside.new) (went plan.now self.new (state_at self.new units state.new))
+            (past (state_at self.new units state.new)) result }
         ensures given { IfOk result (IsWent plan.now.elements) }
         ensures stands { IfOk result (λ w. StandsIn plan.now self.new) }
-        ensures lighter { IfOk result (λ w. (old : Frame) → old.depth ≡ frame.depth → Passes (pass_of old.cursor) (pass_of frame.cursor) turn
+        ensures lighter { IfOk result (λ w. (old : Frame) → old.depth ≡ frame.depth → TakesChild (children_left old.cursor) (children_left frame.cursor) turn
             → Lightens w (load_in plan.now.elements self.old (old ∷ self.old.stack.frames)) (load_of plan.now.elements self.new)) }
         ensures signal { IfOk result (λ w. self.new.signal ≡ Signal.Normal) }
         ensures rounds { IfOk result (λ w. IsRoundless w self.old.rounds self.new.rounds) }
@@ -181,7 +198,7 @@ impl Machine {
         ensures thread { (self.new.group.element ≡ self.old.group.element) × (self.new.at_failure ≡ self.old.at_failure) }
     {
         match turn {
-            Turn::Over => Ok(Went::On),
+            Turn::Over => Ok(close(&frame)),
             Turn::Round => {
                 if self.rounds == 0 {
                     return Ok(Went::To(Move::Finished(End::RoundLimit)));
@@ -213,10 +230,10 @@ impl Machine {
         requires stands { StandsIn plan.now self.old }
         requires normal { self.old.signal ≡ Signal.Normal }
         requires empty { self.old.stack.frames ≡ [] }
-        ensures came { (own : Own) → own.rounds ≡ self.old.rounds
-            → CameTo (O.account outside.old) (left_of plan.now self.old (state_of state.old own)) (O.account outside.new)
-            (went plan.now self.new (state_of state.new (at_rounds own self.new.rounds)))
-            (past (state_of state.new (at_rounds own self.new.rounds))) result }
+        ensures came { (units : ℕ)
+            → CameTo (O.account outside.old) (left_of plan.now self.old (state_at self.old units state.old)) (O.account outside.new)
+            (went plan.now self.new (state_at self.new units state.new))
+            (past (state_at self.new units state.new)) result }
         ensures given { IfOk result (IsWent plan.now.elements) }
         ensures stands { IfOk result (λ w. StandsIn plan.now self.new) }
         ensures lighter { IfOk result (λ w. Lightens w (load_of plan.now.elements self.old) (load_of plan.now.elements self.new)) }
@@ -252,10 +269,10 @@ impl Machine {
         requires normal { self.old.signal ≡ Signal.Normal }
         requires nests { Nests depth plan.now.elements child }
         requires depth { depth ≤ 30 }
-        ensures came { (own : Own) → own.rounds ≡ self.old.rounds
-            → CameTo (O.account outside.old) (left_behind plan.now self.old (meaning (here_in plan.now self.old) depth child round (state_of state.old own))) (O.account outside.new)
-            (went plan.now self.new (state_of state.new (at_rounds own self.new.rounds)))
-            (past (state_of state.new (at_rounds own self.new.rounds))) result }
+        ensures came { (units : ℕ)
+            → CameTo (O.account outside.old) (left_behind plan.now self.old (meaning (here_in plan.now self.old) depth child round (state_at self.old units state.old))) (O.account outside.new)
+            (went plan.now self.new (state_at self.new units state.new))
+            (past (state_at self.new units state.new)) result }
         ensures given { IfOk result (IsWent plan.now.elements) }
         ensures stands { IfOk result (λ w. StandsIn plan.now self.new) }
         ensures rest { (self.new.group ≡ self.old.group) × (self.new.rounds ≡ self.old.rounds) × (self.new.at_failure ≡ self.old.at_failure) × (self.new.signal ≡ self.old.signal) }
@@ -263,7 +280,7 @@ impl Machine {
         ensures rounds { IfOk result (λ w. IsRoundless w self.old.rounds self.new.rounds) }
         ensures index { IfOk result (λ w. IsRoundIn w self.new.group) }
     {
-        match enter(alloc, plan, child, state, outside) {
+        match enter(alloc, plan, child, &mut self.places, state, outside) {
             Ok(Entered::Nothing) => Ok(Went::On),
             Ok(Entered::Sampler) => Ok(Went::To(Move::RunSampler(child))),
             Ok(Entered::Open(cursor)) => self.push(child, round, depth, cursor),
@@ -284,6 +301,7 @@ impl Machine {
             (λ w. (w ≡ Went.On) × (self.new.stack.frames ≡ record { element = element; round = round; depth = depth - 1; cursor = cursor } ∷ self.old.stack.frames))
             (λ e. e ≡ VarError.NoMemory) }
         ensures rest { (self.new.group ≡ self.old.group) × (self.new.rounds ≡ self.old.rounds) × (self.new.at_failure ≡ self.old.at_failure) × (self.new.signal ≡ self.old.signal) }
+        ensures places { self.new.places ≡ self.old.places }
     {
         let frame = Frame {
             element,
@@ -296,6 +314,22 @@ impl Machine {
             Err(_) => Err(VarError::NoMemory),
         }
     }
+}
+
+// What an element that is left comes to: a transaction that has counted samples gives its own.
+fn close(frame: &Frame) -> Went
+    ensures { result ≡ closing_of frame.now }
+{
+    let Cursor::Transaction(open) = &frame.cursor else {
+        return Went::On;
+    };
+    if open.tally.samples == 0 {
+        return Went::On;
+    }
+    Went::To(Move::TransactionSample {
+        element: frame.element,
+        tally: open.tally,
+    })
 }
 
 // The child at this place among those of the element that run.

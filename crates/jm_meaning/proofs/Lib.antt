@@ -1,4 +1,5 @@
 pub mod PartLaws
+pub mod TransactionLaws
 pub mod SamplingLaws
 pub mod BeginningLaws
 pub mod ThreadLaws

@@ -1,5 +1,5 @@
 -- What a thread begins with: the options of its run, and its first variables.
-use Rattle.std.specs.Prelude.{ℕ, List, [], ◌∷◌, ◌++◌, slice_get, unwrap_or, codes}
+use Rattle.std.specs.Prelude.{ℕ, List, [], ◌∷◌, ◌++◌, length, replicate, slice_get, unwrap_or, codes}
 use Rattle.std.specs.Option.{option_map}
 use Rattle.jm_base.specs.Run.{over}
 use Rattle.element_props.specs.declared.prop.Pair.{Pair}
@@ -24,11 +24,15 @@ max_rounds = 16777216
 abbrev pub number_in_group : Tree → ℕ → ℕ
 number_in_group plan thread = unwrap_or (option_map (λ t. t.number) (slice_get (threads_of plan) thread)) 0
 
+-- each Interleave Controller begins at its first child
+abbrev pub first_places : List Element → List ℕ
+first_places elements = replicate (length elements) 0
+
 -- before anything is set
 abbrev pub first_of : Tree → ℕ → Options → State
 first_of plan thread options = record {
   user = record { vars = []; fns = first_functions options.props (number_in_group plan thread) thread options.seed };
-  own = record { units = options.budget; rounds = max_rounds };
+  own = record { units = options.budget; rounds = max_rounds; places = first_places plan.elements };
 }
 
 abbrev pub pairs_of : Kind → List Pair

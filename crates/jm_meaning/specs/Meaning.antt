@@ -5,18 +5,21 @@ use Rattle.jm_base.specs.declared.types.End.TheVariants.{Completed, StopThread, 
 use Rattle.jm_base.specs.Run.{Run, over, give, wait, ◌>>=◌, Waited, Ended}
 use Rattle.element_tree.specs.declared.kinds.Element.{Element}
 use Rattle.element_tree.specs.declared.kinds.Kind.{Kind}
-use Rattle.element_tree.specs.declared.kinds.Kind.TheVariants.{ThreadGroup, Simple, OnceOnly, Loop, If, While, ForEach, Script}
+use Rattle.element_tree.specs.declared.kinds.Kind.TheVariants.{ThreadGroup, Simple, OnceOnly, Loop, If, While, ForEach, Switch, Interleave, Random, RandomOrder, Transaction, Script}
 use Rattle.element_tree.specs.declared.kinds.Loops.{Loops}
 use Rattle.element_tree.specs.declared.kinds.OnError.{OnError}
 use Rattle.element_tree.specs.declared.kinds.OnError.TheVariants as on_error
 use Rattle.element_tree.specs.Tree.{Tree, group_of}
 use Rattle.element_tree.specs.Names.{label_of}
 use Rattle.logic_controllers.specs.LoopController.{loops_of}
+use Rattle.choice_controllers.specs.SwitchController.{run_names}
 use Rattle.jm_meaning.specs.declared.signal.Signal.{Signal}
 use Rattle.jm_meaning.specs.declared.signal.Signal.TheVariants.{Normal, NextLoop, Stop}
 use Rattle.jm_meaning.specs.State.{Ending, Part, normal, and_then, with_unit, tried, text}
 use Rattle.jm_meaning.specs.Rounds.{rounds, loop_turns, while_turns, each_turns, group_turns, round_of_group}
 use Rattle.jm_meaning.specs.Children.{Below, children_of, in_order, once_only, if_part}
+use Rattle.jm_meaning.specs.Choices.{switch, interleave, random, random_order}
+use Rattle.jm_meaning.specs.Transactions.{transaction}
 use Rattle.jm_meaning.specs.Sampling.{sampling}
 use Rattle.jm_meaning.specs.Beginning.{Options, max_rounds, first_of, set_first}
 use Rattle.jm_meaning.specs.RampUp.{pause_of}
@@ -50,6 +53,13 @@ kind_meaning here below number e (While condition) round s =
 kind_meaning here below number e (ForEach end input output separator start) round s =
     rounds max_rounds (each_turns e.name (record { input = input; separator = separator; start = start; end = end }) output)
     (λ i. in_order below i (children_in here e)) 0 s
+kind_meaning here below number e (Switch value) round s =
+    switch below round (run_names here.plan.elements e) (children_in here e) (text value) s
+kind_meaning here below number e Interleave round s = interleave below round number (children_in here e) s
+kind_meaning here below number e Random round s = random below round (children_in here e) s
+kind_meaning here below number e RandomOrder round s = random_order below round (children_in here e) s
+kind_meaning here below number e Transaction round s =
+    transaction (label_of here.plan.elements e.name) (in_order below round (children_in here e)) s
 kind_meaning here below number e (Script replies request) round s =
     with_unit s (sampling (label_of here.plan.elements e.name) number request here.at_failure)
 kind_meaning here below number e kind round s = over (normal s)

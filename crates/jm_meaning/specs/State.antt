@@ -1,19 +1,22 @@
 -- What a thread carries through its run, and how a part of the run ends.
-use Rattle.std.specs.Prelude.{ℕ, zero, suc, List, Option, Some, None}
+use Rattle.std.specs.Prelude.{ℕ, zero, suc, List, Option, Some, None, slice_index_or, slice_set}
 use Rattle.jm_base.specs.declared.types.End.{End}
 use Rattle.jm_base.specs.declared.types.End.TheVariants.{SampleLimit, RoundLimit, ValueLimit}
 use Rattle.jm_base.specs.Run.{Run, over, ◌>>=◌}
 use Rattle.template_text.specs.Pieces.{Pieces}
 use Rattle.var_functions.specs.declared.state.UserState.{UserState}
+use Rattle.var_functions.specs.State.{Functions}
 use Rattle.var_functions.specs.Vars.{Variables, put_var}
 use Rattle.var_functions.specs.Expansion.{Expanded, expansion}
 use Rattle.jm_meaning.specs.declared.signal.Signal.{Signal}
 use Rattle.jm_meaning.specs.declared.signal.Signal.TheVariants.{Normal, NextLoop, Stop}
 
--- what templates don't see: the units left of the sample budget, and the rounds left
+-- what templates don't see: the units left of the sample budget, the rounds left, and the places of the Interleave
+-- Controllers, each at the number of its element
 pub record Own : Type 0 where
   pub units : ℕ
   pub rounds : ℕ
+  pub places : List ℕ
 
 -- the variables and what functions keep, and the rest
 pub record State : Type 0 where
@@ -48,10 +51,26 @@ and_then run next = run >>= on_normal next
 
 -- with so many units, or rounds, left
 abbrev pub at_units : Own → ℕ → Own
-at_units own n = record { units = n; rounds = own.rounds }
+at_units own n = record { units = n; rounds = own.rounds; places = own.places }
 
 abbrev pub at_rounds : Own → ℕ → Own
-at_rounds own n = record { units = own.units; rounds = n }
+at_rounds own n = record { units = own.units; rounds = n; places = own.places }
+
+-- with these places
+abbrev pub at_places : Own → List ℕ → Own
+at_places own places = record { units = own.units; rounds = own.rounds; places = places }
+
+-- the place of the element of this number
+abbrev pub place_of : List ℕ → ℕ → ℕ
+place_of places number = slice_index_or places number 0
+
+-- with the element of this number at this place
+abbrev pub with_place : List ℕ → ℕ → ℕ → List ℕ
+with_place places number place = slice_set places number place
+
+-- with so much kept by functions
+abbrev pub with_fns : State → Functions → State
+with_fns s fns = state_of (record { vars = s.user.vars; fns = fns }) s.own
 
 -- a unit is used, or none is left
 abbrev pub taking_unit : ℕ → State → Part → Run Ending

@@ -3,14 +3,18 @@
 
 pub mod beginning;
 pub mod item;
+pub mod places;
 pub mod ramp_up;
 pub mod running;
 pub mod sampler;
 pub mod signal;
+pub mod transaction;
 
 pub use beginning::set_first;
 pub use item::Item;
+pub use places::Places;
 pub use ramp_up::ramp_up_pause;
 pub use running::runs;
 pub use sampler::{put_copy, run_sampler, sample_once};
 pub use signal::{Signal, signal_of};
+pub use transaction::Tally;

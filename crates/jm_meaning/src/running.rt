@@ -19,6 +19,11 @@ pub fn runs(kind: &Kind) -> bool
             | Kind::If { .. }
             | Kind::While { .. }
             | Kind::ForEach { .. }
+            | Kind::Switch { .. }
+            | Kind::Interleave
+            | Kind::Random
+            | Kind::RandomOrder
+            | Kind::Transaction
             | Kind::Script { .. }
             | Kind::UserVariables { .. }
     )

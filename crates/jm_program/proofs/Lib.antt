@@ -2,3 +2,5 @@ pub mod TextLaws
 pub mod ProgramLaws
 pub mod ExactLaws
 pub mod UnbuiltLaws
+pub mod CountLaws
+pub mod WordLaws

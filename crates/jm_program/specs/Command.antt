@@ -13,10 +13,12 @@ use Rattle.element_tree.specs.Walk.{reading}
 use Rattle.jm_program.specs.declared.status.Status.{Status}
 use Rattle.jm_program.specs.declared.status.Status.TheVariants.{Done, Usage, Refused, ReadFault, WriteFault, Memory}
 use Rattle.command_words.specs.declared.command.Command.{Command}
-use Rattle.command_words.specs.declared.command.Command.TheVariants.{Check, Solo}
+use Rattle.command_words.specs.declared.command.Command.TheVariants.{Check, Make, Solo}
+use Rattle.command_words.specs.declared.command.Make.{Make as MakeOf}
+use Rattle.plan_maker.specs.Generated.{generated}
 use Rattle.jm_program.specs.declared.refusal.Refusal.{Refusal}
 use Rattle.jm_program.specs.declared.refusal.Refusal.TheVariants.{TooLong}
-use Rattle.jm_program.specs.Refusals.{IsAccepted, IsRefused, not_built, solo_fault, refusal_line}
+use Rattle.jm_program.specs.Refusals.{ReadsPlan, IsAccepted, IsRefused, not_built, solo_fault, refusal_line}
 use Rattle.jm_program.specs.Printed.{results_for, report_for, MayPrint}
 
 abbrev pub usage_line : List ℕ
@@ -54,6 +56,19 @@ pub record Accepts (command : Command) (old new : Edges) (plan : Tree) : Type 0 
   pub read : TookAll old.left new.left bytes
   pub accepted : IsAccepted command bytes old.asked new.asked plan
 
+-- nothing was read, and the plan is the one that is made for the size
+pub record Makes (m : MakeOf) (old new : Edges) (plan : Tree) : Type 0 where
+  pub made : plan ≡ generated m.size
+  pub unread : Keeps old.left new.left
+  pub calm : new.read_faults ≡ old.read_faults
+  pub asked : new.asked ≡ old.asked
+
+-- the plan that a command runs: `make` has made it, and the others have read and accepted it
+abbrev pub HasPlan : Command → Edges → Edges → Tree → Type 0
+HasPlan Check old new plan = Accepts Check old new plan
+HasPlan (Make m) old new plan = Makes m old new plan
+HasPlan (Solo s) old new plan = Accepts (Solo s) old new plan
+
 -- the plan has more bytes than its limit
 pub record RefusesLong (old new : Edges) (refusal : Refusal) : Type 0 where
   pub long : TookCount old.left new.left (plan_limit + 1)
@@ -68,12 +83,12 @@ pub record RefusesRead (command : Command) (old new : Edges) (refusal : Refusal)
   pub refused : IsRefused command bytes old.asked new.asked refusal
 
 abbrev pub Refuses : Command → Edges → Edges → Refusal → Type 0
-Refuses command old new refusal = RefusesLong old new refusal ⊎ RefusesRead command old new refusal
+Refuses command old new refusal = ReadsPlan command × (RefusesLong old new refusal ⊎ RefusesRead command old new refusal)
 
--- Status 0: the plan was accepted, and the texts of the command stand in the results and the reports.
+-- Status 0: the command has its plan, and its texts stand in the results and the reports.
 pub record IsDone (command : Command) (old new : Edges) : Type 0 where
   pub plan : Tree
-  pub accepts : Accepts command old new plan
+  pub has_plan : HasPlan command old new plan
   pub results : Appends old.results new.results (results_for command plan)
   pub reports : Appends old.reports new.reports (report_for command plan)
   pub no_fault : HasNoFault old new
@@ -95,7 +110,8 @@ pub record IsRefusal (command : Command) (old new : Edges) : Type 0 where
   pub no_fault : HasNoFault old new
 
 -- Status 4: the source's count of faults rose, and nothing was printed.
-pub record IsUnread (old new : Edges) : Type 0 where
+pub record IsUnread (command : Command) (old new : Edges) : Type 0 where
+  pub reads : ReadsPlan command
   pub rose : Rose old.read_faults new.read_faults
   pub results : Keeps old.results new.results
   pub reports : Keeps old.reports new.reports
@@ -112,7 +128,7 @@ pub record ResultsUnwritten (command : Command) (old new : Edges) : Type 0 where
   pub plan : Tree
   pub text : List ℕ
   pub report : List ℕ
-  pub accepts : Accepts command old new plan
+  pub has_plan : HasPlan command old new plan
   pub may : MayPrint command plan text report
   pub rose : Rose old.result_faults new.result_faults
   pub results : AppendsFront old.results new.results text
@@ -122,7 +138,7 @@ pub record ReportUnwritten (command : Command) (old new : Edges) : Type 0 where
   pub plan : Tree
   pub text : List ℕ
   pub report : List ℕ
-  pub accepts : Accepts command old new plan
+  pub has_plan : HasPlan command old new plan
   pub may : MayPrint command plan text report
   pub rose : Rose old.report_faults new.report_faults
   pub results : Appends old.results new.results text
@@ -140,7 +156,7 @@ abbrev pub Says : Option Command → Edges → Edges → Status → Type 0
 Says words old new Done = (command : Command) × (words ≡ Some command) × IsDone command old new
 Says words old new Usage = (words ≡ None) × IsUsage old new
 Says words old new Refused = (command : Command) × (words ≡ Some command) × IsRefusal command old new
-Says words old new ReadFault = (command : Command) × (words ≡ Some command) × IsUnread old new
+Says words old new ReadFault = (command : Command) × (words ≡ Some command) × IsUnread command old new
 Says words old new WriteFault = IsUnwritten words old new
 Says words old new Memory = Unit {0}
 
@@ -173,6 +189,7 @@ status_of_fault (Some fault) otherwise = 3
 -- the status of a plan that is accepted: 0, or 3 where it is not fit for the command
 abbrev pub status_of_plan : Command → Raw → Tree → ℕ
 status_of_plan Check tree plan = 0
+status_of_plan (Make m) tree plan = 0
 status_of_plan (Solo s) tree plan = status_of_fault (not_built tree plan.elements) (status_of_fault (solo_fault plan s) 0)
 
 abbrev pub status_of_outcome : Command → Raw → Result Tree BuildError → ℕ
@@ -183,10 +200,16 @@ abbrev pub status_of_shape : Command → Result Raw TreeError → ℕ
 status_of_shape command (Ok tree) = status_of_outcome command tree (outcome (reading tree))
 status_of_shape command (Err e) = 3
 
--- the status that the words and the bytes of the plan call for, where every call of the source and the sinks succeeds
+-- the status of the bytes of a plan that the command reads
+abbrev pub status_of_bytes : Command → List ℕ → ℕ
+status_of_bytes command bytes = if nat_le (length bytes) plan_limit then status_of_shape command (reading_of bytes) else 3
+
+-- the status that the words and the bytes of the plan call for, where every call of the source and the sinks succeeds; `make` reads none
 abbrev pub status_for : Option Command → List ℕ → ℕ
 status_for None bytes = 2
-status_for (Some command) bytes = if nat_le (length bytes) plan_limit then status_of_shape command (reading_of bytes) else 3
+status_for (Some Check) bytes = status_of_bytes Check bytes
+status_for (Some (Make m)) bytes = 0
+status_for (Some (Solo s)) bytes = status_of_bytes (Solo s) bytes
 
 -- each pattern that a reading asks for has a reading itself, in the grammar of regular expressions
 abbrev pub ArePatterns : {A : Type 0} → Reads A → Type 0

@@ -1,5 +1,5 @@
 -- What the parts of the program say.
-use Rattle.std.specs.Prelude.{◌≡◌, ◌⊎◌, ℕ, ◌<◌, Bool, true, List, length, Option, Some, None}
+use Rattle.std.specs.Prelude.{◌≡◌, ◌⊎◌, ℕ, ◌<◌, ◌≤◌, Bool, true, List, length, Option, Some, None}
 use Rattle.std.specs.Io.KnownBytes.{Appends}
 use Rattle.jm_base.specs.Counts.{Rose}
 use Rattle.edge_io.specs.Edges.{AppendsFront}
@@ -8,7 +8,8 @@ use Rattle.element_tree.specs.Tree.{Tree, threads_of}
 use Rattle.jm_program.specs.declared.status.Status.{Status}
 use Rattle.jm_program.specs.declared.status.Status.TheVariants.{Done, Usage, Refused, ReadFault, WriteFault, Memory}
 use Rattle.command_words.specs.declared.command.Command.{Command}
-use Rattle.command_words.specs.declared.command.Command.TheVariants.{Check, Solo as SoloCommand}
+use Rattle.command_words.specs.declared.command.Command.TheVariants.{Check, Make, Solo as SoloCommand}
+use Rattle.command_words.specs.declared.command.Make.{Make as MakeOf}
 use Rattle.command_words.specs.declared.command.Solo.{Solo}
 use Rattle.plan_json.specs.Shape.{Raw}
 use Rattle.jm_program.specs.declared.refusal.Refusal.{Refusal}
@@ -16,7 +17,7 @@ use Rattle.jm_program.specs.declared.refusal.Refusal.TheVariants.{TooLong, Shape
 use Rattle.jm_program.specs.declared.judge.Judged.{Judged}
 use Rattle.jm_program.specs.declared.judge.Judged.TheVariants.{Fit, Unfit, NoMemory}
 use Rattle.jm_program.specs.Refusals.{RunsAlone, IsAccepted, IsRefused, not_built, solo_fault, refusal_line}
-use Rattle.jm_program.specs.Printed.{results_for, report_for, MayPrint}
+use Rattle.jm_program.specs.Printed.{default_solo, results_for, report_for, MayPrint}
 
 -- what the two sinks hold, where it is told, and their counts of faults
 pub record Sinks : Type 0 where
@@ -123,6 +124,17 @@ WholeSays whole ReadFault = ⊥
 WholeSays whole WriteFault = ⊥
 WholeSays whole Memory = Unit {0}
 
+-- a plan can be made for the size that `make` is given
+pub record HasSize (m : MakeOf) : Type 0 where
+  pub some : 1 ≤ m.size
+  pub few : m.size ≤ 2047
+
+abbrev pub IsInRange : Option Command → Type 0
+IsInRange None = Unit {0}
+IsInRange (Some Check) = Unit {0}
+IsInRange (Some (Make m)) = HasSize m
+IsInRange (Some (SoloCommand s)) = Unit {0}
+
 -- ---- the plan of some bytes
 
 -- a plan that is fit for the command, or why it is refused
@@ -131,10 +143,16 @@ Judges command bytes before after (Fit plan) = IsAccepted command bytes before a
 Judges command bytes before after (Unfit refusal) = IsRefused command bytes before after refusal
 Judges command bytes before after NoMemory = Unit {0}
 
--- the thread that is run is one of the plan's
-abbrev pub HasThread : Command → Tree → Type 0
-HasThread Check plan = Unit {0}
-HasThread (SoloCommand s) plan = s.thread < length (threads_of plan)
+-- the thread that is run is one of the plan's, and its samples can be summed
+pub record HasThread (s : Solo) (plan : Tree) : Type 0 where
+  pub thread : s.thread < length (threads_of plan)
+  pub samples : s.samples ≤ 4194304
+
+-- the command can be run on the plan
+abbrev pub CanRun : Command → Tree → Type 0
+CanRun Check plan = Unit {0}
+CanRun (Make m) plan = HasThread default_solo plan
+CanRun (SoloCommand s) plan = HasThread s plan
 
 -- a plan of which one thread can be run, or why it can't
 abbrev pub JudgesSolo : Solo → Raw → Tree → Judged → Type 0

@@ -1,16 +1,21 @@
 -- The texts of a run of one thread.
-use Rattle.std.specs.Prelude.{◌≡◌, codes, ℕ, Bool, true, false, List, [], ◌∷◌, ◌++◌, map, Option, Some, None}
+use Rattle.std.specs.Prelude.{◌≡◌, codes, ℕ, Bool, true, false, List, [], ◌∷◌, ◌++◌, length, map, Option, Some, None}
 use Rattle.std.specs.List.{flat_map}
 use Rattle.std.specs.Option.{option_map_or}
+use Rattle.jm_base.specs.declared.types.Entry.{Entry}
+use Rattle.var_functions.specs.Props.{pairs_of}
 use Rattle.jm_base.specs.declared.types.End.{End}
 use Rattle.jm_base.specs.declared.types.End.TheVariants.{Completed, StopThread, StopTest, Stopped, SampleLimit, RoundLimit, ValueLimit, NoMemory}
 use Rattle.jm_base.specs.Run.{over_value}
 use Rattle.jm_base.specs.Outside.{script_form}
 use Rattle.element_tree.specs.Tree.{Tree}
+use Rattle.element_tree.specs.Names.{labels_of}
 use Rattle.element_tree.specs.Written.{plan_text}
+use Rattle.interval_tables.specs.declared.report.Report.{Report}
+use Rattle.interval_tables.specs.Rows.{sum_of}
 use Rattle.command_words.specs.declared.command.Solo.{Solo}
 use Rattle.command_words.specs.declared.command.Command.{Command}
-use Rattle.command_words.specs.declared.command.Command.TheVariants.{Check, Solo as SoloCommand}
+use Rattle.command_words.specs.declared.command.Command.TheVariants.{Check, Make, Solo as SoloCommand}
 use Rattle.jm_meaning.specs.declared.item.Item.{Item}
 use Rattle.jm_meaning.specs.declared.item.Item.TheVariants.{Paused, Sampled, Null, Entered, Left, Ended}
 use Rattle.jm_meaning.specs.Beginning.{Options}
@@ -18,10 +23,16 @@ use Rattle.jm_meaning.specs.Meaning.{events}
 use Rattle.jm_meaning.specs.Shown.{shown}
 use Rattle.outside_world.specs.Scripted.{scripts_of}
 use Rattle.output_lines.specs.Lines.{header_text, result_text, end_text}
+use Rattle.output_lines.specs.Reports.{summary_text}
+use Rattle.thread_machine.specs.Stepped.{entry_of}
 
 -- the seed, the properties and the sample budget of a run of one thread
 abbrev pub options_of : Solo → Options
 options_of s = record { seed = s.seed; props = s.props; budget = s.samples }
+
+-- what stands for the options of `solo` that are not given; its properties are those of an empty text
+abbrev pub default_solo : Solo
+default_solo = record { seed = 0; props = pairs_of []; samples = 65536; thread = 0 }
 
 -- what a run of one thread of a plan shows, over the replies that the plan has itself
 unfoldable pub shown_of : Tree → Solo → List Item
@@ -54,9 +65,26 @@ last_end [] = None
 last_end (item ∷ []) = end_of_item item
 last_end (item ∷ next ∷ items) = last_end (next ∷ items)
 
--- the report of what a thread shows: its end line
+-- what is counted of an item: of a sample its label, whether it succeeded, its time and its bytes
+abbrev pub entries_in : Item → List Entry
+entries_in (Paused ms) = []
+entries_in (Sampled sample) = entry_of sample ∷ []
+entries_in (Null sampler) = []
+entries_in (Entered lock) = []
+entries_in (Left lock) = []
+entries_in (Ended end) = []
+
+-- what is counted of all that a thread shows, in its order
+abbrev pub entries_of : List Item → List Entry
+entries_of items = flat_map entries_in items
+
+-- the sum of what is counted: a row for each label of the plan
+abbrev pub counted : Tree → List Item → Report
+counted plan items = record { interval = 0; rows = sum_of (length (labels_of plan.elements)) (entries_of items) }
+
+-- the report of what a thread shows: the summary of its samples, and then its end line
 abbrev pub report_of : Tree → ℕ → List Item → List ℕ
-report_of plan thread items = option_map_or (end_text plan thread) (last_end items) []
+report_of plan thread items = summary_text plan (counted plan items) ++ option_map_or (end_text plan thread) (last_end items) []
 
 -- the items are those of the plan's meaning; of a thread that was cut for want of memory nothing is said
 abbrev pub IsWhole : Tree → Solo → List Item → End → Type 0
@@ -87,28 +115,29 @@ end_is_whole NoMemory = false
 
 -- ---- the texts of a command
 
--- the results of a command on a plan: for `check` the plan as it is written, and a line feed; for `solo` the header and the result lines
+-- the results of a command on a plan: for `check` the plan as it is written, and a line feed; for `make` nothing; for `solo` the header and the result lines
 abbrev pub results_for : Command → Tree → List ℕ
 results_for Check plan = plan_text plan ++ codes "\n"
+results_for (Make m) plan = []
 results_for (SoloCommand s) plan = results_of plan s.thread (shown_of plan s)
 
--- the report of a command on a plan: for `check` nothing, for `solo` the end line
+-- the report of a command on a plan: for `check` nothing, for `solo` the summary and the end line, and for `make` those of a `solo` without options
 abbrev pub report_for : Command → Tree → List ℕ
 report_for Check plan = []
+report_for (Make m) plan = report_of plan default_solo.thread (shown_of plan default_solo)
 report_for (SoloCommand s) plan = report_of plan s.thread (shown_of plan s)
 
--- a thread has shown items that are printed so
-pub record ShowsItems (plan : Tree) (s : Solo) (results report : List ℕ) : Type 0 where
-  pub items : List Item
+-- a thread has shown these items, and this is its report
+pub record HasShown (plan : Tree) (s : Solo) (items : List Item) (report : List ℕ) : Type 0 where
   pub end : End
   pub shown_as : IsShown plan s items end
-  pub results_are : results ≡ results_of plan s.thread items
   pub report_is : report ≡ report_of plan s.thread items
 
 -- These texts may be printed: those of the plan itself, or those of a thread that has run, maybe cut for want of memory.
 abbrev pub MayPrint : Command → Tree → List ℕ → List ℕ → Type 0
 MayPrint Check plan results report = (results ≡ results_for Check plan) × (report ≡ [])
-MayPrint (SoloCommand s) plan results report = ShowsItems plan s results report
+MayPrint (Make m) plan results report = (results ≡ []) × ((items : List Item) × HasShown plan default_solo items report)
+MayPrint (SoloCommand s) plan results report = (items : List Item) × (results ≡ results_of plan s.thread items) × HasShown plan s items report
 
 -- the texts of a command on a plan; where they are not whole, memory was wanting
 pub record AreTexts (command : Command) (plan : Tree) (results report : List ℕ) (whole : Bool) : Type 0 where

@@ -16,7 +16,7 @@ use Rattle.element_tree.specs.Tree.{Tree, threads_of}
 use Rattle.element_tree.specs.Walk.{is_enabled, reading}
 use Rattle.jm_meaning.specs.Runs.{runs}
 use Rattle.command_words.specs.declared.command.Command.{Command}
-use Rattle.command_words.specs.declared.command.Command.TheVariants.{Check, Solo}
+use Rattle.command_words.specs.declared.command.Command.TheVariants.{Check, Make, Solo}
 use Rattle.command_words.specs.declared.command.Solo.{Solo as SoloOf}
 use Rattle.jm_program.specs.declared.refusal.Refusal.{Refusal}
 use Rattle.jm_program.specs.declared.refusal.Refusal.TheVariants as refusals
@@ -47,6 +47,12 @@ not_built tree elements = option_map (place_at tree) (position does_not_run elem
 
 -- ---- what a command asks of a plan
 
+-- `make` makes its plan, and the others read theirs
+abbrev pub ReadsPlan : Command → Type 0
+ReadsPlan Check = Unit {0}
+ReadsPlan (Make m) = ⊥
+ReadsPlan (Solo s) = Unit {0}
+
 -- a thread that the plan has, and a sample budget that all its threads can have
 abbrev pub solo_fault : Tree → SoloOf → Option BuildError
 solo_fault plan s =
@@ -61,6 +67,7 @@ pub record RunsAlone (tree : Raw) (plan : Tree) (s : SoloOf) : Type 0 where
 
 abbrev pub IsFit : Command → Raw → Tree → Type 0
 IsFit Check tree plan = Unit {0}
+IsFit (Make m) tree plan = ⊥
 IsFit (Solo s) tree plan = RunsAlone tree plan s
 
 -- ---- acceptance and refusal
@@ -79,12 +86,14 @@ pub record IsAccepted (command : Command) (bytes : List ℕ) (before after : Ask
 -- what does not run yet
 abbrev pub IsNotBuilt : Command → List ℕ → Asked → Asked → Place → Type 0
 IsNotBuilt Check bytes before after path = ⊥
+IsNotBuilt (Make m) bytes before after path = ⊥
 IsNotBuilt (Solo s) bytes before after path =
     (tree : Raw) × (plan : Tree) × IsPlanOf bytes before after tree plan × (not_built tree plan.elements ≡ Some path)
 
 -- a condition of the command does not hold
 abbrev pub IsUnfit : Command → List ℕ → Asked → Asked → BuildError → Type 0
 IsUnfit Check bytes before after e = ⊥
+IsUnfit (Make m) bytes before after e = ⊥
 IsUnfit (Solo s) bytes before after e =
     (tree : Raw) × (plan : Tree) × IsPlanOf bytes before after tree plan × (not_built tree plan.elements ≡ None) × (solo_fault plan s ≡ Some e)
 

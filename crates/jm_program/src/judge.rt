@@ -3,7 +3,7 @@
 ghost use Rattle.std.specs.Prelude.{◌≡◌};
 ghost use Rattle.plan_json.specs.Seen.{raw_view};
 ghost use Rattle.jm_program.specs.Parts.{Judges, JudgesSolo};
-ghost use Rattle.jm_program.specs.Refusals.{solo_fault};
+ghost use Rattle.jm_program.specs.Refusals.{ReadsPlan, solo_fault};
 
 use crate::refusal::Refusal;
 use crate::unbuilt::not_built;
@@ -32,6 +32,7 @@ pub fn judge<G: Patterns>(
     bytes: &[u8],
     patterns: &mut G,
 ) -> Judged
+    requires { ReadsPlan command.now }
     ensures { Judges command.now bytes.now (G.account patterns.old) (G.account patterns.new) result }
 {
     let tree = match read_tree(alloc, bytes) {
@@ -46,6 +47,7 @@ pub fn judge<G: Patterns>(
     };
     match command {
         Command::Check => Judged::Fit(plan),
+        Command::Make(_) => unreachable!(),
         Command::Solo(solo) => fit_to_run(alloc, solo, &tree, plan),
     }
 }

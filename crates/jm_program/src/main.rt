@@ -4,6 +4,7 @@
 mod judge;
 mod program;
 mod refusal;
+mod report;
 mod status;
 mod texts;
 mod unbuilt;

@@ -2,27 +2,31 @@
 
 ghost use Rattle.std.specs.Prelude.{◌≡◌, ◌⊎◌, map, string_bytes, List, ℕ, Some, None};
 ghost use Rattle.command_words.specs.declared.command.Command.{Command};
+ghost use Rattle.command_words.specs.declared.command.Command.TheVariants.{Make as MakeCommand};
 ghost use Rattle.command_words.specs.Commands.{command_of};
 ghost use Rattle.jm_program.specs.Command.{Says, IsStatus, IsDone, IsUsage, IsRefusal, IsUnread, IsUnwritten, NoRise, HasPatterns, status_for, edges};
-ghost use Rattle.jm_program.specs.Parts.{HasThread, LineSays, RefusalSays, TextsSay, PlanSays, BytesSay, WholeSays, sinks};
+ghost use Rattle.plan_maker.specs.Generated.{generated};
+ghost use Rattle.jm_program.specs.Refusals.{ReadsPlan};
+ghost use Rattle.jm_program.specs.Parts.{CanRun, HasSize, IsInRange, LineSays, RefusalSays, TextsSay, PlanSays, BytesSay, WholeSays, sinks};
 
 use crate::judge::{Judged, judge};
 use crate::refusal::{Refusal, refusal_line};
 use crate::status::Status;
 use crate::texts::{Texts, texts_of};
 use crate::words::command_of;
-use command_words::Command;
+use command_words::{Command, Make};
 use edge_io::{ReadError, Sink, Source, read_all, write_all};
 use element_props::Patterns;
 use element_tree::Plan;
+use plan_maker::make_plan;
 use std::alloc::Global;
 
 /// The most bytes that a plan has.
 const PLAN_LIMIT: u32 = 4_194_304;
 
-/// Runs the program on its words, without its own name. The plan is read from `plan`, the results go to `results`,
-/// and the end line, the usage line or a refusal line to `reports`. `patterns` makes the plan's patterns.
-/// It gives the exit status.
+/// Runs the program on its words, without its own name. The plan is read from `plan`, except by `make`, which makes its own;
+/// the results go to `results`, and the summary and the end line, the usage line or a refusal line to `reports`. `patterns`
+/// makes the plan's patterns. It gives the exit status.
 pub fn plain_command<S: Source, O: Sink, E: Sink, G: Patterns>(
     alloc: Global,
     words: &Vec<String>,
@@ -41,7 +45,7 @@ pub fn plain_command<S: Source, O: Sink, E: Sink, G: Patterns>(
     ensures refused { result ≡ 3 → (command : Command) × (command_of (map string_bytes words.now.items) ≡ Some command) × IsRefusal command
         (edges (S.left plan.old) (S.faults plan.old) (O.written results.old) (O.faults results.old) (E.written reports.old) (E.faults reports.old) (G.account patterns.old))
         (edges (S.left plan.new) (S.faults plan.new) (O.written results.new) (O.faults results.new) (E.written reports.new) (E.faults reports.new) (G.account patterns.new)) }
-    ensures unread { result ≡ 4 → (command : Command) × (command_of (map string_bytes words.now.items) ≡ Some command) × IsUnread
+    ensures unread { result ≡ 4 → (command : Command) × (command_of (map string_bytes words.now.items) ≡ Some command) × IsUnread command
         (edges (S.left plan.old) (S.faults plan.old) (O.written results.old) (O.faults results.old) (E.written reports.old) (E.faults reports.old) (G.account patterns.old))
         (edges (S.left plan.new) (S.faults plan.new) (O.written results.new) (O.faults results.new) (E.written reports.new) (E.faults reports.new) (G.account patterns.new)) }
     ensures unwritten { result ≡ 5 → IsUnwritten (command_of (map string_bytes words.now.items))
@@ -87,20 +91,53 @@ fn run_command<S: Source, O: Sink, E: Sink, G: Patterns>(
     reports: &mut E,
     patterns: &mut G,
 ) -> Status
+    requires { IsInRange command }
     ensures { Says command
         (edges (S.left plan.old) (S.faults plan.old) (O.written results.old) (O.faults results.old) (E.written reports.old) (E.faults reports.old) (G.account patterns.old))
         (edges (S.left plan.new) (S.faults plan.new) (O.written results.new) (O.faults results.new) (E.written reports.new) (E.faults reports.new) (G.account patterns.new))
         result }
 {
-    let Some(command) = command else {
-        return say(
+    match command {
+        None => say(
             reports,
             b"usage: jm check|make|run|solo|weave [--option value]\n",
             Status::Usage,
-        );
+        ),
+        Some(Command::Make(make)) => run_made(alloc, make, results, reports),
+        Some(command) => run_read(alloc, &command, plan, results, reports, patterns),
+    }
+}
+
+// Makes a plan and prints its report.
+fn run_made<O: Sink, E: Sink>(alloc: Global, make: Make, results: &mut O, reports: &mut E) -> Status
+    requires { HasSize make }
+    ensures { PlanSays (MakeCommand make) (generated make.size)
+        (sinks (O.written results.old) (O.faults results.old) (E.written reports.old) (E.faults reports.old))
+        (sinks (O.written results.new) (O.faults results.new) (E.written reports.new) (E.faults reports.new)) result }
+{
+    let Ok(plan) = make_plan(alloc, make.size) else {
+        return Status::Memory;
     };
+    run_plan(alloc, &Command::Make(make), &plan, results, reports)
+}
+
+// Reads a plan, and does with it what the command says.
+fn run_read<S: Source, O: Sink, E: Sink, G: Patterns>(
+    alloc: Global,
+    command: &Command,
+    plan: &mut S,
+    results: &mut O,
+    reports: &mut E,
+    patterns: &mut G,
+) -> Status
+    requires { ReadsPlan command.now }
+    ensures { Says (Some command.now)
+        (edges (S.left plan.old) (S.faults plan.old) (O.written results.old) (O.faults results.old) (E.written reports.old) (E.faults reports.old) (G.account patterns.old))
+        (edges (S.left plan.new) (S.faults plan.new) (O.written results.new) (O.faults results.new) (E.written reports.new) (E.faults reports.new) (G.account patterns.new))
+        result }
+{
     match read_all(alloc, plan, PLAN_LIMIT) {
-        Ok(bytes) => run_bytes(alloc, &command, &bytes, results, reports, patterns),
+        Ok(bytes) => run_bytes(alloc, command, &bytes, results, reports, patterns),
         Err(ReadError::ReadFault) => Status::ReadFault,
         Err(ReadError::TooLong) => refuse(alloc, &Refusal::TooLong, reports),
         Err(ReadError::NoMemory) => Status::Memory,
@@ -116,6 +153,7 @@ fn run_bytes<O: Sink, E: Sink, G: Patterns>(
     reports: &mut E,
     patterns: &mut G,
 ) -> Status
+    requires { ReadsPlan command.now }
     ensures { BytesSay command.now bytes.now (G.account patterns.old) (G.account patterns.new)
         (sinks (O.written results.old) (O.faults results.old) (E.written reports.old) (E.faults reports.old))
         (sinks (O.written results.new) (O.faults results.new) (E.written reports.new) (E.faults reports.new)) result }
@@ -135,7 +173,7 @@ fn run_plan<O: Sink, E: Sink>(
     results: &mut O,
     reports: &mut E,
 ) -> Status
-    requires { HasThread command.now plan.now }
+    requires { CanRun command.now plan.now }
     ensures { PlanSays command.now plan.now
         (sinks (O.written results.old) (O.faults results.old) (E.written reports.old) (E.faults reports.old))
         (sinks (O.written results.new) (O.faults results.new) (E.written reports.new) (E.faults reports.new)) result }

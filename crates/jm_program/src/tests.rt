@@ -1,13 +1,17 @@
 // The program over sources and sinks in memory.
 
+mod choices;
 mod command_lines;
 mod controllers;
+mod generated;
 mod limits;
 mod on_error;
 mod properties;
 mod shapes;
 mod sizes;
+mod summaries;
 mod tables;
+mod transactions;
 mod trees;
 mod variables;
 
@@ -50,6 +54,12 @@ const LOOP_PLAN: &[u8] =
 
 const LOOP_RESULTS: &[u8] =
     b"timeStamp,elapsed,label,responseCode,responseMessage,threadName,success,failureMessage,bytes,interval\n0,5,A,200,OK,TG 1-1,true,,0,0\n5,2,B,200,OK,TG 1-1,true,,2,0\n7,7,A,500,Bad,TG 1-1,false,,0,0\n14,2,B,200,OK,TG 1-1,true,,2,0\n16,5,A,200,OK,TG 1-1,true,,0,0\n21,2,B,200,OK,TG 1-1,true,,2,0\n";
+
+const LOOP_REPORT: &[u8] =
+    b"total,A,3,1,17,0,5,7\ntotal,B,3,0,6,6,2,2\nall,6,1,23,6\nend,TG 1-1,Completed\n";
+
+// The report of a thread without samples.
+const EMPTY_REPORT: &[u8] = b"all,0,0,0,0\nend,TG 1-1,Completed\n";
 
 const HEADER: &[u8] =
     b"timeStamp,elapsed,label,responseCode,responseMessage,threadName,success,failureMessage,bytes,interval\n";
@@ -127,13 +137,13 @@ fn expect(rt: &impl Abort, ran: &Ran, status: u8, results: &[u8], reports: &[u8]
 #[test]
 fn loop_of_two_samplers_prints_six_lines(rt: HostRuntime) -> Result<(), Fail> {
     let ran = run(rt.alloc(), &["solo"], LOOP_PLAN, NOTHING_FAILS)?;
-    expect(&rt, &ran, 0, LOOP_RESULTS, b"end,TG 1-1,Completed\n");
+    expect(&rt, &ran, 0, LOOP_RESULTS, LOOP_REPORT);
     Ok(())
 }
 
 // Command lines that are no command of the program, their words parted by spaces: none of them reads the plan.
 const OTHER_WORDS: &str =
-    "solo --seed 1 --seed 2\nsolo --props x\nsolo -\nsolo solo\nSolo\nsol\nsolo --thread 64\nsolo --samples 0\nsolo --samples 262145\nsolo --seed 18446744073709551616\nsolo --seed -1\nsolo --props\nsolo  --seed 1\nsolo --help\n--help\ncheck --seed 1\ncheck solo\nmake --size 7\nweave\nrun --every 500\nwalk\n";
+    "solo --seed 1 --seed 2\nsolo --props x\nsolo -\nsolo solo\nSolo\nsol\nsolo --thread 64\nsolo --samples 0\nsolo --samples 262145\nsolo --seed 18446744073709551616\nsolo --seed -1\nsolo --props\nsolo  --seed 1\nsolo --help\n--help\ncheck --seed 1\ncheck solo\nmake\nmake --size 0\nmake --size 2048\nmake --size 7 --seed 1\nweave\nrun --every 500\nwalk\n";
 
 #[test]
 fn other_words_print_the_usage_line(rt: HostRuntime) -> Result<(), Fail> {
@@ -158,7 +168,7 @@ const SAME_WORDS: &str =
 fn options_of_solo_come_in_any_order(rt: HostRuntime) -> Result<(), Fail> {
     for line in SAME_WORDS.lines() {
         let ran = run_line(rt.alloc(), line, LOOP_PLAN, NOTHING_FAILS)?;
-        expect(&rt, &ran, 0, LOOP_RESULTS, b"end,TG 1-1,Completed\n");
+        expect(&rt, &ran, 0, LOOP_RESULTS, LOOP_REPORT);
     }
     Ok(())
 }
@@ -230,7 +240,7 @@ fn each_failing_read_prints_nothing(rt: HostRuntime) -> Result<(), Fail> {
         &run(rt.alloc(), &["solo"], LOOP_PLAN, failing)?,
         0,
         LOOP_RESULTS,
-        b"end,TG 1-1,Completed\n",
+        LOOP_REPORT,
     );
     Ok(())
 }
@@ -295,7 +305,10 @@ fn a_group_without_end_meets_its_sample_limit(rt: HostRuntime) -> Result<(), Fai
             .bytes()
             .ends_with(b"\n65535,1,A,200,OK,TG 1-1,true,,0,0\n")
     );
-    assert_eq!(rt; ran.reports.bytes(), b"end,TG 1-1,SampleLimit\n".as_slice());
+    assert_eq!(rt;
+        ran.reports.bytes(),
+        b"total,A,65536,0,65536,0,1,1\nall,65536,0,65536,0\nend,TG 1-1,SampleLimit\n".as_slice()
+    );
     Ok(())
 }
 
@@ -308,7 +321,7 @@ fn a_loop_without_end_over_nothing_meets_the_round_limit(rt: HostRuntime) -> Res
         &run(rt.alloc(), &["solo"], plan, NOTHING_FAILS)?,
         0,
         HEADER,
-        b"end,ThreadGroup 1-1,RoundLimit\n",
+        b"all,0,0,0,0\nend,ThreadGroup 1-1,RoundLimit\n",
     );
     Ok(())
 }
@@ -323,6 +336,10 @@ fn rounds_of_the_group_and_a_loop_of_none(rt: HostRuntime) -> Result<(), Fail> {
         ran.results.bytes().ends_with(
             b"interval\n0,5,A,200,OK,G 1-1,true,,0,0\n5,5,A,200,OK,G 1-1,true,,0,0\n"
         )
+    );
+    assert_eq!(rt;
+        ran.reports.bytes(),
+        b"total,A,2,0,10,0,5,5\nall,2,0,10,0\nend,G 1-1,Completed\n".as_slice()
     );
     Ok(())
 }
@@ -340,7 +357,7 @@ fn texts_are_quoted_where_they_need_it(rt: HostRuntime) -> Result<(), Fail> {
     );
     assert_eq!(rt;
         ran.reports.bytes(),
-        b"end,\"a,b 1-1\",Completed\n".as_slice()
+        b"total,\"say \"\"x\"\"\",2,0,0,0,0,0\nall,2,0,0,0\nend,\"a,b 1-1\",Completed\n".as_slice()
     );
     Ok(())
 }
@@ -480,12 +497,7 @@ fn check_writes_the_plan_in_its_plain_form(rt: HostRuntime) -> Result<(), Fail> 
 }
 
 // Elements of each type that does not run yet.
-const UNBUILT: &str = r#"{"type":"Interleave"}
-{"type":"Random"}
-{"type":"RandomOrder"}
-{"type":"Switch"}
-{"type":"Transaction"}
-{"type":"CriticalSection","props":{"lock":"l"}}
+const UNBUILT: &str = r#"{"type":"CriticalSection","props":{"lock":"l"}}
 {"type":"Http"}
 {"type":"Http","props":{"replies":[{}]}}
 {"type":"HttpDefaults"}
@@ -543,13 +555,13 @@ fn what_does_not_run_yet_is_refused_where_it_stands(rt: HostRuntime) -> Result<(
         }
         count = count.saturating_add(1);
     }
-    assert_eq!(rt; count, 22);
+    assert_eq!(rt; count, 17);
     Ok(())
 }
 
 // What runs, and what is disabled, is not refused.
 const BUILT: [&str; 4] = [
-    "{\"type\":\"Transaction\",\"enabled\":false}",
+    "{\"type\":\"CriticalSection\",\"enabled\":false}",
     "{\"type\":\"Simple\",\"enabled\":false,\"children\":[{\"type\":\"Listener\"}]}",
     "{\"type\":\"OnceOnly\",\"children\":[{\"type\":\"If\",\"props\":{\"condition\":\"${c}\",\"all\":true}}]}",
     "{\"type\":\"While\",\"props\":{\"condition\":\"false\"},\"children\":[{\"type\":\"ForEach\",\"props\":{\"input\":\"u\",\"output\":\"o\"}}]},{\"type\":\"Loop\",\"props\":{\"loops\":\"${n}\"}},{\"type\":\"UserVariables\",\"props\":{\"vars\":[]}}",
@@ -562,51 +574,62 @@ fn what_runs_is_not_refused(rt: HostRuntime) -> Result<(), Fail> {
             let props = format!(in rt.alloc(); "\"onError\":\"{action}\"")?;
             let plan = plan_of(rt.alloc(), &props, children)?;
             let ran = run(rt.alloc(), &["solo"], &plan, NOTHING_FAILS)?;
-            expect(&rt, &ran, 0, HEADER, b"end,TG 1-1,Completed\n");
+            expect(&rt, &ran, 0, HEADER, EMPTY_REPORT);
         }
     }
     Ok(())
 }
 
-// Groups over one sampler `A`, with the line of each of its samples.
-const LINES: [(&str, &str, &[u8]); 8] = [
+// Groups over one sampler `A`, with the line of each of its samples, and the summary.
+const LINES: [(&str, &str, &[u8], &[u8]); 8] = [
     (
         "\"loops\":2",
         "\"replies\":[{\"null\":true,\"ms\":3},{}]",
         b"3,0,A,200,OK,TG 1-1,true,,0,0\n",
+        b"total,A,1,0,0,0,0,0\nall,1,0,0,0\n",
     ),
     (
         "",
         "\"replies\":[{\"fault\":true}]",
         b"0,0,A,0,fault,TG 1-1,false,,0,0\n",
+        b"total,A,1,1,0,0,0,0\nall,1,1,0,0\n",
     ),
     (
         "",
         "\"replies\":[{\"echo\":true,\"body\":\"own\"}],\"request\":\"hello\"",
         b"0,0,A,200,OK,TG 1-1,true,,5,0\n",
+        b"total,A,1,0,0,5,0,0\nall,1,0,0,5\n",
     ),
     (
         "",
         "\"replies\":[{\"echo\":true}]",
         b"0,0,A,200,OK,TG 1-1,true,,0,0\n",
+        b"total,A,1,0,0,0,0,0\nall,1,0,0,0\n",
     ),
-    ("\"loops\":0", "\"replies\":[{}]", b""),
+    ("\"loops\":0", "\"replies\":[{}]", b"", b"all,0,0,0,0\n"),
     (
         "\"loops\":2",
         "\"replies\":[{\"code\":500,\"ms\":1}]",
         b"0,1,A,500,OK,TG 1-1,false,,0,0\n1,1,A,500,OK,TG 1-1,false,,0,0\n",
+        b"total,A,2,2,2,0,1,1\nall,2,2,2,0\n",
     ),
     (
         "\"rampMs\":9,\"threads\":2",
         "\"replies\":[{}]",
         b"0,0,A,200,OK,TG 1-1,true,,0,0\n",
+        b"total,A,1,0,0,0,0,0\nall,1,0,0,0\n",
     ),
-    ("", "\"replies\":[{\"null\":true,\"fault\":true}]", b""),
+    (
+        "",
+        "\"replies\":[{\"null\":true,\"fault\":true}]",
+        b"",
+        b"all,0,0,0,0\n",
+    ),
 ];
 
 #[test]
 fn each_reply_gives_its_line(rt: HostRuntime) -> Result<(), Fail> {
-    for (props, own, lines) in LINES {
+    for (props, own, lines, summary) in LINES {
         let child = format!(in rt.alloc();
             "{{\"type\":\"Script\",\"name\":\"A\",\"props\":{{{}}}}}",
             own
@@ -614,8 +637,10 @@ fn each_reply_gives_its_line(rt: HostRuntime) -> Result<(), Fail> {
         let plan = plan_of(rt.alloc(), props, &child)?;
         let mut text = Vec::from_slice(rt.alloc(), HEADER)?;
         text.extend_from_slice(lines)?;
+        let mut report = Vec::from_slice(rt.alloc(), summary)?;
+        report.extend_from_slice(b"end,TG 1-1,Completed\n")?;
         let ran = run(rt.alloc(), &["solo"], &plan, NOTHING_FAILS)?;
-        expect(&rt, &ran, 0, &text, b"end,TG 1-1,Completed\n");
+        expect(&rt, &ran, 0, &text, &report);
     }
     Ok(())
 }
@@ -664,7 +689,10 @@ fn the_text_of_a_loop_says_its_rounds(rt: HostRuntime) -> Result<(), Fail> {
         .filter(|byte| **byte == b'\n')
         .count();
     assert_eq!(rt; (ran.status, lines), (0, 3));
-    assert_eq!(rt; ran.reports.bytes(), b"end,TG 1-1,SampleLimit\n".as_slice());
+    assert_eq!(rt;
+        ran.reports.bytes(),
+        b"total,Script,2,0,0,0,0,0\nall,2,0,0,0\nend,TG 1-1,SampleLimit\n".as_slice()
+    );
     Ok(())
 }
 
@@ -679,13 +707,16 @@ fn any_thread_of_any_group_can_be_run(rt: HostRuntime) -> Result<(), Fail> {
             .bytes()
             .ends_with(b"interval\n7,5,A,200,OK,TG 1-4,true,,0,0\n")
     );
-    assert_eq!(rt; ran.reports.bytes(), b"end,TG 1-4,Completed\n".as_slice());
+    assert_eq!(rt;
+        ran.reports.bytes(),
+        b"total,A,1,0,5,0,5,5\nall,1,0,5,0\nend,TG 1-4,Completed\n".as_slice()
+    );
     let ran = run_line(rt.alloc(), "solo --thread 4", &plan, NOTHING_FAILS)?;
     expect(&rt, &ran, 3, b"", b"refused 14 NoThread -\n");
     let two =
         b"{\"type\":\"TestPlan\",\"children\":[{\"type\":\"ThreadGroup\",\"enabled\":false},{\"type\":\"ThreadGroup\",\"name\":\"G\",\"props\":{\"threads\":2}},{\"type\":\"ThreadGroup\",\"name\":\"H\",\"props\":{\"threads\":62}}]}";
     let ran = run_line(rt.alloc(), "solo --thread=2", two, NOTHING_FAILS)?;
-    expect(&rt, &ran, 0, HEADER, b"end,H 2-1,Completed\n");
+    expect(&rt, &ran, 0, HEADER, b"all,0,0,0,0\nend,H 2-1,Completed\n");
     Ok(())
 }
 
@@ -728,7 +759,13 @@ fn the_first_condition_that_does_not_hold_is_named(rt: HostRuntime) -> Result<()
     let plan = plan_of(rt.alloc(), "\"threads\":16", "")?;
     let words = "solo --samples 262144 --thread 15";
     let ran = run_line(rt.alloc(), words, &plan, NOTHING_FAILS)?;
-    expect(&rt, &ran, 0, HEADER, b"end,TG 1-16,Completed\n");
+    expect(
+        &rt,
+        &ran,
+        0,
+        HEADER,
+        b"all,0,0,0,0\nend,TG 1-16,Completed\n",
+    );
     Ok(())
 }
 
@@ -737,6 +774,12 @@ fn a_sample_budget_of_two_ends_the_thread(rt: HostRuntime) -> Result<(), Fail> {
     let mut text = Vec::from_slice(rt.alloc(), HEADER)?;
     text.extend_from_slice(b"0,5,A,200,OK,TG 1-1,true,,0,0\n5,2,B,200,OK,TG 1-1,true,,2,0\n")?;
     let ran = run_line(rt.alloc(), "solo --samples 2", LOOP_PLAN, NOTHING_FAILS)?;
-    expect(&rt, &ran, 0, &text, b"end,TG 1-1,SampleLimit\n");
+    expect(
+        &rt,
+        &ran,
+        0,
+        &text,
+        b"total,A,1,0,5,0,5,5\ntotal,B,1,0,2,2,2,2\nall,2,0,7,2\nend,TG 1-1,SampleLimit\n",
+    );
     Ok(())
 }

@@ -1,20 +1,24 @@
 // What a command prints of a plan.
 
-ghost use Rattle.std.specs.Prelude.{◌≡◌, ◌<◌, ◌++◌, All, true, length, IfOk, OnOk};
+ghost use Rattle.std.specs.Prelude.{◌≡◌, ◌<◌, ◌≤◌, ◌++◌, All, true, length, IfOk, OnOk};
 ghost use Rattle.element_tree.specs.Tree.{threads_of};
 ghost use Rattle.element_tree.specs.Names.{labels_of};
-ghost use Rattle.jm_program.specs.Parts.{HasThread};
-ghost use Rattle.jm_program.specs.Printed.{AreTexts, end_is_whole, results_of, item_text};
-ghost use Rattle.command_words.specs.declared.command.Command.TheVariants.{Check, Solo as SoloCommand};
+ghost use Rattle.jm_program.specs.Parts.{CanRun, HasThread};
+ghost use Rattle.jm_program.specs.Printed.{AreTexts, IsShown, default_solo, end_is_whole, results_of, item_text};
+ghost use Rattle.command_words.specs.declared.command.Command.TheVariants.{Check, Make, Solo as SoloCommand};
+ghost use Rattle.command_words.specs.declared.command.Make.{Make as MakeOf};
 ghost use Rattle.thread_machine.specs.Bare.{bare, bare_item, IsLabelled};
+ghost use Rattle.thread_machine.specs.Counts.{samples_in};
 
+use crate::report::report_text;
 use command_words::{Command, Solo};
 use element_tree::{Plan, write_plan};
-use jm_base::{End, M};
-use output_lines::{end_line, header_line, result_line};
+use jm_base::{End, M, NoMemory};
+use output_lines::{header_line, result_line};
 use outside_world::ScriptOutside;
 use std::alloc::Global;
-use thread_machine::{TraceItem, run_alone};
+use thread_machine::{Solo as Ran, TraceItem, run_alone};
+use var_functions::Props;
 
 /// What is printed of a plan.
 #[derive(Drop)]
@@ -29,11 +33,12 @@ pub struct Texts {
 
 /// The texts of a command on a plan.
 pub fn texts_of(alloc: Global, command: &Command, plan: &Plan) -> M<Texts>
-    requires { HasThread command.now plan.now }
+    requires { CanRun command.now plan.now }
     ensures { IfOk result (λ texts. AreTexts command.now plan.now texts.results.items texts.report.items texts.whole) }
 {
     match command {
         Command::Check => plan_texts(alloc, plan),
+        Command::Make(_) => made_texts(alloc, plan),
         Command::Solo(solo) => solo_texts(alloc, solo, plan),
     }
 }
@@ -51,13 +56,57 @@ fn plan_texts(alloc: Global, plan: &Plan) -> M<Texts>
     })
 }
 
-// Runs a thread of the plan over the plan's own replies.
+// The report of the first thread of a plan, run with what stands for options that are not given. There are no results.
+fn made_texts(alloc: Global, plan: &Plan) -> M<Texts>
+    requires { HasThread default_solo plan.now }
+    ensures { IfOk result (λ texts. (m : MakeOf) → AreTexts (Make m) plan.now texts.results.items texts.report.items texts.whole) }
+{
+    let solo = default_solo(alloc)?;
+    let ran = run_thread(alloc, &solo, plan)?;
+    Ok(Texts {
+        results: Vec::new(alloc),
+        report: report_text(alloc, plan, solo.thread, &ran.trace, ran.end)?,
+        whole: is_whole(ran.end),
+    })
+}
+
+// What stands for the options of `solo` that are not given.
+fn default_solo(alloc: Global) -> M<Solo>
+    ensures { IfOk result (λ solo. solo ≡ default_solo) }
+{
+    match Props::read(alloc, b"") {
+        Ok(props) => Ok(Solo {
+            seed: 0,
+            props,
+            samples: 65_536,
+            thread: 0,
+        }),
+        Err(_) => Err(NoMemory),
+    }
+}
+
+// What a thread of the plan shows: its results and its report.
 fn solo_texts(alloc: Global, solo: &Solo, plan: &Plan) -> M<Texts>
-    requires { solo.now.thread < length (threads_of plan.now) }
+    requires { HasThread solo.now plan.now }
     ensures { IfOk result (λ texts. AreTexts (SoloCommand solo.now) plan.now texts.results.items texts.report.items texts.whole) }
 {
+    let ran = run_thread(alloc, solo, plan)?;
+    Ok(Texts {
+        results: result_lines(alloc, plan, solo.thread, &ran.trace)?,
+        report: report_text(alloc, plan, solo.thread, &ran.trace, ran.end)?,
+        whole: is_whole(ran.end),
+    })
+}
+
+// Runs a thread of the plan over the plan's own replies.
+fn run_thread(alloc: Global, solo: &Solo, plan: &Plan) -> M<Ran>
+    requires { HasThread solo.now plan.now }
+    ensures shown { IfOk result (λ ran. IsShown plan.now solo.now (bare ran.trace.items) ran.end) }
+    ensures labels { IfOk result (λ ran. All (IsLabelled (length (labels_of plan.now.elements))) ran.trace.items) }
+    ensures few { IfOk result (λ ran. samples_in ran.trace.items ≤ 4194304) }
+{
     let mut outside = ScriptOutside::new(alloc, plan, false)?;
-    let ran = run_alone(
+    run_alone(
         alloc,
         plan,
         solo.thread,
@@ -65,15 +114,7 @@ fn solo_texts(alloc: Global, solo: &Solo, plan: &Plan) -> M<Texts>
         &solo.props,
         solo.samples,
         &mut outside,
-    )?;
-    let results = result_lines(alloc, plan, solo.thread, &ran.trace)?;
-    let mut report = Vec::new(alloc);
-    end_line(alloc, &mut report, plan, solo.thread, ran.end)?;
-    Ok(Texts {
-        results,
-        report,
-        whole: is_whole(ran.end),
-    })
+    )
 }
 
 // Whether a thread that ended so was not cut for want of memory.

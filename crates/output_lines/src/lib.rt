@@ -1,10 +1,12 @@
-//! The lines that are printed: results, and how each thread ended.
+//! The lines that are printed: results, how each thread ended, and what was counted.
 #![tactic(auto)]
 
 pub mod lines;
+pub mod reports;
 pub mod rows;
 
 pub use lines::{end_line, header_line, result_line};
+pub use reports::{report_lines, summary_lines};
 
 #[cfg(test)]
 mod tests;

@@ -1,9 +1,10 @@
 -- How a thread comes through an element and its children.
-use Rattle.std.proofs.Common.{◌≡◌, ℕ, zero, suc, ◌+◌, ◌-◌, ◌<◌, Bool, true, false, List, [], ◌∷◌, length, drop, Option, Some, None, refl, ap, arith, add-one}
+use Rattle.std.proofs.Common.{◌≡◌, ℕ, zero, suc, ◌+◌, ◌-◌, ◌<◌, ◌≤◌, Bool, true, false, List, [], ◌∷◌, length, drop, Option, Some, None, refl, ap, arith, add-one}
 use Rattle.std.proofs.Math.ListN.{get_or}
 use Rattle.std.proofs.Math.Seq.{drop-cons}
 use Rattle.std.specs.Prelude.{slice_get, ◌==◌, if◌then◌else◌}
 use Rattle.std.proofs.lemmas.Bool.Decides.{nat_tests}
+use Rattle.std.proofs.lemmas.List.{drop_all}
 use Rattle.jm_base.specs.declared.types.End.TheVariants.{ValueLimit as PastValueLimit}
 use Rattle.jm_base.specs.declared.types.ScriptReply.{ScriptReply}
 use Rattle.jm_base.specs.Run.{over}
@@ -11,7 +12,7 @@ use Rattle.jm_base.specs.Outside.{Account, Goes}
 use Rattle.template_text.specs.Pieces.{Pieces}
 use Rattle.element_tree.specs.declared.kinds.Element.{Element}
 use Rattle.element_tree.specs.declared.kinds.Kind.{Kind}
-use Rattle.element_tree.specs.declared.kinds.Kind.TheVariants.{Simple, OnceOnly, Loop, If, While, ForEach, Script}
+use Rattle.element_tree.specs.declared.kinds.Kind.TheVariants.{Simple, OnceOnly, Loop, If, While, ForEach, Switch, Interleave, Random, RandomOrder, Transaction, Script}
 use Rattle.logic_controllers.specs.IfController.{is_true}
 use Rattle.jm_meaning.specs.declared.signal.Signal.{Signal}
 use Rattle.jm_meaning.specs.declared.signal.Signal.TheVariants.{Normal, Stop}
@@ -55,15 +56,21 @@ meaning-flat here depth number round s is = rw is refl
 pub kind-other : (here : Here) (below : Below) (number : ℕ) (e : Element) (round : ℕ) (s : State) (k : Kind)
     → (k ≡ Simple → ⊥) → (k ≡ OnceOnly → ⊥) → ((all : Bool) (c : Pieces) → k ≡ If all c → ⊥) → ((l : Pieces) → k ≡ Loop l → ⊥) → ((c : Pieces) → k ≡ While c → ⊥)
     → ((end : ℕ) (i o : List ℕ) (sep : Bool) (start : ℕ) → k ≡ ForEach end i o sep start → ⊥) → ((r : List ScriptReply) (q : Pieces) → k ≡ Script r q → ⊥)
+    → ((v : Pieces) → k ≡ Switch v → ⊥) → (k ≡ Interleave → ⊥) → (k ≡ Random → ⊥) → (k ≡ RandomOrder → ⊥) → (k ≡ Transaction → ⊥)
     → kind_meaning here below number e k round s ≡ over (normal s)
-kind-other here below number e round s Simple a b c d f g h = absurd (a refl)
-kind-other here below number e round s OnceOnly a b c d f g h = absurd (b refl)
-kind-other here below number e round s (If all x) a b c d f g h = absurd (c all x refl)
-kind-other here below number e round s (Loop x) a b c d f g h = absurd (d x refl)
-kind-other here below number e round s (While x) a b c d f g h = absurd (f x refl)
-kind-other here below number e round s (ForEach x i o sep start) a b c d f g h = absurd (g x i o sep start refl)
-kind-other here below number e round s (Script r q) a b c d f g h = absurd (h r q refl)
-kind-other here below number e round s k a b c d f g h = refl
+kind-other here below number e round s Simple a b c d f g h l m n p t = absurd (a refl)
+kind-other here below number e round s OnceOnly a b c d f g h l m n p t = absurd (b refl)
+kind-other here below number e round s (If all x) a b c d f g h l m n p t = absurd (c all x refl)
+kind-other here below number e round s (Loop x) a b c d f g h l m n p t = absurd (d x refl)
+kind-other here below number e round s (While x) a b c d f g h l m n p t = absurd (f x refl)
+kind-other here below number e round s (ForEach x i o sep start) a b c d f g h l m n p t = absurd (g x i o sep start refl)
+kind-other here below number e round s (Script r q) a b c d f g h l m n p t = absurd (h r q refl)
+kind-other here below number e round s (Switch v) a b c d f g h l m n p t = absurd (l v refl)
+kind-other here below number e round s Interleave a b c d f g h l m n p t = absurd (m refl)
+kind-other here below number e round s Random a b c d f g h l m n p t = absurd (n refl)
+kind-other here below number e round s RandomOrder a b c d f g h l m n p t = absurd (p refl)
+kind-other here below number e round s Transaction a b c d f g h l m n p t = absurd (t refl)
+kind-other here below number e round s k a b c d f g h l m n p t = refl
 
 -- ---- children
 
@@ -73,6 +80,15 @@ front cs i within = rw (add-one i) (drop-cons cs i 0 within)
 pub next-child : (below : Below) (round : ℕ) (cs : List ℕ) (i : ℕ) (s : State) → i < length cs
     → in_order below round (drop i cs) s ≡ and_then (below (get_or cs i 0) round s) (in_order below round (drop (i + 1) cs))
 next-child below round cs i s within = ap (λ l. in_order below round l s) (front cs i within)
+
+-- no child is left
+pub children-over : {a b : Account} {p0 p : Progress} (below : Below) (round : ℕ) (cs : List ℕ) (i : ℕ) → OnWay a p0 (in_order below round cs) (in_order below round (drop i cs)) p b
+    → length cs ≤ i → Plays a p0 (in_order below round cs) Normal p b
+children-over {p = p} below round cs i way past = way-over Normal way (ap (λ l. in_order below round l (state_in p)) (drop_all i cs past))
+
+pub conditions-over : {a b : Account} {p0 p : Progress} (below : Below) (round : ℕ) (cs : List ℕ) (attempt : Try (List ℕ)) (i : ℕ)
+    → OnWay a p0 (if_each below round cs attempt) (if_each below round (drop i cs) attempt) p b → length cs ≤ i → Plays a p0 (if_each below round cs attempt) Normal p b
+conditions-over {p = p} below round cs attempt i way past = way-over Normal way (ap (λ l. if_each below round l attempt (state_in p)) (drop_all i cs past))
 
 -- what an If does behind the text of its condition, with this child in front of others
 abbrev pub where_true : Below → ℕ → Try (List ℕ) → ℕ → List ℕ → List ℕ → Part

@@ -1,5 +1,6 @@
 mod Numerals
 mod ShowsLaws
+mod TellsLaws
 mod Ways
 mod RoundWays
 mod StepLaws
@@ -7,4 +8,7 @@ mod TurnLaws
 mod ElementLaws
 mod ThreadWays
 mod KindWays
+mod ChoiceWays
+mod TransactionLaws
+mod TransactionWays
 mod WorkedPlans

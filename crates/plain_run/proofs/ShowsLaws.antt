@@ -10,7 +10,7 @@ use Rattle.jm_meaning.specs.declared.item.Item.TheVariants.{Paused}
 use Rattle.jm_meaning.specs.Meaning.{behind_pause}
 use Rattle.jm_meaning.specs.Shown.{shown, Shows}
 
-pub shows-append : {A : Type 0} {a b c : Account} {xs ys zs : List Item} {r s t : Run A} → Shows a xs r s ys b → Shows b ys s t zs c → Shows a xs r t zs c
+unfoldable pub shows-append : {A : Type 0} {a b c : Account} {xs ys zs : List Item} {r s t : Run A} → Shows a xs r s ys b → Shows b ys s t zs c → Shows a xs r t zs c
 shows-append {xs = xs} g h = record {
   events = g.events ++ h.events;
   goes = goes-append g.goes h.goes;
@@ -18,16 +18,16 @@ shows-append {xs = xs} g h = record {
       ∙ ap (λ l. xs ++ l) (sym (map-append shown g.events h.events));
 }
 
-pub shows-bind : {A B : Type 0} {a b : Account} {xs ys : List Item} {r s : Run A} (f : A → Run B) → Shows a xs r s ys b → Shows a xs (r >>= f) (s >>= f) ys b
+unfoldable pub shows-bind : {A B : Type 0} {a b : Account} {xs ys : List Item} {r s : Run A} (f : A → Run B) → Shows a xs r s ys b → Shows a xs (r >>= f) (s >>= f) ys b
 shows-bind f g = record { events = g.events; goes = goes-bind f g.goes; items = g.items }
 
-pub shows-nothing : {A : Type 0} (a : Account) (xs : List Item) (r : Run A) → Shows a xs r r xs a
+unfoldable pub shows-nothing : {A : Type 0} (a : Account) (xs : List Item) (r : Run A) → Shows a xs r r xs a
 shows-nothing a xs r = record { events = []; goes = goes-nothing a r; items = sym (append-nil xs) }
 
-pub shows-quiet : {A : Type 0} {a b : Account} (xs : List Item) {r s : Run A} → Goes a r [] s b → Shows a xs r s xs b
+unfoldable pub shows-quiet : {A : Type 0} {a b : Account} (xs : List Item) {r s : Run A} → Goes a r [] s b → Shows a xs r s xs b
 shows-quiet xs g = record { events = []; goes = g; items = sym (append-nil xs) }
 
-pub shows-give : {A : Type 0} (a : Account) (xs : List Item) (e : Event) (r : Run A) → Shows a xs (give e r) r (xs ++ shown e ∷ []) a
+unfoldable pub shows-give : {A : Type 0} (a : Account) (xs : List Item) (e : Event) (r : Run A) → Shows a xs (give e r) r (xs ++ shown e ∷ []) a
 shows-give a xs e r = record { events = e ∷ []; goes = goes-give a e r; items = refl }
 
 -- a pause, and then the run

@@ -19,6 +19,7 @@ use Rattle.jm_meaning.specs.declared.signal.Signal.{Signal}
 use Rattle.jm_meaning.specs.declared.signal.Signal.TheVariants.{Normal, Stop}
 use Rattle.jm_meaning.specs.State.{Part, state_of, normal, stopped, and_then, with_round, with_unit, put, fine, past_limit, text, text_of}
 use Rattle.jm_meaning.specs.Sampling.{pipeline, given_sample, after_sample, sampling}
+use Rattle.jm_meaning.specs.Transactions.{with_sample}
 use Rattle.jm_meaning.proofs.PartLaws.{no-rounds, one-round, no-units, one-unit, puts-came}
 use Rattle.plain_run.specs.declared.progress.Progress.{Progress}
 use Rattle.plain_run.specs.Plays.{state_in, Plays}
@@ -45,19 +46,26 @@ text-goes a b template old new came goes same =
     subst (λ vars. Goes a (text template old) [] (over (record { came = came; user = record { vars = vars; fns = new.fns } })) b) (sym same)
     (goes-bind (λ x. over (text_of old x)) goes)
 
+-- a part that only variables and functions come from
+pub silent-plays : {a b : Account} (part : Part) (p : Progress) (user : UserState) (signal : Signal)
+    → Goes a (part (state_in p)) [] (over (record { state = state_of user (record { units = p.units; rounds = p.rounds; places = p.places }); signal = signal })) b
+    → Plays a p part signal (record p { user = user }) b
+silent-plays {a} part p user signal goes =
+    way-over signal (way-silent (λ s. over (record { state = s; signal = signal })) (record p { user = user }) (way-start a p part) goes refl refl (omega arith)) refl
+
 -- ---- a variable is set
 
 module _ (a : Account) (p : Progress) (name value : List ℕ) (vars : Variables) where
   pub put-done : put_var name value p.user.vars ≡ Some vars → Plays a p (put name value) Normal (record p { user = record { vars = vars; fns = p.user.fns } }) a
   put-done made =
       way-over Normal (way-silent (λ s. over (normal s)) (record p { user = record { vars = vars; fns = p.user.fns } }) (way-start a p (put name value))
-      (puts-came a (put_var name value p.user.vars) p.user (record { units = p.units; rounds = p.rounds }) vars (Ok tt) made) refl (omega arith)) refl
+      (puts-came a (put_var name value p.user.vars) p.user (record { units = p.units; rounds = p.rounds; places = p.places }) vars (Ok tt) made) refl refl (omega arith)) refl
 
   pub put-refused : (error : VarError) → Puts (put_var name value p.user.vars) p.user.vars vars (Err error) → error ≡ ValueLimit
       → Plays a p (put name value) (Stop PastValueLimit) (record p { user = record { vars = vars; fns = p.user.fns } }) a
   put-refused error puts is =
       way-over (Stop PastValueLimit) (way-silent (λ s. over (stopped PastValueLimit s)) (record p { user = record { vars = vars; fns = p.user.fns } }) (way-start a p (put name value))
-      (at-limit (puts-came a (put_var name value p.user.vars) p.user (record { units = p.units; rounds = p.rounds }) vars (Err error) puts) is) refl (omega arith)) refl
+      (at-limit (puts-came a (put_var name value p.user.vars) p.user (record { units = p.units; rounds = p.rounds; places = p.places }) vars (Err error) puts) is) refl refl (omega arith)) refl
 
 -- ---- a round is taken
 
@@ -68,7 +76,7 @@ pub one-taken : (a : Account) (p : Progress) → (p.rounds ≡ 0 → ⊥) → Pl
 one-taken a p some =
     let is : p.rounds ≡ suc (p.rounds - 1) = omega arith in
     way-over Normal (way-move (λ s. over (normal s)) (record p { rounds = p.rounds - 1 }) (way-start a p (λ s. with_round s (λ s. over (normal s))))
-    (one-round (state_in p) (λ s. over (normal s)) (p.rounds - 1) is) refl (omega arith)) refl
+    (one-round (state_in p) (λ s. over (normal s)) (p.rounds - 1) is) refl refl (omega arith)) refl
 
 -- what is done with a round that was taken
 pub taken-then : {a b c : Account} {p q r : Progress} {first signal : Signal} (f g : Part) → Plays a p (λ s. with_round s f) first q b → first ≡ Normal → Plays b q g signal r c
@@ -93,27 +101,27 @@ module _ (a b : Account) (p q : Progress) (label number : ℕ) (request : Pieces
     in_unit =
         let is : p.units ≡ suc (p.units - 1) = omega arith in
         way-move (sampling label number request at_failure) (record p { units = p.units - 1 }) (way-start a p (λ s. with_unit s (sampling label number request at_failure)))
-        (one-unit (state_in p) (sampling label number request at_failure) (p.units - 1) is) refl (omega arith)
+        (one-unit (state_in p) (sampling label number request at_failure) (p.units - 1) is) refl refl (omega arith)
 
     asked : (found : Option Sample) → Goes a (pipeline label number request p.user) [] (over (fine found user)) b
         → OnWay a p (λ s. with_unit s (sampling label number request at_failure)) (given_sample number at_failure found) (record p { units = p.units - 1; user = user }) b
     asked found goes = way-tried (record p { units = p.units - 1; user = user }) (pipeline label number request) (given_sample number at_failure) found in_unit refl goes refl
 
     pub no-sample : Goes a (pipeline label number request p.user) [] (over (fine None user)) b
-        → state_in q ≡ state_of user (record { units = p.units - 1; rounds = p.rounds }) → q.items.items ≡ p.items.items ++ Null number ∷ []
+        → state_in q ≡ state_of user (record { units = p.units - 1; rounds = p.rounds; places = p.places }) → q.items.items ≡ p.items.items ++ Null number ∷ [] → q.tally ≡ p.tally
         → Plays a p (λ s. with_unit s (sampling label number request at_failure)) Normal q b
-    no-sample goes is items =
+    no-sample goes is items tally =
         way-over Normal (way-give (λ s. over (normal s)) q (Nothing number) (asked None goes)
-        (ap (λ s. give (Nothing number) (over (normal s))) (sym is)) items (omega (arith, ap (λ s. s.own.rounds) is))) refl
+        (ap (λ s. give (Nothing number) (over (normal s))) (sym is)) items tally (omega (arith, ap (λ s. s.own.rounds) is))) refl
 
     pub one-sample : (sample : Sample) → Goes a (pipeline label number request p.user) [] (over (fine (Some sample) user)) b
-        → state_in q ≡ state_of user (record { units = p.units - 1; rounds = p.rounds }) → q.items.items ≡ p.items.items ++ SampledItem sample ∷ []
-        → (signal : Signal) → signal ≡ after_sample sample.ok at_failure
+        → state_in q ≡ state_of user (record { units = p.units - 1; rounds = p.rounds; places = p.places }) → q.items.items ≡ p.items.items ++ SampledItem sample ∷ []
+        → q.tally ≡ with_sample p.tally sample → (signal : Signal) → signal ≡ after_sample sample.ok at_failure
         → Plays a p (λ s. with_unit s (sampling label number request at_failure)) signal q b
-    one-sample sample goes is items signal so =
+    one-sample sample goes is items tally signal so =
         way-over signal (way-give (λ s. over (record { state = s; signal = signal })) q (Sampled Sampler sample) (asked (Some sample) goes)
         (ap (λ s. give (Sampled Sampler sample) (over (record { state = s; signal = after_sample sample.ok at_failure }))) (sym is)
-        ∙ ap (λ x. give (Sampled Sampler sample) (over (record { state = state_in q; signal = x }))) (sym so)) items (omega (arith, ap (λ s. s.own.rounds) is))) refl
+        ∙ ap (λ x. give (Sampled Sampler sample) (over (record { state = state_in q; signal = x }))) (sym so)) items tally (omega (arith, ap (λ s. s.own.rounds) is))) refl
 
     pub sample-refused : (error : VarError) → Refused a (pipeline label number request p.user) b (over (past_limit user)) error → error ≡ ValueLimit
         → Plays a p (λ s. with_unit s (sampling label number request at_failure)) (Stop PastValueLimit) (record p { units = p.units - 1; user = user }) b

@@ -22,8 +22,9 @@ use Rattle.jm_meaning.specs.Meaning.{meaning, group_part, group_meaning, here_at
 use Rattle.jm_meaning.specs.RampUp.{pause_of}
 use Rattle.jm_meaning.specs.Shown.{Shows}
 use Rattle.plain_run.specs.declared.progress.Progress.{Progress}
-use Rattle.plain_run.specs.Plays.{state_in, ended, Plays, here_of, caught_signal}
+use Rattle.plain_run.specs.Plays.{state_in, ended, Tells, Plays, here_of, caught_signal}
 use Rattle.plain_run.proofs.ShowsLaws.{shows-append, shows-bind, shows-give}
+use Rattle.plain_run.proofs.TellsLaws.{tells-bind}
 use Rattle.plain_run.proofs.Ways.{way-start, way-end, way-then, way-stop}
 
 -- ---- a round of the group
@@ -36,8 +37,9 @@ caught-is p (Stop end) = refl
 pub plays-caught : {a b : Account} {p q : Progress} {signal : Signal} (part : Part) → Plays a p part signal q b → (so : Signal) → so ≡ caught_signal signal
     → Plays a p (λ s. round_of_group (part s)) so q b
 plays-caught {a} {b} {p} {q} {signal} part plays so is = record {
-  shows = subst (λ x. Shows a p.items.items (round_of_group (part (state_in p))) (over (ended q x)) q.items.items b) (sym is)
-      (subst (λ x. Shows a p.items.items (round_of_group (part (state_in p))) (over x) q.items.items b) (caught-is q signal) (shows-bind (λ e. over (caught e)) plays.shows));
+  tells = subst (λ x. Tells a p.items.items p.tally (round_of_group (part (state_in p))) (over (ended q x)) q.items.items q.tally b) (sym is)
+      (subst (λ x. Tells a p.items.items p.tally (round_of_group (part (state_in p))) (over x) q.items.items q.tally b) (caught-is q signal)
+      (tells-bind (λ e. over (caught e)) plays.tells));
   fewer = plays.fewer;
 }
 
@@ -91,6 +93,6 @@ thread-shows plan thread group ms options a b d xs p q signal end none is pause 
     subst (λ m. Shows a [] (behind_pause m run) run p.items.items b) pause (subst (λ l. Shows a l (behind_pause ms run) run p.items.items b) none (waited run)) in
     let there : Shows b p.items.items (thread_part plan (group_of plan thread) (first_of plan thread options)) (over (ended q signal)) q.items.items d =
     subst (λ g. Shows b p.items.items (thread_part plan g (first_of plan thread options)) (over (ended q signal)) q.items.items d) is
-    (subst (λ s. Shows b p.items.items (thread_part plan group s) (over (ended q signal)) q.items.items d) begun plays.shows) in
+    (subst (λ s. Shows b p.items.items (thread_part plan group s) (over (ended q signal)) q.items.items d) begun plays.tells.shows) in
     subst (λ x. Shows a [] (behind_pause (pause_of plan thread) run) (over tt) (q.items.items ++ EndedItem x ∷ []) d) (sym ends)
     (shows-append first (shows-append (shows-bind (λ e. give (Ended (end_of e.signal)) (over tt)) there) (shows-give d q.items.items (Ended (end_of signal)) (over tt))))

@@ -4,12 +4,12 @@ use Rattle.std.specs.Prelude.{codes}
 use Rattle.std.specs.Fmt.{digits}
 use Rattle.jm_base.specs.declared.types.End.TheVariants.{Completed}
 use Rattle.jm_base.specs.declared.types.ScriptReply.{ScriptReply}
-use Rattle.jm_base.specs.Run.{Event, Sampled, Ended, Sampler, over_value}
+use Rattle.jm_base.specs.Run.{Event, Sampled, Ended, Sampler, Transaction as ByTransaction, over_value}
 use Rattle.jm_base.specs.Outside.{Scripts, script_form}
 use Rattle.element_props.specs.declared.prop.Pair.{Pair}
 use Rattle.element_tree.specs.declared.kinds.Element.{Element}
 use Rattle.element_tree.specs.declared.kinds.Kind.{Kind}
-use Rattle.element_tree.specs.declared.kinds.Kind.TheVariants.{TestPlan, ThreadGroup, Loop, OnceOnly, While, ForEach, Script, UserVariables}
+use Rattle.element_tree.specs.declared.kinds.Kind.TheVariants.{TestPlan, ThreadGroup, Simple, Loop, OnceOnly, While, ForEach, Interleave, Random, RandomOrder, Switch, Transaction, Script, UserVariables}
 use Rattle.element_tree.specs.declared.kinds.Loops.TheVariants.{Times}
 use Rattle.element_tree.specs.declared.kinds.OnError.TheVariants.{Continue}
 use Rattle.template_text.specs.Pieces.{no_more, text, reference, variable}
@@ -22,6 +22,7 @@ use Rattle.jm_meaning.specs.Beginning.{Options}
 use Rattle.jm_meaning.specs.Meaning.{events, meaning}
 use Rattle.jm_meaning.specs.Rounds.{rounds}
 use Rattle.jm_meaning.specs.Sampling.{sampled, pipeline}
+use Rattle.jm_meaning.specs.Transactions.{heard}
 
 -- a reply after so many milliseconds, whose body is the text of the request
 reply : ℕ → List ℕ → ℕ → ScriptReply
@@ -135,3 +136,99 @@ a_foreach_sends_each_value : (over_value script_form (events each 0 options) eac
     ∷ []
 unfolding over_value events digits pause_of threads_in meaning rounds sampled pipeline labels_of pieces_behind referred texts_behind each each_scripts options sample element reply a_replies pair
 a_foreach_sends_each_value = refl
+
+-- Random Controllers without a child, and a Simple over a Random Order over A alone
+alone : Tree
+alone = record {
+  version = 1;
+  elements =
+      element (codes "TestPlan") (TestPlan 1) 0 (1 ∷ [])
+      ∷ element (codes "TG") (ThreadGroup (Times 1) Continue 0 1) 0 (2 ∷ 3 ∷ 4 ∷ [])
+      ∷ element (codes "First") Random 1 []
+      ∷ element (codes "Second") Random 1 []
+      ∷ element (codes "S") Simple 1 (5 ∷ [])
+      ∷ element (codes "O") RandomOrder 4 (6 ∷ [])
+      ∷ element (codes "A") (Script a_replies no_more) 5 []
+      ∷ [];
+}
+
+alone_scripts : Scripts
+alone_scripts = record { replies = [] ∷ [] ∷ [] ∷ [] ∷ [] ∷ [] ∷ a_replies ∷ []; clock = 0; places = 0 ∷ 0 ∷ 0 ∷ 0 ∷ 0 ∷ 0 ∷ 0 ∷ [] }
+
+a_child_alone_runs_in_any_order : (over_value script_form (events alone 0 options) alone_scripts).events
+    ≡ sample 0 5 0 200 (codes "OK") true 0
+    ∷ Ended Completed
+    ∷ []
+unfolding over_value events digits pause_of threads_in meaning rounds sampled pipeline labels_of pieces_behind referred texts_behind alone alone_scripts options sample element reply a_replies
+a_child_alone_runs_in_any_order = refl
+
+-- two rounds of a group over an Interleave, and a Switch by name
+turn : Tree
+turn = record {
+  version = 1;
+  elements =
+      element (codes "TestPlan") (TestPlan 1) 0 (1 ∷ [])
+      ∷ element (codes "TG") (ThreadGroup (Times 2) Continue 0 1) 0 (2 ∷ 5 ∷ [])
+      ∷ element (codes "I") Interleave 1 (3 ∷ 4 ∷ [])
+      ∷ element (codes "A") (Script a_replies no_more) 2 []
+      ∷ element (codes "B") (Script b_replies no_more) 2 []
+      ∷ element (codes "S") (Switch (text (codes "D") no_more)) 1 (6 ∷ 7 ∷ [])
+      ∷ element (codes "C") (Script a_replies no_more) 5 []
+      ∷ element (codes "D") (Script b_replies no_more) 5 []
+      ∷ [];
+}
+
+turn_scripts : Scripts
+turn_scripts = record {
+  replies = [] ∷ [] ∷ [] ∷ a_replies ∷ b_replies ∷ [] ∷ a_replies ∷ b_replies ∷ [];
+  clock = 0;
+  places = 0 ∷ 0 ∷ 0 ∷ 0 ∷ 0 ∷ 0 ∷ 0 ∷ 0 ∷ [];
+}
+
+an_interleave_takes_turns : (over_value script_form (events turn 0 options) turn_scripts).events
+    ≡ sample 0 5 0 200 (codes "OK") true 0
+    ∷ sample 5 2 3 200 (codes "OK") true 0
+    ∷ sample 7 2 1 200 (codes "OK") true 0
+    ∷ sample 9 2 3 200 (codes "OK") true 0
+    ∷ Ended Completed
+    ∷ []
+unfolding over_value events digits pause_of threads_in meaning rounds sampled pipeline labels_of pieces_behind referred texts_behind turn turn_scripts options sample element reply a_replies b_replies
+an_interleave_takes_turns = refl
+
+-- a Transaction over two samplers, of which the second fails
+d_replies : List ScriptReply
+d_replies = reply 500 (codes "Bad") 7 ∷ []
+
+whole : Tree
+whole = record {
+  version = 1;
+  elements =
+      element (codes "TestPlan") (TestPlan 1) 0 (1 ∷ [])
+      ∷ element (codes "TG") (ThreadGroup (Times 1) Continue 0 1) 0 (2 ∷ [])
+      ∷ element (codes "T") Transaction 1 (3 ∷ 4 ∷ [])
+      ∷ element (codes "A") (Script a_replies no_more) 2 []
+      ∷ element (codes "B") (Script d_replies no_more) 2 []
+      ∷ [];
+}
+
+whole_scripts : Scripts
+whole_scripts = record { replies = [] ∷ [] ∷ [] ∷ a_replies ∷ d_replies ∷ []; clock = 0; places = 0 ∷ 0 ∷ 0 ∷ 0 ∷ 0 ∷ [] }
+
+a_transaction_sums_its_samples : (over_value script_form (events whole 0 options) whole_scripts).events
+    ≡ sample 0 5 1 200 (codes "OK") true 0
+    ∷ sample 5 7 2 500 (codes "Bad") false 0
+    ∷ Sampled ByTransaction (record {
+      stamp = 0;
+      elapsed = 12;
+      label = 0;
+      code = 0;
+      message = codes "Number of samples in transaction : 2, number of failing samples : 1";
+      ok = false;
+      failure = [];
+      bytes = 0;
+      listeners = 0;
+    })
+    ∷ Ended Completed
+    ∷ []
+unfolding over_value events digits pause_of threads_in meaning rounds sampled pipeline heard labels_of pieces_behind referred texts_behind whole whole_scripts options sample element reply a_replies d_replies
+a_transaction_sums_its_samples = refl

@@ -1,27 +1,36 @@
 -- What it is that a thread runs a part of its plan.
-use Rattle.std.specs.Prelude.{◌≤◌}
-use Rattle.jm_base.specs.Run.{over}
+use Rattle.std.specs.Prelude.{◌≡◌, ◌≤◌, List}
+use Rattle.jm_base.specs.Run.{Run, over}
 use Rattle.jm_base.specs.Outside.{Account}
 use Rattle.element_tree.specs.Tree.{Tree}
+use Rattle.jm_meaning.specs.declared.item.Item.{Item}
 use Rattle.jm_meaning.specs.declared.signal.Signal.{Signal}
 use Rattle.jm_meaning.specs.declared.signal.Signal.TheVariants.{Normal, NextLoop, Stop}
+use Rattle.jm_meaning.specs.declared.transaction.Tally.{Tally}
 use Rattle.jm_meaning.specs.State.{State, Ending, Part, state_of}
+use Rattle.jm_meaning.specs.Transactions.{counted}
 use Rattle.jm_meaning.specs.Meaning.{Here}
 use Rattle.jm_meaning.specs.Shown.{Shows}
 use Rattle.plain_run.specs.declared.progress.Progress.{Progress}
 
 -- the state of a thread that has come so far
 abbrev pub state_in : Progress → State
-state_in p = state_of p.user (record { units = p.units; rounds = p.rounds })
+state_in p = state_of p.user (record { units = p.units; rounds = p.rounds; places = p.places })
 
 -- a part that has ended so
 abbrev pub ended : Progress → Signal → Ending
 ended p signal = record { state = state_in p; signal = signal }
 
--- Between two moments of its outside the thread has run the part: it shows what the part gives, and the part has ended so.
--- No rounds came to those left.
+-- Between two moments of its outside the run has given what the new items show, and goes on as the rest, and the tally has
+-- counted what it gave.
+pub record Tells {A : Type 0} (before : Account) (old : List Item) (first : Tally) (run rest : Run A) (new : List Item) (last : Tally) (after : Account) : Type 0 where
+  pub shows : Shows before old run rest new after
+  pub counts : last ≡ counted first shows.events
+
+-- Between two moments of its outside the thread has run the part: it shows and counts what the part gives, and the part has
+-- ended so. No rounds came to those left.
 pub record Plays (before : Account) (old : Progress) (part : Part) (signal : Signal) (new : Progress) (after : Account) : Type 0 where
-  pub shows : Shows before old.items.items (part (state_in old)) (over (ended new signal)) new.items.items after
+  pub tells : Tells before old.items.items old.tally (part (state_in old)) (over (ended new signal)) new.items.items new.tally after
   pub fewer : new.rounds ≤ old.rounds
 
 -- what the run of a thread is over, by its plan and what a failed sample leads to

@@ -1,21 +1,26 @@
 // The elements below a thread group, each by its kind.
 
-ghost use Rattle.std.specs.Prelude.{◌≡◌, ◌≤◌, IfOk, slice_get, Some};
+ghost use Rattle.std.specs.Prelude.{◌≡◌, ◌≤◌, IfOk, length, slice_get, Some};
 ghost use Rattle.element_tree.specs.declared.kinds.Element.{Element};
+ghost use Rattle.choice_controllers.specs.SwitchController.{run_names};
 ghost use Rattle.jm_meaning.specs.State.{text};
 ghost use Rattle.jm_meaning.specs.Beginning.{max_rounds};
 ghost use Rattle.jm_meaning.specs.Rounds.{rounds, loop_turns, while_turns, each_turns};
 ghost use Rattle.jm_meaning.specs.Children.{in_order, if_once, if_each};
+ghost use Rattle.jm_meaning.specs.Choices.{chosen, interleave, random, random_order, switch};
+ghost use Rattle.jm_meaning.specs.Transactions.{transaction};
 ghost use Rattle.jm_meaning.specs.Meaning.{meaning, kind_meaning};
 ghost use Rattle.plain_run.specs.Plays.{Plays, here_of};
 
+use crate::choices::{picks, random_place, shuffled};
 use crate::progress::Progress;
 use crate::rules::{
     Span, children_of, goes_on, is_true, last_ok, loops_of, round_begins, value_at,
 };
+use crate::transaction::{give_sum, joined};
 use element_tree::{Element, Kind, Loops, Plan};
 use jm_base::{End, M, Outside, Text};
-use jm_meaning::Signal;
+use jm_meaning::{Signal, Tally};
 use template_text::Template;
 
 // Runs an element, at which and below which elements nest at most so deep, in a round of its nearest looping ancestor.
@@ -120,6 +125,24 @@ fn run_kind<O: Outside>(
                 plan, at_failure, depth, name, input, span, output, children, progress, outside,
             )
         }
+        Kind::Switch { value } => run_switch(
+            plan, at_failure, depth, element, value, children, round, progress, outside,
+        ),
+        Kind::Interleave => run_interleave(
+            plan, at_failure, depth, number, children, round, progress, outside,
+        ),
+        Kind::Random => run_random(plan, at_failure, depth, children, round, progress, outside),
+        Kind::RandomOrder => run_order(plan, at_failure, depth, children, round, progress, outside),
+        Kind::Transaction => run_transaction(
+            plan,
+            at_failure,
+            depth,
+            plan.label_of(number),
+            children,
+            round,
+            progress,
+            outside,
+        ),
         Kind::Script { request, .. } => {
             progress.sample(plan.label_of(number), number, request, at_failure, outside)
         }
@@ -209,6 +232,169 @@ fn run_if_each<O: Outside>(
         }
     }
     Ok(Signal::Normal)
+}
+
+// The child at the place that was chosen, where there is one.
+#[cycle(elements)]
+fn run_chosen<O: Outside>(
+    plan: &Plan,
+    at_failure: Signal,
+    depth: u8,
+    children: &[u16],
+    pick: Option<u16>,
+    round: u32,
+    progress: &mut Progress,
+    outside: &mut O,
+) -> M<Signal>
+    requires rounds { progress.old.rounds ≤ max_rounds }
+    ensures { IfOk result (λ signal. Plays (O.account outside.old) progress.old
+        (chosen (meaning (here_of plan.now at_failure) depth) round children.now pick)
+        signal progress.new (O.account outside.new)) }
+{
+    let Some(place) = pick else {
+        return Ok(Signal::Normal);
+    };
+    match children.get(usize::from(place)) {
+        Some(child) => run_element(plan, at_failure, depth, *child, round, progress, outside),
+        None => Ok(Signal::Normal),
+    }
+}
+
+// An Interleave moves on, and then runs the child at the place that it was at.
+#[cycle(elements)]
+fn run_interleave<O: Outside>(
+    plan: &Plan,
+    at_failure: Signal,
+    depth: u8,
+    number: u16,
+    children: &[u16],
+    round: u32,
+    progress: &mut Progress,
+    outside: &mut O,
+) -> M<Signal>
+    requires rounds { progress.old.rounds ≤ max_rounds }
+    requires few { length children.now ≤ 65535 }
+    ensures { IfOk result (λ signal. Plays (O.account outside.old) progress.old
+        (interleave (meaning (here_of plan.now at_failure) depth) round number children.now)
+        signal progress.new (O.account outside.new)) }
+{
+    if children.is_empty() {
+        return Ok(Signal::Normal);
+    }
+    let place = progress.move_on(number, children.len() as u16);
+    run_chosen(
+        plan,
+        at_failure,
+        depth,
+        children,
+        Some(place),
+        round,
+        progress,
+        outside,
+    )
+}
+
+// A Random runs the child that a word picks.
+#[cycle(elements)]
+fn run_random<O: Outside>(
+    plan: &Plan,
+    at_failure: Signal,
+    depth: u8,
+    children: &[u16],
+    round: u32,
+    progress: &mut Progress,
+    outside: &mut O,
+) -> M<Signal>
+    requires rounds { progress.old.rounds ≤ max_rounds }
+    requires few { length children.now ≤ 65535 }
+    ensures { IfOk result (λ signal. Plays (O.account outside.old) progress.old
+        (random (meaning (here_of plan.now at_failure) depth) round children.now)
+        signal progress.new (O.account outside.new)) }
+{
+    let chosen = random_place(children.len() as u16, &mut progress.user.fns);
+    run_chosen(
+        plan, at_failure, depth, children, chosen, round, progress, outside,
+    )
+}
+
+// A Random Order runs its children in an order that words make.
+#[cycle(elements)]
+fn run_order<O: Outside>(
+    plan: &Plan,
+    at_failure: Signal,
+    depth: u8,
+    children: &[u16],
+    round: u32,
+    progress: &mut Progress,
+    outside: &mut O,
+) -> M<Signal>
+    requires rounds { progress.old.rounds ≤ max_rounds }
+    ensures { IfOk result (λ signal. Plays (O.account outside.old) progress.old
+        (random_order (meaning (here_of plan.now at_failure) depth) round children.now)
+        signal progress.new (O.account outside.new)) }
+{
+    let order = shuffled(progress.alloc, children, &mut progress.user.fns)?;
+    run_children(
+        plan,
+        at_failure,
+        depth,
+        order.as_slice(),
+        round,
+        progress,
+        outside,
+    )
+}
+
+// A Switch runs the child that its text picks.
+#[cycle(elements)]
+fn run_switch<O: Outside>(
+    plan: &Plan,
+    at_failure: Signal,
+    depth: u8,
+    element: &Element,
+    value: &Template,
+    children: &[u16],
+    round: u32,
+    progress: &mut Progress,
+    outside: &mut O,
+) -> M<Signal>
+    requires rounds { progress.old.rounds ≤ max_rounds }
+    ensures { IfOk result (λ signal. Plays (O.account outside.old) progress.old
+        (switch (meaning (here_of plan.now at_failure) depth) round (run_names plan.now.elements element.now) children.now (text value.now))
+        signal progress.new (O.account outside.new)) }
+{
+    let Some(text) = progress.text(value, outside)? else {
+        return Ok(Signal::Stop(End::ValueLimit));
+    };
+    let chosen = picks(plan, element, text.bytes());
+    run_chosen(
+        plan, at_failure, depth, children, chosen, round, progress, outside,
+    )
+}
+
+// A Transaction runs its children, and then gives its sample. What it counts is counted by the one around it too.
+#[cycle(elements)]
+fn run_transaction<O: Outside>(
+    plan: &Plan,
+    at_failure: Signal,
+    depth: u8,
+    label: u16,
+    children: &[u16],
+    round: u32,
+    progress: &mut Progress,
+    outside: &mut O,
+) -> M<Signal>
+    requires { progress.old.rounds ≤ max_rounds }
+    ensures { IfOk result (λ signal. Plays (O.account outside.old) progress.old
+        (transaction label (in_order (meaning (here_of plan.now at_failure) depth) round children.now))
+        signal progress.new (O.account outside.new)) }
+{
+    let around = progress.tally;
+    progress.tally = Tally::none();
+    let signal = run_children(plan, at_failure, depth, children, round, progress, outside)?;
+    let inside = progress.tally;
+    progress.tally = joined(around, inside);
+    give_sum(progress, label, inside, signal)
 }
 
 // The rounds of a Loop.

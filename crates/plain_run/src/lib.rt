@@ -2,10 +2,12 @@
 //! shows is the meaning of its plan.
 #![tactic(auto)]
 
+mod choices;
 mod elements;
 mod group;
 mod progress;
 mod rules;
+mod transaction;
 
 ghost use Rattle.std.specs.Prelude.{length, ◌<◌, ◌≡◌, [], ℕ, IfOk, OnOk};
 ghost use Rattle.jm_base.specs.Run.{Run, over};
@@ -18,7 +20,7 @@ use crate::group::run_thread;
 use crate::progress::Progress;
 use element_tree::Plan;
 use jm_base::{End, M, Outside};
-use jm_meaning::{Item, Signal, ramp_up_pause};
+use jm_meaning::{Item, Places, Signal, Tally, ramp_up_pause};
 use std::alloc::Global;
 use var_functions::{FnState, Props, UserState, Vars};
 
@@ -47,6 +49,8 @@ pub fn run_plainly<O: Outside>(
         user: first_user(alloc, plan, thread, seed, props)?,
         units: budget,
         rounds: 16_777_216,
+        places: Places::first(alloc, plan)?,
+        tally: Tally::none(),
         items: Vec::new(alloc),
     };
     pause(ramp_up_pause(plan, thread), outside, &mut progress.items)?;

@@ -1,20 +1,21 @@
 // How far a thread has come, and the steps of its run that are no recursion.
 
-ghost use Rattle.std.specs.Prelude.{◌≡◌, ◌<◌, [], IfOk, MatchResult};
+ghost use Rattle.std.specs.Prelude.{◌≡◌, ◌≤◌, ◌<◌, ◌%◌, [], IfOk, MatchResult};
 ghost use Rattle.jm_base.specs.declared.types.End.TheVariants.{ValueLimit as PastValueLimit};
 ghost use Rattle.jm_base.specs.Run.{over};
 ghost use Rattle.jm_base.specs.Outside.{Account, Goes};
 ghost use Rattle.logic_controllers.specs.Rounds.{index_name};
-ghost use Rattle.jm_meaning.specs.State.{and_then, normal, put, text, with_round, with_unit};
+ghost use Rattle.jm_meaning.specs.State.{and_then, normal, place_of, put, text, with_round, with_unit};
 ghost use Rattle.jm_meaning.specs.Rounds.{set_index};
+ghost use Rattle.jm_meaning.specs.Choices.{moved_on};
 ghost use Rattle.jm_meaning.specs.Beginning.{set_first};
 ghost use Rattle.jm_meaning.specs.Sampling.{sampling, after_sample};
-ghost use Rattle.plain_run.specs.Plays.{Plays};
+ghost use Rattle.plain_run.specs.Plays.{state_in, Plays};
 
 use crate::rules::{decimal_text, index_name};
 use element_tree::Plan;
 use jm_base::{End, M, NoMemory, Outside, Text};
-use jm_meaning::{Item, Signal, put_copy, run_sampler, set_first};
+use jm_meaning::{Item, Places, Signal, Tally, put_copy, run_sampler, set_first};
 use std::alloc::Global;
 use template_text::Template;
 use var_functions::{UserState, VarError, expand};
@@ -29,6 +30,10 @@ pub struct Progress {
     pub units: u32,
     /// The rounds left.
     pub rounds: u32,
+    /// The places of the plan's Interleave Controllers.
+    pub places: Places,
+    /// What its samplers gave in the innermost transaction that is open, or outside of all.
+    pub tally: Tally,
     /// What its trace shows so far.
     pub items: Vec<Item>,
 }
@@ -133,6 +138,19 @@ impl Progress {
         }
     }
 
+    /// The Interleave Controller of this number moves on to the next of so many children, from the place that is answered.
+    pub fn move_on(&mut self, number: u16, children: u16) -> u16
+        requires { 1 ≤ children }
+        ensures place { result ≡ place_of self.old.places number % children }
+        ensures moved { state_in self.new ≡ moved_on number children (state_in self.old) }
+        ensures same { self.new ≡ record self.old { places = self.new.places } }
+    {
+        let place = self.places.of(number);
+        let next = (u32::from(place) + 1) % u32::from(children);
+        self.places.set(number, next as u16);
+        place % children
+    }
+
     /// Runs a sampler by its label, its element's number and its request, where a unit is left.
     pub fn sample<O: Outside>(
         &mut self,
@@ -156,6 +174,7 @@ impl Progress {
             }
             Ok(Some(sample)) => {
                 let signal = after_sample(sample.ok, at_failure);
+                self.tally = self.tally.with(&sample);
                 self.items.push(Item::Sampled(sample))?;
                 Ok(signal)
             }

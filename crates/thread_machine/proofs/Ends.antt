@@ -7,7 +7,7 @@ use Rattle.jm_base.specs.declared.types.Entry.{Entry}
 use Rattle.jm_base.specs.declared.types.Sample.{Sample}
 use Rattle.jm_base.specs.declared.types.End.{End}
 use Rattle.jm_base.specs.declared.types.End.TheVariants.{Completed, StopThread, StopTest, Stopped, SampleLimit, RoundLimit, ValueLimit, NoMemory}
-use Rattle.jm_base.specs.Run.{Run, over, Event, Waited, Sampled, Nothing, Ended, Sampler, over_value}
+use Rattle.jm_base.specs.Run.{Run, over, Event, Waited, Sampled, Nothing, Ended, over_value}
 use Rattle.jm_base.specs.Outside.{Account, Goes, Scripts, Replays, list_form, script_form}
 use Rattle.jm_base.proofs.RunLaws.{path-value, list-replays, goes-append, goes-nothing}
 use Rattle.element_tree.specs.Tree.{Tree}
@@ -100,9 +100,9 @@ module _ (start now later : Account) (options : Options) (w new : Standing) (sta
   -- a sample was given and is owed
   pub stands_sample : (entry : Entry) → GivesSample now later (rest w) w new entry → Stands start later options new
   stands_sample entry g = record {
-    so_far = stands.so_far ++ Sampled Sampler g.sample ∷ [];
+    so_far = stands.so_far ++ Sampled g.giver g.sample ∷ [];
     goes = same_thread start later options w new _ (rest new) (ap (λ s. s.plan) g.new_is) (ap (λ s. s.thread) g.new_is) (goes-append stands.goes g.goes);
-    shows = shown-append stands.so_far (Sampled Sampler g.sample ∷ []) ∙ ap (λ xs. xs ++ SampledItem g.sample ∷ []) shows_so_far
+    shows = shown-append stands.so_far (Sampled g.giver g.sample ∷ []) ∙ ap (λ xs. xs ++ SampledItem g.sample ∷ []) shows_so_far
         ∙ sym (ap (λ s. bare s.trace ++ owed_items s.owed) g.new_is);
   }
 

@@ -1,16 +1,18 @@
--- A sampler's label is one of the plan's labels.
+-- The label of a sampler or a transaction is one of the plan's labels.
 use Rattle.std.proofs.Common.{◌≡◌, ℕ, zero, suc, ◌≤◌, ◌<◌, Bool, true, false, List, [], ◌∷◌, ◌++◌, length, Option, Some, None, refl, ap, ◌∙◌, arith, length-append}
 use Rattle.std.specs.Prelude.{slice_get, unwrap_or, position, if◌then◌else◌}
 use Rattle.std.specs.List.{filter_map, list_any}
 use Rattle.std.proofs.lemmas.List.Quantifiers.{position-Some}
 use Rattle.std.proofs.lemmas.Option.{slice_get_within}
 use Rattle.jm_base.specs.Outside.{same_bytes}
+use Rattle.jm_base.specs.Run.{Giver, Sampler, Transaction}
 use Rattle.element_tree.specs.declared.kinds.Element.{Element}
 use Rattle.element_tree.specs.declared.kinds.Kind.{Kind}
 use Rattle.element_tree.specs.declared.kinds.Kind.TheVariants as kinds
 use Rattle.element_tree.specs.declared.types.Class.TheVariants as classes
 use Rattle.element_tree.specs.Types.{class_of}
 use Rattle.control_machine.specs.Left.{IsScript}
+use Rattle.thread_machine.specs.Stepped.{IsKindOf}
 use Rattle.element_tree.specs.Names.{gives_samples, sample_name, with_text, distinct_after, labels_of, label_of}
 
 no_fewer : (seen : List (List ℕ)) (x : List ℕ) → length seen ≤ length (with_text seen x)
@@ -55,11 +57,16 @@ gives_by_class (kinds.Script replies request) h = refl
 gives_by_class (kinds.Http body host method params path port replies) h = refl
 gives_by_class k h = absurd (cc)
 
-pub label_within : (elements : List Element) (n : ℕ) (e : Element) → slice_get elements n ≡ Some e → class_of e.kind ≡ classes.Sampler
+-- and so does a transaction
+gives_by : (giver : Giver) (k : Kind) → IsKindOf giver k → gives_samples k ≡ true
+gives_by Sampler k h = gives_by_class k h
+gives_by Transaction k h = ap gives_samples h
+
+pub label_within : (elements : List Element) (n : ℕ) (e : Element) (giver : Giver) → slice_get elements n ≡ Some e → IsKindOf giver e.kind
     → label_of elements e.name < length (labels_of elements)
 unfolding labels_of
-label_within elements n e there class_is =
-    let name : sample_name e ≡ Some e.name = ap (λ b. if b then Some e.name else None) (gives_by_class e.kind class_is) in
+label_within elements n e giver there kind_is =
+    let name : sample_name e ≡ Some e.name = ap (λ b. if b then Some e.name else None) (gives_by giver e.kind kind_is) in
     within (same_bytes e.name) _ (some_distinct _ (named elements n e e.name there name))
 
 -- a Script sampler is a sampler

@@ -3,6 +3,8 @@ pub mod FirstLaws
 pub mod Labels
 pub mod Steps
 pub mod Samplers
+pub mod Summing
 pub mod Ends
 pub mod Sound
 pub mod Intervals
+pub mod Counts

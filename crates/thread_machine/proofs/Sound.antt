@@ -4,7 +4,7 @@ use Rattle.std.specs.Prelude.{All}
 use Rattle.std.proofs.lemmas.List.Elements.{All-push}
 use Rattle.jm_base.specs.declared.types.End.{End}
 use Rattle.jm_base.specs.declared.types.End.TheVariants.{Completed, StopThread, StopTest, Stopped, SampleLimit, RoundLimit, ValueLimit, NoMemory}
-use Rattle.jm_base.specs.Run.{Run}
+use Rattle.jm_base.specs.Run.{Run, Giver}
 use Rattle.jm_base.specs.Outside.{Account}
 use Rattle.element_tree.specs.Tree.{Tree}
 use Rattle.element_tree.specs.Names.{labels_of}
@@ -15,7 +15,7 @@ use Rattle.thread_machine.specs.declared.step.Step.{Step}
 use Rattle.thread_machine.specs.declared.step.Step.TheVariants.{Sampled, Null, Enter, Leave, Ended}
 use Rattle.thread_machine.specs.Bare.{IsLabelled}
 use Rattle.thread_machine.specs.Standing.{Standing, rest}
-use Rattle.thread_machine.specs.Stepped.{IsSampler, Begins, IsOver, Ends, Gives, Steps}
+use Rattle.thread_machine.specs.Stepped.{IsGiver, Begins, IsOver, Ends, Gives, Steps}
 use Rattle.thread_machine.specs.Recorded.{Recorded}
 use Rattle.thread_machine.specs.Inside.{standing_of, IsSound}
 use Rattle.thread_machine.specs.Ran.{is_end, IsCutBehind, GoesOnBehind}
@@ -27,8 +27,8 @@ labels_kept : (plan : Tree) (new : Runner) (items : List TraceItem) → new.plan
     → All (IsLabelled (length (labels_of plan.elements))) items → All (IsLabelled (length (labels_of new.plan.now.elements))) new.trace.items
 labels_kept plan new items is same all = rw (is, same) all
 
-owed_within : (plan : Tree) (number label : ℕ) → IsSampler plan number label → label < length (labels_of plan.elements)
-owed_within plan number label s = rw s.label_is (label_within plan.elements number s.element s.there s.class_is)
+owed_within : (giver : Giver) (plan : Tree) (number label : ℕ) → IsGiver giver plan number label → label < length (labels_of plan.elements)
+owed_within giver plan number label s = rw s.label_is (label_within plan.elements number s.element giver s.there s.kind_is)
 
 module _ (a b : Account) (run : Run (Unit {0})) (s : Standing) (new : Runner) (none : s.owed ≡ None) (labels_so_far : All (IsLabelled (length (labels_of s.plan.elements))) s.trace) where
   abbrev labels : ℕ
@@ -60,7 +60,7 @@ module _ (a b : Account) (run : Run (Unit {0})) (s : Standing) (new : Runner) (n
     going = λ h. on;
     settled = λ h. absurd (cc);
     labels = labels_kept s.plan new s.trace (ap (λ s. s.plan) g.new_is) (ap (λ s. s.trace) g.new_is) labels_so_far;
-    owed_label = rw (ap (λ s. s.plan) g.new_is, ap (λ s. s.owed) g.new_is) (owed_within s.plan g.number g.sample.label g.sampler);
+    owed_label = rw (ap (λ s. s.plan) g.new_is, ap (λ s. s.owed) g.new_is) (owed_within g.giver s.plan g.number g.sample.label g.given_by);
   }
   gives_sound Null g on = record {
     going = λ h. on;

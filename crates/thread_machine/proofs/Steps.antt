@@ -17,8 +17,8 @@ use Rattle.var_functions.proofs.CameLaws.{came-bind, refused-first}
 use Rattle.element_tree.specs.declared.threads.Thread.{Thread}
 use Rattle.element_tree.specs.declared.kinds.Element.{Element}
 use Rattle.element_tree.specs.Tree.{Tree, threads_of, group_of}
-use Rattle.jm_meaning.specs.State.{State, Own, Ending, Part, state_of, at_rounds, normal, stopped, on_normal, and_then}
-use Rattle.jm_meaning.specs.Beginning.{Options, max_rounds, first_of, set_first}
+use Rattle.jm_meaning.specs.State.{State, Own, Ending, state_of, normal, stopped, on_normal, and_then}
+use Rattle.jm_meaning.specs.Beginning.{Options, max_rounds, first_places, first_of, set_first}
 use Rattle.jm_meaning.specs.RampUp.{pause_of}
 use Rattle.jm_meaning.specs.Meaning.{and_end, behind_pause, end_of, events, thread_part, group_part, here_at}
 use Rattle.control_machine.specs.declared.machine.Machine.{Machine}
@@ -55,10 +55,6 @@ left_first w begun =
 
 -- ---- from move to move
 
--- nothing has happened yet, with these rounds left
-pub no_move : (a : Account) (f : Part) (user : UserState) (own : Own) (n : ℕ) → own.rounds ≡ n → Goes a (f (state_of user own)) [] (f (state_of user (at_rounds own n))) a
-no_move a f user own n same = subst (λ k. Goes a (f (state_of user own)) [] (f (state_of user (at_rounds own k))) a) same (goes-nothing a (f (state_of user own)))
-
 -- behind the begin of a round nothing is given
 pub round_goes : (a b : Account) (plan : Tree) (m : Machine) (s : State) (run : Run Ending) (move : Move) (index : ℕ) → move ≡ Iteration index
     → Goes a run [] (moved plan m s move) b → Goes a run [] (left_of plan m s) b
@@ -81,10 +77,10 @@ set_already a w begun = subst (λ r. Goes a (left_to w) [] r a) (left_on w begun
 -- they are set now
 pub set_now : (a b : Account) (w : Runner) (user : UserState) (res : Result (Unit {0}) VarError) → w.begun ≡ false
     → ((own : Own) → CameTo a (set_first w.plan.now.elements (state_of w.user own)) b (λ (u : Unit {0}). over (normal (state_of user own))) (over (stopped PastValueLimit (state_of user own))) res)
-    → CameTo a (left_to w) b (λ (u : Unit {0}). left_of w.plan.now w.machine (state_of user (record { units = w.units; rounds = w.machine.rounds })))
-    (past (state_of user (record { units = w.units; rounds = w.machine.rounds }))) res
+    → CameTo a (left_to w) b (λ (u : Unit {0}). left_of w.plan.now w.machine (state_of user (record { units = w.units; rounds = w.machine.rounds; places = w.machine.places })))
+    (past (state_of user (record { units = w.units; rounds = w.machine.rounds; places = w.machine.places }))) res
 set_now a b w user res begun came =
-    let own : Own = record { units = w.units; rounds = w.machine.rounds } in
+    let own : Own = record { units = w.units; rounds = w.machine.rounds; places = w.machine.places } in
     subst (λ r. CameTo a r b (λ (u : Unit {0}). left_of w.plan.now w.machine (state_of user own)) (past (state_of user own)) res) (sym (left_first w begun))
     (came-bind a b (set_first w.plan.now.elements (state_of w.user own)) (λ (u : Unit {0}). over (normal (state_of user own))) (over (stopped PastValueLimit (state_of user own))) res
     (on_normal (left_of w.plan.now w.machine)) (came own))
@@ -163,9 +159,10 @@ ends_behind a m b run run' w begun user machine new EndNoMemory go g = record { 
 step_behind : (a m b : Account) (run run' : Run (Unit {0})) (w : Standing) (begun : Bool) (user : UserState) (machine : Machine) (new : Standing) (step : Step) → Goes a run [] run' m
     → Gives m b run' (record w { begun = begun; user = user; machine = machine }) new step → Gives a b run w new step
 step_behind a m b run run' w begun user machine new (SampledStep entry) go g = record {
+  giver = g.giver;
   sample = g.sample;
   number = g.number;
-  sampler = g.sampler;
+  given_by = g.given_by;
   goes = goes-append go g.goes;
   entry_is = g.entry_is;
   unit = g.unit;
@@ -183,22 +180,22 @@ step_behind a m b run run' w begun user machine new (Enter lock) go g = g
 step_behind a m b run run' w begun user machine new (Leave lock) go g = g
 step_behind a m b run run' w begun user machine new (EndedStep end) go g = ends_behind a m b run run' w begun user machine new end go g
 
--- the sampler that the move names
-pub gives_behind : (a m b : Account) (w mid new : Runner) (s : State) (move : Move) (number : ℕ) (step : Step) → move ≡ RunSampler number
+-- what the move names
+pub gives_behind : (a m b : Account) (w mid new : Runner) (s : State) (move next : Move) (step : Step) → move ≡ next
     → Goes a (left_to w) [] (moved mid.plan.now mid.machine s move) m → mid ≡ record w { begun = mid.begun; user = mid.user; machine = mid.machine }
-    → Gives m b (and_end (moved mid.plan.now mid.machine s (RunSampler number))) (standing_of mid false) (standing_of new (is_end step)) step
+    → Gives m b (and_end (moved mid.plan.now mid.machine s next)) (standing_of mid false) (standing_of new (is_end step)) step
     → Gives a b (and_end (left_to w)) (standing_of w false) (standing_of new (is_end step)) step
-gives_behind a m b w mid new s move number step move_is goes mid_is g =
-    let run' : Run Ending = moved mid.plan.now mid.machine s (RunSampler number) in
-    let at_sampler : Goes a (left_to w) [] run' m = subst (λ k. Goes a (left_to w) [] (moved mid.plan.now mid.machine s k) m) move_is goes in
+gives_behind a m b w mid new s move next step move_is goes mid_is g =
+    let run' : Run Ending = moved mid.plan.now mid.machine s next in
+    let at_next : Goes a (left_to w) [] run' m = subst (λ k. Goes a (left_to w) [] (moved mid.plan.now mid.machine s k) m) move_is goes in
     step_behind a m b (and_end (left_to w)) (and_end run') (standing_of w false) mid.begun mid.user mid.machine (standing_of new (is_end step)) step
-    (goes-bind (λ e. give (Ended (end_of e.signal)) (over tt)) at_sampler)
+    (goes-bind (λ e. give (Ended (end_of e.signal)) (over tt)) at_next)
     (subst (λ v. Gives m b (and_end run') v (standing_of new (is_end step)) step) (ap (λ r. standing_of r false) mid_is) g)
 
-pub refused_behind : (a m b : Account) (w mid new : Runner) (s : State) (move : Move) (number : ℕ) (error : VarError) → move ≡ RunSampler number
+pub refused_behind : (a m b : Account) (w mid new : Runner) (s : State) (move next : Move) (error : VarError) → move ≡ next
     → Goes a (left_to w) [] (moved mid.plan.now mid.machine s move) m → mid ≡ record w { begun = mid.begun; user = mid.user; machine = mid.machine }
-    → IsRefusedAt m (moved mid.plan.now mid.machine s (RunSampler number)) b mid new error → IsRefusedAt a (left_to w) b w new error
-refused_behind a m b w mid new s move number error move_is goes mid_is r = record {
+    → IsRefusedAt m (moved mid.plan.now mid.machine s next) b mid new error → IsRefusedAt a (left_to w) b w new error
+refused_behind a m b w mid new s move next error move_is goes mid_is r = record {
   state = r.state;
   refused = refused-first (subst (λ k. Goes a (left_to w) [] (moved mid.plan.now mid.machine s k) m) move_is goes) r.refused;
   same = record {
@@ -296,16 +293,17 @@ cut_ended a b w new t h items = record {
 
 -- ---- a thread before its first step
 
-pub first_is : (plan : Tree) (thread : ℕ) (options : Options) (t : Thread) (vars : Variables) (fns : Functions) (stream rounds : ℕ) → slice_get (threads_of plan) thread ≡ Some t
-    → vars ≡ [] → fns ≡ first_functions options.props t.number stream options.seed → stream ≡ thread → rounds ≡ max_rounds
-    → state_of (record { vars = vars; fns = fns }) (record { units = options.budget; rounds = rounds }) ≡ first_of plan thread options
-first_is plan thread options t vars fns stream rounds there vars_are fns_are stream_is rounds_are =
+pub first_is : (plan : Tree) (thread : ℕ) (options : Options) (t : Thread) (vars : Variables) (fns : Functions) (stream rounds : ℕ) (places : List ℕ) → slice_get (threads_of plan) thread ≡ Some t
+    → vars ≡ [] → fns ≡ first_functions options.props t.number stream options.seed → stream ≡ thread → rounds ≡ max_rounds → places ≡ first_places plan.elements
+    → state_of (record { vars = vars; fns = fns }) (record { units = options.budget; rounds = rounds; places = places }) ≡ first_of plan thread options
+first_is plan thread options t vars fns stream rounds places there vars_are fns_are stream_is rounds_are places_are =
     let number : unwrap_or (option_map (λ (t : Thread). t.number) (slice_get (threads_of plan) thread)) 0 ≡ t.number = ap (λ o. unwrap_or (option_map (λ (t : Thread). t.number) o) 0) there in
-    ap (λ vs. state_of (record { vars = vs; fns = fns }) (record { units = options.budget; rounds = rounds })) vars_are
-    ∙ ap (λ f. state_of (record { vars = []; fns = f }) (record { units = options.budget; rounds = rounds })) fns_are
-    ∙ ap (λ n. state_of (record { vars = []; fns = first_functions options.props t.number n options.seed }) (record { units = options.budget; rounds = rounds })) stream_is
-    ∙ ap (λ n. state_of (record { vars = []; fns = first_functions options.props t.number thread options.seed }) (record { units = options.budget; rounds = n })) rounds_are
-    ∙ ap (λ n. state_of (record { vars = []; fns = first_functions options.props n thread options.seed }) (record { units = options.budget; rounds = max_rounds })) (sym number)
+    ap (λ vs. state_of (record { vars = vs; fns = fns }) (record { units = options.budget; rounds = rounds; places = places })) vars_are
+    ∙ ap (λ f. state_of (record { vars = []; fns = f }) (record { units = options.budget; rounds = rounds; places = places })) fns_are
+    ∙ ap (λ n. state_of (record { vars = []; fns = first_functions options.props t.number n options.seed }) (record { units = options.budget; rounds = rounds; places = places })) stream_is
+    ∙ ap (λ n. state_of (record { vars = []; fns = first_functions options.props t.number thread options.seed }) (record { units = options.budget; rounds = n; places = places })) rounds_are
+    ∙ ap (λ ps. state_of (record { vars = []; fns = first_functions options.props t.number thread options.seed }) (record { units = options.budget; rounds = max_rounds; places = ps })) places_are
+    ∙ ap (λ n. state_of (record { vars = []; fns = first_functions options.props n thread options.seed }) (record { units = options.budget; rounds = max_rounds; places = first_places plan.elements })) (sym number)
 
 module _ (w : Runner) (options : Options) (pause : w.pause ≡ pause_of w.plan.now w.thread) (begun : w.begun ≡ false)
     (first : state_in (standing_of w false) ≡ first_of w.plan.now w.thread options)
@@ -319,9 +317,9 @@ module _ (w : Runner) (options : Options) (pause : w.pause ≡ pause_of w.plan.n
   part_is =
       left_first w begun
       ∙ ap (λ s. and_then (set_first w.plan.now.elements s) (left_of w.plan.now w.machine)) first
-      ∙ first_alike (record { units = options.budget; rounds = max_rounds }) w.plan.now.elements (left_of w.plan.now w.machine)
+      ∙ first_alike (record { units = options.budget; rounds = max_rounds; places = first_places w.plan.now.elements }) w.plan.now.elements (left_of w.plan.now w.machine)
       (group_part (here_at w.plan.now group) (slice_get w.plan.now.elements group))
-      (λ user. whole user (record { units = options.budget; rounds = max_rounds }) refl) (first_of w.plan.now w.thread options).user
+      (λ user. whole user (record { units = options.budget; rounds = max_rounds; places = first_places w.plan.now.elements }) refl) (first_of w.plan.now w.thread options).user
 
   whole_is : rest (standing_of w false) ≡ events w.plan.now w.thread options
   unfolding events

@@ -12,7 +12,7 @@ use Rattle.jm_meaning.specs.State.{State, Ending}
 use Rattle.control_machine.specs.declared.moves.Move.{Move}
 use Rattle.control_machine.specs.declared.moves.Move.TheVariants.{Iteration, RunSampler, EnterSection, LeaveSection, TransactionSample, Finished}
 use Rattle.control_machine.specs.Moves.{past}
-use Rattle.control_machine.specs.Left.{IsSampler, IsFinish}
+use Rattle.control_machine.specs.Left.{IsSampler, IsTransaction, IsFinish}
 use Rattle.thread_machine.specs.declared.runner.Runner.{Runner}
 use Rattle.thread_machine.specs.declared.step.Step.{Step}
 use Rattle.thread_machine.specs.declared.step.Step.TheVariants.{Sampled, Null, Enter, Leave, Ended}
@@ -27,13 +27,13 @@ is_end (Enter lock) = false
 is_end (Leave lock) = false
 is_end (Ended end) = true
 
--- the moves that end a step: a sampler runs, or the thread's rounds are over
+-- the moves that end a step: a sampler runs, a transaction gives its sample, or the thread's rounds are over
 abbrev pub IsTaken : List Element → Move → Type 0
 IsTaken elements (Iteration index) = ⊥
 IsTaken elements (RunSampler number) = IsSampler elements number
 IsTaken elements (EnterSection lock) = ⊥
 IsTaken elements (LeaveSection lock) = ⊥
-IsTaken elements (TransactionSample element tally) = ⊥
+IsTaken elements (TransactionSample element tally) = IsTransaction elements element
 IsTaken elements (Finished end) = IsFinish end
 
 -- this is what a Script sampler asks for

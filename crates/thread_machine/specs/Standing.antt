@@ -32,7 +32,7 @@ pub record Standing : Type 0 where
   pub ended : Bool
 
 abbrev pub state_in : Standing → State
-state_in w = record { user = w.user; own = record { units = w.units; rounds = w.machine.rounds } }
+state_in w = record { user = w.user; own = record { units = w.units; rounds = w.machine.rounds; places = w.machine.places } }
 
 -- what is left of the thread's part of the plan
 abbrev pub part_left : Standing → Run Ending

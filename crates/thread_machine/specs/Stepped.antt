@@ -4,9 +4,11 @@ use Rattle.jm_base.specs.declared.types.Entry.{Entry}
 use Rattle.jm_base.specs.declared.types.Sample.{Sample}
 use Rattle.jm_base.specs.declared.types.End.{End}
 use Rattle.jm_base.specs.declared.types.End.TheVariants.{Completed, StopThread, StopTest, Stopped, SampleLimit, RoundLimit, ValueLimit, NoMemory}
-use Rattle.jm_base.specs.Run.{Run, over, Waited, Sampled, Nothing, Ended, Sampler}
+use Rattle.jm_base.specs.Run.{Run, over, Waited, Sampled, Nothing, Ended, Giver, Sampler, Transaction}
 use Rattle.jm_base.specs.Outside.{Account, Goes}
 use Rattle.element_tree.specs.declared.kinds.Element.{Element}
+use Rattle.element_tree.specs.declared.kinds.Kind.{Kind}
+use Rattle.element_tree.specs.declared.kinds.Kind.TheVariants as kinds
 use Rattle.element_tree.specs.declared.types.Class.TheVariants as classes
 use Rattle.element_tree.specs.Types.{class_of}
 use Rattle.element_tree.specs.Tree.{Tree}
@@ -34,19 +36,25 @@ pub record IsStill (before after : Account) (old new : Standing) : Type 0 where
 abbrev pub Begins : Account → Account → Standing → Standing → Type 0
 Begins before after old new = HasPaused before after old new ⊎ IsStill before after old new
 
--- the number is that of a sampler of the plan, and this is its label
-pub record IsSampler (plan : Tree) (number label : ℕ) : Type 0 where
+-- elements of this kind give such samples
+abbrev pub IsKindOf : Giver → Kind → Type 0
+IsKindOf Sampler kind = class_of kind ≡ classes.Sampler
+IsKindOf Transaction kind = kind ≡ kinds.Transaction
+
+-- the number is that of a sampler, or of a transaction, of the plan, and this is its label
+pub record IsGiver (giver : Giver) (plan : Tree) (number label : ℕ) : Type 0 where
   pub element : Element
   pub there : slice_get plan.elements number ≡ Some element
-  pub class_is : class_of element.kind ≡ classes.Sampler
+  pub kind_is : IsKindOf giver element.kind
   pub label_is : label ≡ label_of plan.elements element.name
 
--- a sampler of the plan has used a unit and given a sample, which is owed to the trace
+-- a sampler or a transaction of the plan has used a unit and given a sample, which is owed to the trace
 pub record GivesSample (before after : Account) (run : Run (Unit {0})) (old new : Standing) (entry : Entry) : Type 0 where
+  pub giver : Giver
   pub sample : Sample
   pub number : ℕ
-  pub sampler : IsSampler old.plan number sample.label
-  pub goes : Goes before run (Sampled Sampler sample ∷ []) (rest new) after
+  pub given_by : IsGiver giver old.plan number sample.label
+  pub goes : Goes before run (Sampled giver sample ∷ []) (rest new) after
   pub entry_is : entry ≡ entry_of sample
   pub unit : 0 < old.units
   pub new_is : new ≡ record old { begun = true; user = new.user; units = old.units - 1; machine = new.machine; owed = Some sample }
@@ -55,7 +63,7 @@ pub record GivesSample (before after : Account) (run : Run (Unit {0})) (old new 
 pub record GivesNone (before after : Account) (run : Run (Unit {0})) (old new : Standing) : Type 0 where
   pub number : ℕ
   pub label : ℕ
-  pub sampler : IsSampler old.plan number label
+  pub sampler : IsGiver Sampler old.plan number label
   pub goes : Goes before run (Nothing number ∷ []) (rest new) after
   pub unit : 0 < old.units
   pub new_is : new ≡ record old { begun = true; user = new.user; units = old.units - 1; machine = new.machine; trace = old.trace ++ NullItem number ∷ [] }

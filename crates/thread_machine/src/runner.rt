@@ -1,14 +1,13 @@
 // A thread of a plan as its worker keeps it.
 
-ghost use Rattle.std.specs.Prelude.{◌≡◌, ◌+◌, ◌-◌, ◌≤◌, ◌<◌, true, false, None, Some, [], ◌∷◌, ◌++◌, length, slice_get, IfOk, IfErr, IfSome, OnOk, OnErr};
+ghost use Rattle.std.specs.Prelude.{◌≡◌, ℕ, ◌+◌, ◌-◌, ◌≤◌, ◌<◌, true, false, None, Some, [], ◌∷◌, ◌++◌, length, slice_get, IfOk, IfErr, IfSome, OnOk, OnErr};
 ghost use Rattle.element_tree.specs.Tree.{threads_of};
-ghost use Rattle.jm_base.specs.Outside.{TellsNothing};
+ghost use Rattle.jm_base.specs.Outside.{Account, TellsNothing};
 ghost use Rattle.var_functions.specs.Came.{CameTo};
-ghost use Rattle.jm_meaning.specs.State.{Own, state_of, at_rounds};
-ghost use Rattle.jm_meaning.specs.Sampling.{after_sample};
 ghost use Rattle.jm_meaning.specs.Meaning.{and_end};
 ghost use Rattle.control_machine.specs.Moves.{past};
-ghost use Rattle.control_machine.specs.Left.{StandsIn, left_of, moved, IsSampler};
+ghost use Rattle.control_machine.specs.Hearing.{told};
+ghost use Rattle.control_machine.specs.Left.{StandsIn, left_of, state_at, moved, IsSampler, IsTransaction};
 ghost use Rattle.control_machine.specs.Turns.{IsNormalAt};
 ghost use Rattle.thread_machine.specs.Inside.{standing_of, GoesOn};
 ghost use Rattle.thread_machine.specs.Standing.{IsAtStart, rest, state_in};
@@ -17,7 +16,7 @@ ghost use Rattle.thread_machine.specs.Ran.{left_to, IsTaken, IsRequest, IsRefuse
 
 use crate::step::Step;
 use crate::trace::{Trace, TraceItem};
-use control_machine::{Machine, Move};
+use control_machine::{Machine, Move, Tally};
 use element_tree::{Kind, Plan};
 use jm_base::{End, M, NoMemory, Outside, Sample};
 use jm_meaning::{ramp_up_pause, run_sampler, set_first};
@@ -26,7 +25,7 @@ use template_text::Template;
 use var_functions::{FnState, Props, UserState, VarError, Vars};
 
 /// A thread: its plan and number, the pause before its first variables that is still to come, whether those are set, its
-/// variables and what functions keep, the machine of moves, the samplers that it may still run, the sample that is still to
+/// variables and what functions keep, the machine of moves, the units left of its sample budget, the sample that is still to
 /// be noted, and its trace.
 #[derive(Drop)]
 pub struct Runner<'p> {
@@ -43,8 +42,8 @@ pub struct Runner<'p> {
 }
 
 impl<'p> Runner<'p> {
-    /// A thread before its first step. `seed` is that of the run's random words, `budget` is how many samplers it may run at
-    /// most.
+    /// A thread before its first step. `seed` is that of the run's random words, `budget` is how many units its samplers and
+    /// transactions may use.
     pub fn new(
         alloc: Global,
         plan: &'p Plan,
@@ -137,7 +136,7 @@ impl<'p> Runner<'p> {
         Step::Ended(end)
     }
 
-    // The next move is made: a sampler runs, or the thread's rounds are over.
+    // The next move is made: a sampler runs, a transaction gives its sample, or the thread's rounds are over.
     fn move_on<O: Outside>(&mut self, outside: &mut O) -> Result<Step, VarError>
         requires owed { self.old.owed ≡ None }
         requires pause { self.old.pause ≡ 0 }
@@ -150,6 +149,7 @@ impl<'p> Runner<'p> {
     {
         match self.next_move(outside) {
             Ok(Move::RunSampler(number)) => self.sample(number, outside),
+            Ok(Move::TransactionSample { element, tally }) => self.sum_up(element, tally),
             Ok(Move::Finished(end)) => Ok(self.finish(end)),
             Ok(_) => unreachable!(),
             Err(error) => Err(error),
@@ -224,7 +224,7 @@ impl<'p> Runner<'p> {
         let label = self.plan.label_of(number);
         let request = request_of(self.plan, number);
         match run_sampler(self.alloc, label, number, request, &mut self.user, outside) {
-            Ok(Some(sample)) => Ok(self.owe(sample)),
+            Ok(Some(sample)) => Ok(self.tell(sample)),
             Ok(None) => {
                 self.trace.put(TraceItem::Null { sampler: number });
                 Ok(Step::Null)
@@ -233,15 +233,51 @@ impl<'p> Runner<'p> {
         }
     }
 
-    // A sample is owed to the trace, and the machine is told of it.
-    fn owe(&mut self, sample: Sample) -> Step
+    // The machine is told of a sampler's sample, which is owed to the trace.
+    fn tell(&mut self, sample: Sample) -> Step
         ensures step { result ≡ Step.Sampled (entry_of sample) }
-        ensures new { self.new ≡ record self.old { owed = Some sample; machine = record self.old.machine { signal = after_sample sample.ok self.old.machine.at_failure } } }
+        ensures new { self.new ≡ record self.old { owed = Some sample; machine = told sample self.old.machine } }
+        ensures stands { StandsIn self.old.plan.now self.old.machine → StandsIn self.new.plan.now self.new.machine }
     {
         self.machine.after(&sample);
+        self.owe(sample)
+    }
+
+    // A sample is owed to the trace.
+    fn owe(&mut self, sample: Sample) -> Step
+        ensures step { result ≡ Step.Sampled (entry_of sample) }
+        ensures new { self.new ≡ record self.old { owed = Some sample } }
+    {
         let entry = sample.entry();
         self.owed = Some(sample);
         Step::Sampled(entry)
+    }
+
+    // A unit is used, and the transaction of this number gives its sample.
+    fn sum_up(&mut self, element: u16, tally: Tally) -> Result<Step, VarError>
+        requires owed { self.old.owed ≡ None }
+        requires pause { self.old.pause ≡ 0 }
+        requires begun { self.old.begun ≡ true }
+        requires stands { StandsIn self.old.plan.now self.old.machine }
+        requires room { 2 ≤ self.old.trace.room }
+        requires there { IsTransaction self.old.plan.now.elements element }
+        ensures gives { (a : Account) → IfOk result (λ step. Gives a a
+            (and_end (moved self.old.plan.now self.old.machine (state_in (standing_of self.old false)) (Move.TransactionSample element tally)))
+            (standing_of self.old false) (standing_of self.new (is_end step)) step) }
+        ensures on { IfOk result (GoesOnBehind self.new) }
+        ensures refused { (a : Account) → IfErr result (IsRefusedAt a
+            (moved self.old.plan.now self.old.machine (state_in (standing_of self.old false)) (Move.TransactionSample element tally))
+            a self.old self.new) }
+    {
+        if self.units == 0 {
+            return Ok(self.finish(End::SampleLimit));
+        }
+        let label = self.plan.label_of(element);
+        let Ok(sample) = tally.sample(self.alloc, label) else {
+            return Err(VarError::NoMemory);
+        };
+        self.units -= 1;
+        Ok(self.owe(sample))
     }
 }
 
@@ -254,10 +290,10 @@ fn walk<O: Outside>(
     outside: &mut O,
 ) -> Result<Move, VarError>
     requires { StandsIn plan.now machine.old }
-    ensures came { (own : Own) → own.rounds ≡ machine.old.rounds
-        → CameTo (O.account outside.old) (left_of plan.now machine.old (state_of user.old own)) (O.account outside.new)
-        (moved plan.now machine.new (state_of user.new (at_rounds own machine.new.rounds)))
-        (past (state_of user.new (at_rounds own machine.new.rounds))) result }
+    ensures came { (units : ℕ)
+        → CameTo (O.account outside.old) (left_of plan.now machine.old (state_at machine.old units user.old)) (O.account outside.new)
+        (moved plan.now machine.new (state_at machine.new units user.new))
+        (past (state_at machine.new units user.new)) result }
     ensures given { IfOk result (IsTaken plan.now.elements) }
     ensures stands { IfOk result (λ m. StandsIn plan.now machine.new) }
     ensures normal { IfOk result (λ m. IsNormalAt m machine.new.signal) }

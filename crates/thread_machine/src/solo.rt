@@ -1,11 +1,12 @@
 // One thread of a plan from its start to its end, with nobody who counts its samples.
 
-ghost use Rattle.std.specs.Prelude.{◌≡◌, ◌<◌, All, length, IfOk, false, None};
+ghost use Rattle.std.specs.Prelude.{◌≡◌, ◌<◌, ◌≤◌, ◌+◌, All, length, IfOk, false, None};
 ghost use Rattle.element_tree.specs.Tree.{threads_of};
 ghost use Rattle.element_tree.specs.Names.{labels_of};
 ghost use Rattle.jm_base.specs.Outside.{Account};
 ghost use Rattle.jm_meaning.specs.Beginning.{Options};
 ghost use Rattle.thread_machine.specs.Bare.{IsCountedIn, IsLabelled};
+ghost use Rattle.thread_machine.specs.Counts.{samples_in};
 ghost use Rattle.thread_machine.specs.Standing.{Stands};
 ghost use Rattle.thread_machine.specs.Follows.{HasRun};
 
@@ -40,6 +41,7 @@ pub fn run_alone<O: Outside>(
         plan.now thread (record { seed = seed; props = props.now; budget = budget }) solo.trace.items solo.end) }
     ensures labels { IfOk result (λ solo. All (IsLabelled (length (labels_of plan.now.elements))) solo.trace.items) }
     ensures intervals { IfOk result (λ solo. All (IsCountedIn 0) solo.trace.items) }
+    ensures count { IfOk result (λ solo. samples_in solo.trace.items ≤ budget) }
 {
     let mut worker = Worker::new(alloc, plan, thread, seed, props, budget)?;
     let end = run_to_end(&mut worker, outside);
@@ -57,6 +59,7 @@ fn run_to_end<O: Outside>(worker: &mut Worker<'_>, outside: &mut O) -> End
         → HasRun start (O.account outside.new) worker.old.plan worker.old.thread options worker.new.trace result }
     ensures plan { worker.new.plan ≡ worker.old.plan }
     ensures intervals { All (IsCountedIn 0) worker.old.trace → All (IsCountedIn 0) worker.new.trace }
+    ensures count { samples_in worker.new.trace ≤ samples_in worker.old.trace + worker.old.units }
 {
     'steps: loop {
         match worker.step(outside) {

@@ -1,13 +1,14 @@
 // Whole runs of small plans, and each call of a worker once.
 
 use crate::{Solo, Step, TraceItem, Worker, run_alone};
+use control_machine::{Leave, Machine, Move, Tally};
 use element_tree::{Plan, RegexPatterns, build};
-use jm_base::{End, M, NoMemory, Outcome, Outside, Request, Sample};
+use jm_base::{End, M, NoMemory, Outcome, Outside, Request, Sample, Text};
 use outside_world::ScriptOutside;
 use plan_json::read_tree;
 use std::alloc::Global;
 use std::test::Fail;
-use var_functions::Props;
+use var_functions::{FnState, Props, UserState, Vars};
 
 // A has two replies and B one.
 const LOOP_OF_THREE: &str =
@@ -376,6 +377,78 @@ fn each_plan_gives_its_samples_and_its_end(rt: HostRuntime) -> Result<(), Fail> 
             assert_eq!(rt; mark_at(&solo.trace, place), Some(*mark));
         }
         assert_eq!(rt; end_at(&solo.trace, marks.len()), Some(end));
+    }
+    Ok(())
+}
+
+// A transaction, element 2, in a group of two rounds, over a loop of three over A, element 4.
+const OPEN_ELEMENTS: &str = "{\"type\":\"TestPlan\",\"children\":[
+    {\"type\":\"ThreadGroup\",\"props\":{\"loops\":2},\"children\":[
+    {\"type\":\"Transaction\",\"children\":[{\"type\":\"Loop\",\"props\":{\"loops\":3},\"children\":[
+    {\"type\":\"Script\",\"name\":\"A\",\"props\":{\"replies\":[{}]}}]}]}]}]}";
+
+fn good_sample(alloc: Global) -> M<Sample> {
+    Ok(Sample {
+        stamp: 3,
+        elapsed: 5,
+        label: 1,
+        code: 200,
+        message: Text::new(alloc, b"")?,
+        ok: true,
+        failure: Text::new(alloc, b"")?,
+        bytes: 7,
+        listeners: 0,
+    })
+}
+
+// The first two moves of a plan's thread, and, behind a sample and a way out, two more.
+fn moves_of(alloc: Global, text: &str, sample: &Sample, how: Leave) -> M<[Move; 4]> {
+    let plan = plan_of(alloc, text)?;
+    let props = three(alloc)?;
+    let mut outside = ScriptOutside::new(alloc, &plan, false)?;
+    let mut state = UserState {
+        vars: Vars::new(alloc),
+        fns: FnState::new(alloc, &props, 0, 0, 0)?,
+    };
+    let mut machine = Machine::new(alloc, &plan, 0)?;
+    let Ok(first) = machine.next(alloc, &plan, &mut state, &mut outside) else {
+        return Err(NoMemory);
+    };
+    let Ok(second) = machine.next(alloc, &plan, &mut state, &mut outside) else {
+        return Err(NoMemory);
+    };
+    machine.after(sample);
+    machine.leave(how);
+    let Ok(third) = machine.next(alloc, &plan, &mut state, &mut outside) else {
+        return Err(NoMemory);
+    };
+    let Ok(fourth) = machine.next(alloc, &plan, &mut state, &mut outside) else {
+        return Err(NoMemory);
+    };
+    Ok([first, second, third, fourth])
+}
+
+#[test]
+fn a_way_out_that_is_asked_for_leaves_what_is_open(rt: HostRuntime) -> Result<(), Fail> {
+    let sample = good_sample(rt.alloc())?;
+    let tally = Tally {
+        stamp: 3,
+        samples: 1,
+        failed: 0,
+        elapsed: 5,
+        bytes: 7,
+    };
+    for (how, last) in [
+        (Leave::NextLoop, Move::Iteration(1)),
+        (Leave::StopThread, Move::Finished(End::StopThread)),
+        (Leave::StopTest, Move::Finished(End::StopTest)),
+    ] {
+        let moves = moves_of(rt.alloc(), OPEN_ELEMENTS, &sample, how)?;
+        let summed = Move::TransactionSample { element: 2, tally };
+        assert_eq!(rt;
+            moves,
+            [Move::Iteration(0), Move::RunSampler(4), summed, last]
+        );
     }
     Ok(())
 }

@@ -12,6 +12,9 @@ const PLAN: &[u8] =
 const PRINTED: &[u8] =
     b"{\"children\":[{\"children\":[{\"children\":[],\"enabled\":true,\"name\":\"A\",\"props\":{\"replies\":[{\"ms\":5}]},\"type\":\"Script\"}],\"enabled\":true,\"name\":\"TG\",\"props\":{\"loops\":2,\"rampMs\":10,\"threads\":2},\"type\":\"ThreadGroup\"}],\"enabled\":true,\"name\":\"TestPlan\",\"props\":{},\"type\":\"TestPlan\"}\n";
 
+const MADE: &[u8] =
+    b"total,S0,1,0,0,0,0,0\ntotal,S1,2,0,2,0,1,1\nall,3,0,2,0\nend,TG 1-1,Completed\n";
+
 const FIRST: &[u8] =
     b"timeStamp,elapsed,label,responseCode,responseMessage,threadName,success,failureMessage,bytes,interval\n0,5,A,200,OK,TG 1-1,true,,0,0\n5,5,A,200,OK,TG 1-1,true,,0,0\n";
 
@@ -24,10 +27,18 @@ const SECOND: &[u8] =
 const SECOND_SAMPLE: &[u8] =
     b"timeStamp,elapsed,label,responseCode,responseMessage,threadName,success,failureMessage,bytes,interval\n5,5,A,200,OK,TG 1-2,true,,0,0\n";
 
+const FIRST_REPORT: &[u8] = b"total,A,2,0,10,0,5,5\nall,2,0,10,0\nend,TG 1-1,Completed\n";
+
+const FIRST_SAMPLE_REPORT: &[u8] = b"total,A,1,0,5,0,5,5\nall,1,0,5,0\nend,TG 1-1,SampleLimit\n";
+
+const SECOND_REPORT: &[u8] = b"total,A,2,0,10,0,5,5\nall,2,0,10,0\nend,TG 1-2,Completed\n";
+
+const SECOND_SAMPLE_REPORT: &[u8] = b"total,A,1,0,5,0,5,5\nall,1,0,5,0\nend,TG 1-2,SampleLimit\n";
+
 /// Command lines, their words parted by bars, and what they come to: `usage` (status 2 and the usage line in the reports),
-/// `printed` (the plan in the results), `first` and `second` (both samples of this thread in the results, and its end in the
-/// reports), `first sample` and `second sample` (one sample, and the end by the limit), `no thread` (status 3 and the
-/// refusal in the reports).
+/// `printed` (the plan in the results), `made` (the report of the plan of size 2 in the reports), `first` and `second` (both
+/// samples of this thread in the results, and their sum and its end in the reports), `first sample` and `second sample` (one
+/// sample, and the end by the limit), `no thread` (status 3 and the refusal in the reports).
 const LINES: &str = r#"check => printed
 check| => usage
 check|check => usage
@@ -55,7 +66,18 @@ Check => usage
 chec => usage
 check  => usage
 make => usage
-make|--size|7 => usage
+make|--size|2 => made
+make|--size=2 => made
+make|--size|00002 => made
+make|--size|0 => usage
+make|--size|2048 => usage
+make|--size|2|--size|2 => usage
+make|--size|2|--seed|1 => usage
+make|--size|-2 => usage
+make|--size => usage
+make|2 => usage
+make|--size|2|2 => usage
+check|--size|2 => usage
 weave => usage
 weave|--schedule|R => usage
 run => usage
@@ -175,10 +197,11 @@ fn words_of(alloc: Global, line: &str) -> Result<Vec<String>, Fail> {
 fn outcome(name: &str) -> Option<(u8, &'static [u8], &'static [u8])> {
     match name {
         "printed" => Some((0, PRINTED, b"")),
-        "first" => Some((0, FIRST, b"end,TG 1-1,Completed\n")),
-        "first sample" => Some((0, FIRST_SAMPLE, b"end,TG 1-1,SampleLimit\n")),
-        "second" => Some((0, SECOND, b"end,TG 1-2,Completed\n")),
-        "second sample" => Some((0, SECOND_SAMPLE, b"end,TG 1-2,SampleLimit\n")),
+        "made" => Some((0, b"", MADE)),
+        "first" => Some((0, FIRST, FIRST_REPORT)),
+        "first sample" => Some((0, FIRST_SAMPLE, FIRST_SAMPLE_REPORT)),
+        "second" => Some((0, SECOND, SECOND_REPORT)),
+        "second sample" => Some((0, SECOND_SAMPLE, SECOND_SAMPLE_REPORT)),
         "no thread" => Some((3, b"", b"refused 14 NoThread -\n")),
         _ => None,
     }
@@ -212,7 +235,7 @@ fn command_lines_come_to_their_status_and_their_sinks(rt: HostRuntime) -> Result
         assert_eq!(rt; ran.status, status, "{line}");
         expect(&rt, &ran, status, results, reports);
     }
-    assert_eq!(rt; count, 133);
+    assert_eq!(rt; count, 144);
     Ok(())
 }
 
@@ -226,7 +249,7 @@ fn properties_have_at_most_65536_bytes(rt: HostRuntime) -> Result<(), Fail> {
     let mut words = words_of(alloc, "solo|--thread=1|--props")?;
     words.push(props.clone()?)?;
     let ran = run_words(alloc, &words, PLAN, NOTHING_FAILS)?;
-    expect(&rt, &ran, 0, SECOND, b"end,TG 1-2,Completed\n");
+    expect(&rt, &ran, 0, SECOND, SECOND_REPORT);
     props.push('x')?;
     let mut words = words_of(alloc, "solo|--thread=1|--props")?;
     words.push(props)?;

@@ -7,7 +7,7 @@ use std::process::Abort;
 use std::test::Fail;
 
 /// The properties of a controller: as they stand where they begin with a quote; else one text, which is the `loops` of a
-/// Loop, the `input` of a ForEach with the output `o`, and the `condition` of an If or a While.
+/// Loop, the `input` of a ForEach with the output `o`, the `value` of a Switch, and the `condition` of an If or a While.
 fn controller_props(alloc: Global, kind: &str, given: &str) -> Result<String, Fail> {
     if given.starts_with("\"") {
         return Ok(String::from_str(alloc, given)?);
@@ -15,6 +15,7 @@ fn controller_props(alloc: Global, kind: &str, given: &str) -> Result<String, Fa
     let props = match kind {
         "Loop" => format!(in alloc; "\"loops\":\"{given}\"")?,
         "ForEach" => format!(in alloc; "\"input\":\"{given}\",\"output\":\"o\"")?,
+        "Switch" => format!(in alloc; "\"value\":\"{given}\"")?,
         _ => format!(in alloc; "\"condition\":\"{given}\"")?,
     };
     Ok(props)
@@ -125,23 +126,68 @@ fn elements_of(alloc: Global, line: &str) -> Result<String, Fail> {
     Ok(json)
 }
 
+/// A field of a result line, by its place from 0. Of the fields here only the message of a transaction, which is at place 4,
+/// has a comma.
+fn field(line: &str, place: usize) -> Result<&str, Fail> {
+    let is_moved = place > 4 && line.contains(", number of failing samples");
+    let place = place.saturating_add(usize::from(is_moved));
+    Ok(line.split(',').nth(place).ok_or("no field")?)
+}
+
 /// The label of each sample and, where its body isn't empty, the length of the body directly behind it; a blank behind each.
 fn samples_of(alloc: Global, results: &[u8]) -> Result<String, Fail> {
     let text = std::str::from_utf8(results)?;
     let mut all = String::new(alloc);
     for line in text.lines().skip(1) {
-        for (place, field) in line.split(',').enumerate() {
-            if place == 2 || (place == 8 && field != "0") {
-                all.push_str(field)?;
-            }
+        all.push_str(field(line, 2)?)?;
+        let bytes = field(line, 8)?;
+        if bytes != "0" {
+            all.push_str(bytes)?;
         }
         all.push(' ')?;
     }
     Ok(all)
 }
 
-/// What a command prints of a group with these properties over a tree: the samples, a bar, and the reports. In the tree a `@`
-/// stands for the part.
+/// The sum of a field over the result lines.
+fn sum_of(results: &str, place: usize) -> Result<u64, Fail> {
+    let mut sum = 0_u64;
+    for line in results.lines().skip(1) {
+        let number = field(line, place)?;
+        sum = sum.saturating_add(number.parse::<u64>()?);
+    }
+    Ok(sum)
+}
+
+/// The line over all labels that belongs to the result lines: how many there are, how many of them say `false`, and the
+/// sums of their times and their bytes.
+fn all_line(alloc: Global, results: &str) -> Result<String, Fail> {
+    let count = results.lines().skip(1).count();
+    let errors = results
+        .lines()
+        .filter(|line| line.contains(",false,"))
+        .count();
+    let elapsed = sum_of(results, 1)?;
+    let bytes = sum_of(results, 8)?;
+    Ok(format!(in alloc; "all,{count},{errors},{elapsed},{bytes}")?)
+}
+
+/// The line that stands so far before the end of the reports: the last one at 1.
+fn line_from_end(reports: &str, place: usize) -> Result<&str, Fail> {
+    let count = reports.lines().count();
+    let line = reports.lines().nth(count.saturating_sub(place));
+    Ok(line.ok_or("no line")?)
+}
+
+/// The plan of a tree below a group with these properties. In the tree a `@` stands for the part.
+pub fn plan_of_tree(alloc: Global, group: &str, part: &str, tree: &str) -> Result<Vec<u8>, Fail> {
+    let elements = elements_of(alloc, tree)?;
+    let children = fill(alloc, &elements, "", part)?;
+    plan_of(alloc, group, std::str::from_utf8(&children)?)
+}
+
+/// What a command prints of a group with these properties over a tree: the samples, a bar, and how the thread ended. The
+/// line before that must be the sum of the result lines. In the tree a `@` stands for the part.
 pub fn printed(
     rt: &impl Abort,
     alloc: Global,
@@ -150,14 +196,19 @@ pub fn printed(
     part: &str,
     tree: &str,
 ) -> Result<String, Fail> {
-    let elements = elements_of(alloc, tree)?;
-    let children = fill(alloc, &elements, "", part)?;
-    let plan = plan_of(alloc, group, std::str::from_utf8(&children)?)?;
+    let plan = plan_of_tree(alloc, group, part, tree)?;
     let ran = run_line(alloc, command, &plan, NOTHING_FAILS)?;
     let reports = std::str::from_utf8(ran.reports.bytes())?;
     assert!(rt; ran.status == 0, "{tree}: {reports}");
+    let all = line_from_end(reports, 2)?;
+    let end = line_from_end(reports, 1)?;
+    let wanted = all_line(alloc, std::str::from_utf8(ran.results.bytes())?)?;
+    assert!(rt;
+        all.as_bytes() == wanted.as_bytes(),
+        "{tree}: {all} is not {wanted}"
+    );
     let samples = samples_of(alloc, ran.results.bytes())?;
-    let text = format!(in alloc; "{}|{}", samples, reports)?;
+    let text = format!(in alloc; "{}|{}", samples, end)?;
     Ok(text)
 }
 
@@ -173,7 +224,7 @@ pub fn check_tree(
     end: &str,
 ) -> Result<(), Fail> {
     let found = printed(rt, alloc, group, command, part, tree)?;
-    let wanted = format!(in alloc; "{samples}|end,TG 1-1,{end}\n")?;
+    let wanted = format!(in alloc; "{samples}|end,TG 1-1,{end}")?;
     assert!(rt;
         found.as_bytes() == wanted.as_bytes(),
         "{tree}: {found} is not {wanted}"

@@ -112,7 +112,6 @@ fn random_words_go_by_the_seed_and_the_thread(rt: HostRuntime) -> Result<(), Fai
         let (command, wanted) = row.split_once(" => ").ok_or("no row")?;
         let group = r#""threads":2,"loops":3"#;
         let found = printed(&rt, alloc, group, command, "", RANDOM)?;
-        let wanted = format!(in alloc; "{wanted}\n")?;
         assert!(rt;
             found.as_bytes() == wanted.as_bytes(),
             "{command}: {found} is not {wanted}"
@@ -132,12 +131,12 @@ const OF_THREADS: [(&str, &[u8], &[u8]); 2] = [
     (
         "solo",
         b"0,0,A,200,OK,G 1-1,true,,4,0\n",
-        b"end,G 1-1,Completed\n",
+        b"total,A,1,0,0,4,0,0\nall,1,0,0,4\nend,G 1-1,Completed\n",
     ),
     (
         "solo --thread 1",
         b"0,0,B,200,OK,H 2-1,true,,5,0\n",
-        b"end,H 2-1,Completed\n",
+        b"total,B,1,0,0,5,0,0\nall,1,0,0,5\nend,H 2-1,Completed\n",
     ),
 ];
 

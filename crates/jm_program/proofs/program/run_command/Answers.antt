@@ -1,10 +1,6 @@
-use Rattle.std.proofs.Common.{rules}
 use Rattle.jm_program.specs.Parts.{sinks}
-use Rattle.jm_program.proofs.ProgramLaws.{bytes_said}
+use Rattle.jm_program.proofs.ProgramLaws.{made_said}
 use Rattle.jm_program.proofs.program.run_command.Goals as goal
 
-pub returns-in-Ok : goal.returns-in-Ok
-returns-in-Ok g c =
-    rw c.in-Some.is
-    (bytes_said _ _ _ _ (sinks _ _ _ _) (sinks _ _ _ _) _ _ c.in-Ok.ensures.ok c.in-Some.command c.in-Ok.bytes.items (search rules) c.in-Ok.ensures.bytes
-    c.run_bytes.result (rw c.deref.ensures.value at c.run_bytes.ensures))
+pub returns-in-Some-Make : goal.returns-in-Some-Make
+returns-in-Some-Make g c = rw (c.in-Some-Make.is, c.in-Some-Make.field-0-is) (made_said _ _ (sinks _ _ _ _) (sinks _ _ _ _) _ c.in-Some-Make.make c.run_made.result c.run_made.ensures)

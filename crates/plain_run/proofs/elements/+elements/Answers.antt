@@ -5,6 +5,7 @@ use Rattle.std.proofs.lemmas.Result.{IfOk-weaker}
 use Rattle.logic_controllers.specs.IfController.{is_true}
 use Rattle.logic_controllers.specs.LoopController.{loops_of}
 use Rattle.logic_controllers.specs.ForEachController.{Row}
+use Rattle.choice_controllers.specs.SwitchController.{run_names, picks}
 use Rattle.jm_meaning.specs.State.{Part, text}
 use Rattle.jm_meaning.specs.Rounds.{Turns, loop_turns, while_turns, each_turns}
 use Rattle.jm_meaning.specs.Children.{Below, in_order}
@@ -13,8 +14,10 @@ use Rattle.plain_run.specs.Plays.{state_in, here_of}
 use Rattle.plain_run.proofs.Ways.{way-start, way-then, way-stop}
 use Rattle.plain_run.proofs.RoundWays.{rounds-start, no-round, round-past, not-opened, last-round, round-done}
 use Rattle.plain_run.proofs.TurnLaws.{loop-begins, loop-over, each-begins, while-past, while-begins, while-over, goes-so}
-use Rattle.plain_run.proofs.ElementLaws.{plays-as, plays-nothing, is-none, meaning-at, meaning-none, meaning-flat, kind-other, next-child, condition-past, condition-false, child-done, child-last, once-past, once-false, once-true}
+use Rattle.plain_run.proofs.ElementLaws.{plays-as, plays-nothing, is-none, meaning-at, meaning-none, meaning-flat, kind-other, next-child, children-over, conditions-over, condition-past, condition-false, child-done, child-last, once-past, once-false, once-true}
 use Rattle.plain_run.proofs.KindWays.{once-later, loop-past, loop-runs, while-runs, each-runs}
+use Rattle.plain_run.proofs.ChoiceWays.{few-children, chosen-none, chosen-past, interleave-none, interleave-plays, random-plays, order-plays, switch-past, switch-runs}
+use Rattle.plain_run.proofs.TransactionWays.{transaction-plays}
 use Rattle.plain_run.proofs.elements.+elements.Goals as goal
 
 pub run_children-loop-child-init : goal.run_children-loop-child-init
@@ -37,6 +40,10 @@ run_children-returns-in_default g t c =
     let within : i < length cs = omega arith in
     way-stop (below (get_or cs i 0) c.args.round) (in_order below c.args.round (drop (i + 1) cs)) c.loop-child.invariant (next-child below c.args.round cs i (state_in c.loop-child.progress) within)
     c.in_ok-other.ensures c.in_default.not-Normal
+
+pub run_children-returns : goal.run_children-returns
+run_children-returns g t c =
+    children-over (meaning (here_of c.args.plan.now c.args.at_failure) c.args.depth) c.args.round c.args.children.now c.loop-child.child-index c.loop-child.invariant (omega (arith, c.loop-child-test.false))
 
 pub run_element-returns-then-depth-eq0 : goal.run_element-returns-then-depth-eq0
 run_element-returns-then-depth-eq0 g t c = plays-nothing _ _ _ (meaning-flat (here_of c.args.plan.now c.args.at_failure) c.args.depth c.args.number c.args.round (state_in c.args.progress.now) c.if-depth-eq0.true)
@@ -89,6 +96,11 @@ run_if_each-loop-child-preserved g t c =
     let within : i < length cs = omega arith in
     child-done (g.O.Outside.account c.args.outside.now) (g.O.Outside.account c.loop-child.outside) (g.O.Outside.account c.text.new.outside) c.args.progress.now c.loop-child.progress c.text.new.self below c.args.round (text c.args.condition.now) cs i within c.loop-child.invariant c.in_ok-text.ensures.same
     c.in-Some.text (rw c.in-Some.is at c.in_ok-text.ensures.came) (g.O.Outside.account c.run_element.new.outside) c.run_element.new.progress c.in_ok-other.other (ap is_true (sym c.bytes.ensures) ∙ sym c.is_true.ensures ∙ c.if-not-is_true.false) c.in_ok-other.ensures c.in-Normal.is
+
+pub run_if_each-returns : goal.run_if_each-returns
+run_if_each-returns g t c =
+    conditions-over (meaning (here_of c.args.plan.now c.args.at_failure) c.args.depth) c.args.round c.args.children.now (text c.args.condition.now) c.loop-child.child-index c.loop-child.invariant
+    (omega (arith, c.loop-child-test.false))
 
 pub run_if_once-returns-in_default : goal.run_if_once-returns-in_default
 run_if_once-returns-in_default g t c = once-past (g.O.Outside.account c.args.outside.now) (g.O.Outside.account c.text.new.outside) c.args.progress.now c.text.new.self (meaning (here_of c.args.plan.now c.args.at_failure) c.args.depth) c.args.round (text c.args.condition.now) c.args.children.now c.in_ok-text.ensures.same (rw (is-none c.in_ok-text.field-0 c.in_default.not-Some) at c.in_ok-text.ensures.came)
@@ -228,12 +240,15 @@ run_each-rounds-preserved g t c =
 pub run_kind-label_of-requires : goal.run_kind-label_of-requires
 run_kind-label_of-requires g t c = slice_get_within c.args.plan.now.elements c.args.number c.args.element.now c.requires.there
 
+pub run_kind-label_of-requires-in-Script : goal.run_kind-label_of-requires-in-Script
+run_kind-label_of-requires-in-Script g t c = slice_get_within c.args.plan.now.elements c.args.number c.args.element.now c.requires.there
+
 pub run_kind-returns-in-OnceOnly : goal.run_kind-returns-in-OnceOnly
 run_kind-returns-in-OnceOnly g t c = plays-nothing _ _ _ (once-later (here_of c.args.plan.now c.args.at_failure) (meaning (here_of c.args.plan.now c.args.at_failure) c.args.depth) c.args.number c.args.element.now c.args.round (state_in c.args.progress.now) c.in-OnceOnly.is c.if-round-eq0.false)
 
 pub run_kind-returns : goal.run_kind-returns
 run_kind-returns g t c = plays-nothing _ _ _ (kind-other (here_of c.args.plan.now c.args.at_failure) (meaning (here_of c.args.plan.now c.args.at_failure) c.args.depth) c.args.number c.args.element.now c.args.round (state_in c.args.progress.now) c.args.element.now.kind
-    c.in_default.not-Simple c.in_default.not-OnceOnly c.in_default.not-If c.in_default.not-Loop c.in_default.not-While c.in_default.not-ForEach c.in_default.not-Script)
+    c.in_default.not-Simple c.in_default.not-OnceOnly c.in_default.not-If c.in_default.not-Loop c.in_default.not-While c.in_default.not-ForEach c.in_default.not-Script c.in_default.not-Switch c.in_default.not-Interleave c.in_default.not-Random c.in_default.not-RandomOrder c.in_default.not-Transaction)
 
 pub run_kind-returns-in-Loop : goal.run_kind-returns-in-Loop
 run_kind-returns-in-Loop g t c = loop-past (here_of c.args.plan.now c.args.at_failure) (meaning (here_of c.args.plan.now c.args.at_failure) c.args.depth) c.args.number c.args.element.now c.args.round (g.O.Outside.account c.args.outside.now) (g.O.Outside.account c.text.new.outside) c.args.progress.now c.text.new.self c.in-Loop.loops c.in-Loop.is c.in_ok-text-in-Loop.ensures.same (rw c.in-None.is at c.in_ok-text-in-Loop.ensures.came)
@@ -251,3 +266,43 @@ run_kind-returns-in-While g t c = IfOk-weaker c.run_while.result _ _ (λ signal 
 pub run_kind-returns-in-ForEach : goal.run_kind-returns-in-ForEach
 run_kind-returns-in-ForEach g t c = IfOk-weaker c.run_each.result _ _ (λ signal h.
     each-runs (here_of c.args.plan.now c.args.at_failure) (meaning (here_of c.args.plan.now c.args.at_failure) c.args.depth) c.args.number c.args.element.now c.args.round (g.O.Outside.account c.args.outside.now) (g.O.Outside.account c.run_each.new.outside) c.args.progress.now c.run_each.new.progress signal c.bytes-name.result.now c.as_slice-children.result.now c.bytes-name.ensures (c.as_slice-children.ensures.value ∙ c.in_ok-children.ensures) c.in-ForEach.end c.in-ForEach.input c.in-ForEach.output c.in-ForEach.separator c.in-ForEach.start c.in-ForEach.is h) c.run_each.ensures
+
+pub run_chosen-returns-in_default : goal.run_chosen-returns-in_default
+run_chosen-returns-in_default g t c = plays-nothing _ _ _ (chosen-none (meaning (here_of c.args.plan.now c.args.at_failure) c.args.depth) c.args.round c.args.children.now c.args.pick (state_in c.args.progress.now) (is-none c.args.pick c.in_default.not-Some))
+
+pub run_chosen-returns-in-None : goal.run_chosen-returns-in-None
+run_chosen-returns-in-None g t c = plays-nothing _ _ _ (chosen-past (meaning (here_of c.args.plan.now c.args.at_failure) c.args.depth) c.args.round c.args.children.now c.args.pick (state_in c.args.progress.now) c.in-Some.place c.from.result c.in-Some.is c.from.ensures c.in-None.ensures.lookup.3)
+
+pub run_interleave-returns-then-is_empty : goal.run_interleave-returns-then-is_empty
+run_interleave-returns-then-is_empty g t c = plays-nothing _ _ _ (interleave-none (meaning (here_of c.args.plan.now c.args.at_failure) c.args.depth) c.args.round c.args.number c.args.children.now (state_in c.args.progress.now) (sym c.is_empty.ensures ∙ c.if-is_empty.true))
+
+pub run_interleave-returns : goal.run_interleave-returns
+run_interleave-returns g t c = IfOk-weaker c.run_chosen.result _ _ (λ signal h.
+    interleave-plays (meaning (here_of c.args.plan.now c.args.at_failure) c.args.depth) c.args.round c.args.children.now c.args.number _ c.move_on-place.result refl (sym c.is_empty.ensures ∙ c.if-is_empty.false) c.move_on-place.ensures.place c.move_on-place.ensures.moved c.move_on-place.ensures.same h) c.run_chosen.ensures
+
+pub run_random-returns : goal.run_random-returns
+run_random-returns g t c = IfOk-weaker c.run_chosen.result _ _ (λ signal h.
+    random-plays (meaning (here_of c.args.plan.now c.args.at_failure) c.args.depth) c.args.round c.args.children.now _ c.random_place-chosen.result c.random_place-chosen.new.fns refl c.random_place-chosen.ensures.place c.random_place-chosen.ensures.fns refl h) c.run_chosen.ensures
+
+pub run_order-returns : goal.run_order-returns
+run_order-returns g t c = IfOk-weaker c.run_children.result _ _ (λ signal h.
+    order-plays (meaning (here_of c.args.plan.now c.args.at_failure) c.args.depth) c.args.round c.args.children.now c.as_slice.result.now c.shuffled.new.fns (c.as_slice.ensures.value ∙ c.in_ok-order.ensures.order) c.in_ok-order.ensures.fns refl h) c.run_children.ensures
+
+pub run_switch-returns-in_default : goal.run_switch-returns-in_default
+run_switch-returns-in_default g t c = switch-past (meaning (here_of c.args.plan.now c.args.at_failure) c.args.depth) c.args.round (run_names c.args.plan.now.elements c.args.element.now) c.args.children.now (text c.args.value.now) c.in_ok-text.ensures.same (rw (is-none c.in_ok-text.field-0 c.in_default.not-Some) at c.in_ok-text.ensures.came)
+
+pub run_switch-returns : goal.run_switch-returns
+run_switch-returns g t c = IfOk-weaker c.run_chosen.result _ _ (λ signal h.
+    switch-runs (meaning (here_of c.args.plan.now c.args.at_failure) c.args.depth) c.args.round (run_names c.args.plan.now.elements c.args.element.now) c.args.children.now (text c.args.value.now) c.in_ok-text.ensures.same
+    c.in-Some.text c.picks-chosen.result _ _ signal (rw c.in-Some.is at c.in_ok-text.ensures.came) (c.picks-chosen.ensures ∙ ap (λ x. picks x (run_names c.args.plan.now.elements c.args.element.now)) c.bytes.ensures) h) c.run_chosen.ensures
+
+pub run_transaction-returns : goal.run_transaction-returns
+run_transaction-returns g t c = IfOk-weaker c.give_sum.result _ _ (λ last h.
+    transaction-plays c.args.progress.now c.args.label (in_order (meaning (here_of c.args.plan.now c.args.at_failure) c.args.depth) c.args.round c.args.children.now) c.none-progress.result c.none-progress.ensures c.in_ok-signal.ensures
+    c.joined-progress.result c.joined-progress.ensures (g.O.Outside.account c.run_children.new.outside) c.give_sum.new.progress last (h (g.O.Outside.account c.run_children.new.outside))) c.give_sum.ensures
+
+pub run_kind-run_interleave-requires : goal.run_kind-run_interleave-requires
+run_kind-run_interleave-requires g t c = λ κs outlive. (omega arith, (outlive, (c.requires.rounds, few-children c.args.plan.now.elements c.args.element.now c.as_slice-children.result.now (c.as_slice-children.ensures.value ∙ c.in_ok-children.ensures))))
+
+pub run_kind-run_random-requires : goal.run_kind-run_random-requires
+run_kind-run_random-requires g t c = λ κs outlive. (omega arith, (outlive, (c.requires.rounds, few-children c.args.plan.now.elements c.args.element.now c.as_slice-children.result.now (c.as_slice-children.ensures.value ∙ c.in_ok-children.ensures))))

@@ -29,6 +29,24 @@ decreases-run_while g l = 4 * l.depth + 2
 abbrev pub decreases-run_each : goal.decreases-run_each
 decreases-run_each g l = 4 * l.depth + 2
 
+abbrev pub decreases-run_chosen : goal.decreases-run_chosen
+decreases-run_chosen g l = 4 * l.depth + 1
+
+abbrev pub decreases-run_interleave : goal.decreases-run_interleave
+decreases-run_interleave g l = 4 * l.depth + 2
+
+abbrev pub decreases-run_random : goal.decreases-run_random
+decreases-run_random g l = 4 * l.depth + 2
+
+abbrev pub decreases-run_order : goal.decreases-run_order
+decreases-run_order g l = 4 * l.depth + 2
+
+abbrev pub decreases-run_switch : goal.decreases-run_switch
+decreases-run_switch g l = 4 * l.depth + 2
+
+abbrev pub decreases-run_transaction : goal.decreases-run_transaction
+decreases-run_transaction g l = 4 * l.depth + 2
+
 abbrev pub decreases-run_kind : goal.decreases-run_kind
 decreases-run_kind g l = 4 * l.depth + 3
 

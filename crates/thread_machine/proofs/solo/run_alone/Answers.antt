@@ -1,3 +1,4 @@
+use Rattle.thread_machine.proofs.Counts.{from_start}
 use Rattle.thread_machine.proofs.solo.run_alone.Goals as goal
 
 pub returns-clause-has_run : goal.returns-clause-has_run
@@ -5,3 +6,6 @@ returns-clause-has_run g c =
     let first = c.in_ok-worker.ensures.start in
     rw (c.into_trace.ensures.items, ← first.plan_is, ← first.thread_is)
     (c.run_to_end-end.ensures.has_run _ (record { seed = c.args.seed; props = c.args.props.now; budget = c.args.budget }) (c.in_ok-worker.ensures.stands _))
+
+pub returns-clause-count : goal.returns-clause-count
+returns-clause-count g c = rw c.into_trace.ensures.items (from_start _ _ _ _ c.run_to_end-end.new.worker c.in_ok-worker.ensures.start c.run_to_end-end.ensures.count)

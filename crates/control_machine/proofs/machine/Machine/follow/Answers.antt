@@ -1,9 +1,10 @@
 use Rattle.std.proofs.Common.{◌-◌, sym, refl, arith}
 use Rattle.std.proofs.lemmas.Result.{IfOk-weaker}
-use Rattle.jm_meaning.specs.State.{state_of, at_rounds}
 use Rattle.control_machine.specs.Moves.{past}
+use Rattle.control_machine.specs.Left.{own_at, state_at}
 use Rattle.control_machine.specs.Turns.{went}
 use Rattle.control_machine.proofs.OpenLaws.{goes_as}
+use Rattle.control_machine.proofs.Closed.{closed_given, closed_lightens, closed_rounds, closed_index}
 use Rattle.control_machine.proofs.Answered.{came_as, is_over, no_round_left, round_taken, child_next, no_child}
 use Rattle.control_machine.proofs.Standing.{fewer_group, fewer_open, round_open, child_nests, few_left}
 use Rattle.control_machine.proofs.Lightening.{over_lighter, round_lighter, child_lighter, none_lighter}
@@ -11,19 +12,28 @@ use Rattle.control_machine.proofs.Opening.{nests_at}
 use Rattle.control_machine.proofs.machine.Machine.follow.Goals as goal
 
 pub returns-in-Over-clause-came : goal.returns-in-Over-clause-came
-returns-in-Over-clause-came g c = λ e own there same.
-    goes_as _ _ _ (is_over c.args.plan.now c.args.self.now c.args.frame e c.args.state.now own there c.args.turn c.in-Over.is c.requires.normal c.args.self.now.rounds (sym same))
+returns-in-Over-clause-came g c = λ e units there.
+    rw c.close.ensures (goes_as _ _ _ (is_over c.args.plan.now c.args.self.now c.args.frame e c.args.state.now (own_at c.args.self.now units) there c.args.turn c.in-Over.is c.requires.normal c.args.self.now.rounds refl))
+
+pub returns-in-Over-clause-given : goal.returns-in-Over-clause-given
+returns-in-Over-clause-given g c = rw c.close.ensures (closed_given c.args.plan.now.elements _ c.args.self.now.rounds c.args.frame c.requires.open)
+
+pub returns-in-Over-clause-rounds : goal.returns-in-Over-clause-rounds
+returns-in-Over-clause-rounds g c = rw c.close.ensures (closed_rounds c.args.frame c.args.self.now.rounds)
+
+pub returns-in-Over-clause-index : goal.returns-in-Over-clause-index
+returns-in-Over-clause-index g c = rw c.close.ensures (closed_index c.args.frame c.args.self.now.group)
 
 pub returns-in-Over-clause-lighter : goal.returns-in-Over-clause-lighter
-returns-in-Over-clause-lighter g c = λ old depth passes. over_lighter c.args.plan.now.elements c.args.self.now old
+returns-in-Over-clause-lighter g c = λ old depth takes. rw c.close.ensures (closed_lightens c.args.frame _ _ (over_lighter c.args.plan.now.elements c.args.self.now old))
 
 pub returns-then-self-eq0-clause-came : goal.returns-then-self-eq0-clause-came
-returns-then-self-eq0-clause-came g c = λ e own there same.
-    goes_as _ _ _ (no_round_left c.args.plan.now c.args.self.now c.args.frame e c.args.state.now own there c.args.turn c.in-Round.is (omega (arith, same, c.if-self-eq0.true)) c.args.self.now.rounds (sym same))
+returns-then-self-eq0-clause-came g c = λ e units there.
+    goes_as _ _ _ (no_round_left c.args.plan.now c.args.self.now c.args.frame e c.args.state.now (own_at c.args.self.now units) there c.args.turn c.in-Round.is (omega (arith, c.if-self-eq0.true)) c.args.self.now.rounds refl)
 
 pub returns-else-self-eq0-clause-came : goal.returns-else-self-eq0-clause-came
-returns-else-self-eq0-clause-came g c = λ e own there same.
-    goes_as _ _ _ (round_taken c.args.plan.now c.args.self.now c.args.frame e c.args.state.now own there c.args.turn c.in-Round.is (record c.args.self.now { stack = c.put.new.self; rounds = c.args.self.now.rounds - 1 }) (record { group = refl; failure = refl; signal = c.requires.normal }) c.put.ensures (c.args.self.now.rounds - 1) (omega (arith, same, c.if-self-eq0.false)))
+returns-else-self-eq0-clause-came g c = λ e units there.
+    goes_as _ _ _ (round_taken c.args.plan.now c.args.self.now c.args.frame e c.args.state.now (own_at c.args.self.now units) there c.args.turn c.in-Round.is (record c.args.self.now { stack = c.put.new.self; rounds = c.args.self.now.rounds - 1 }) (record { group = refl; failure = refl; signal = c.requires.normal }) c.put.ensures (c.args.self.now.rounds - 1) (omega (arith, c.if-self-eq0.false)))
 
 pub returns-else-self-eq0-clause-stands : goal.returns-else-self-eq0-clause-stands
 returns-else-self-eq0-clause-stands g c =
@@ -37,7 +47,7 @@ returns-else-self-eq0-clause-stands g c =
     }
 
 pub returns-else-self-eq0-clause-lighter : goal.returns-else-self-eq0-clause-lighter
-returns-else-self-eq0-clause-lighter g c = λ old depth passes.
+returns-else-self-eq0-clause-lighter g c = λ old depth takes.
     round_lighter c.args.plan.now.elements c.args.self.now (record c.args.self.now { stack = c.put.new.self; rounds = c.args.self.now.rounds - 1 }) old c.args.frame (few_left c.args.plan.now.elements _ c.args.self.now.rounds c.args.frame c.requires.open) c.requires.open.depth c.put.ensures refl (omega (arith, c.if-self-eq0.false))
 
 pub open-requires-clause-nests : goal.open-requires-clause-nests
@@ -46,18 +56,18 @@ open-requires-clause-nests g c =
     child_nests c.args.plan.now.elements c.args.frame.depth c.in-Child.place c.in-Some.child o.element o.below (sym (c.in-Some.ensures o.element o.there))
 
 pub returns-in-Some-clause-came : goal.returns-in-Some-clause-came
-returns-in-Some-clause-came g c = λ e own there same.
-    came_as (g.O.Outside.account c.args.outside.now) (g.O.Outside.account c.open.new.outside) _ _ (went c.args.plan.now c.open.new.self (state_of c.open.new.state (at_rounds own c.open.new.self.rounds)))
-    (past (state_of c.open.new.state (at_rounds own c.open.new.self.rounds))) c.open.result
-    (child_next c.args.plan.now c.args.self.now c.args.frame e c.args.state.now own there c.args.turn c.in-Child.place c.in-Some.child c.round-round.result c.in-Child.is (sym (c.in-Some.ensures e there)) c.round-round.ensures
+returns-in-Some-clause-came g c = λ e units there.
+    came_as (g.O.Outside.account c.args.outside.now) (g.O.Outside.account c.open.new.outside) _ _ (went c.args.plan.now c.open.new.self (state_at c.open.new.self units c.open.new.state))
+    (past (state_at c.open.new.self units c.open.new.state)) c.open.result
+    (child_next c.args.plan.now c.args.self.now c.args.frame e c.args.state.now (own_at c.args.self.now units) there c.args.turn c.in-Child.place c.in-Some.child c.round-round.result c.in-Child.is (sym (c.in-Some.ensures e there)) c.round-round.ensures
     (record c.args.self.now { stack = c.put-in-Child.new.self }) (record { group = refl; failure = refl; signal = c.requires.normal }) c.put-in-Child.ensures)
-    (c.open.ensures.came own same)
+    (c.open.ensures.came units)
 
 pub returns-in-Some-clause-lighter : goal.returns-in-Some-clause-lighter
-returns-in-Some-clause-lighter g c = IfOk-weaker c.open.result _ _ (λ w opened old depth passes.
+returns-in-Some-clause-lighter g c = IfOk-weaker c.open.result _ _ (λ w opened old depth takes.
     child_lighter c.args.plan.now.elements c.args.self.now c.open.new.self old c.args.frame c.args.turn c.in-Child.place (record c.args.self.now { stack = c.put-in-Child.new.self }).stack.frames w c.in-Child.is
     (nests_at c.args.plan.now.elements c.args.frame.depth c.in-Some.child (child_nests c.args.plan.now.elements c.args.frame.depth c.in-Child.place c.in-Some.child c.requires.open.element c.requires.open.below (sym (c.in-Some.ensures c.requires.open.element c.requires.open.there)))).some
-    depth passes c.put-in-Child.ensures opened c.open.ensures.rest.0 c.open.ensures.rest.1) c.open.ensures.load
+    depth takes c.put-in-Child.ensures opened c.open.ensures.rest.0 c.open.ensures.rest.1) c.open.ensures.load
 
 pub returns-in-Some-clause-rounds : goal.returns-in-Some-clause-rounds
 returns-in-Some-clause-rounds g c = c.open.ensures.rounds
@@ -66,9 +76,9 @@ pub returns-in-Some-clause-index : goal.returns-in-Some-clause-index
 returns-in-Some-clause-index g c = c.open.ensures.index
 
 pub returns-in-None-clause-came : goal.returns-in-None-clause-came
-returns-in-None-clause-came g c = λ e own there same.
-    goes_as _ _ _ (no_child c.args.plan.now c.args.self.now c.args.frame e c.args.state.now own there c.args.turn c.in-Child.place c.in-Child.is (sym (c.in-None.ensures e there)) (record c.args.self.now { stack = c.put-in-Child.new.self }) (record { group = refl; failure = refl; signal = c.requires.normal }) c.put-in-Child.ensures c.args.self.now.rounds (sym same))
+returns-in-None-clause-came g c = λ e units there.
+    goes_as _ _ _ (no_child c.args.plan.now c.args.self.now c.args.frame e c.args.state.now (own_at c.args.self.now units) there c.args.turn c.in-Child.place c.in-Child.is (sym (c.in-None.ensures e there)) (record c.args.self.now { stack = c.put-in-Child.new.self }) (record { group = refl; failure = refl; signal = c.requires.normal }) c.put-in-Child.ensures c.args.self.now.rounds refl)
 
 pub returns-in-None-clause-lighter : goal.returns-in-None-clause-lighter
-returns-in-None-clause-lighter g c = λ old depth passes.
-    none_lighter c.args.plan.now.elements c.args.self.now (record c.args.self.now { stack = c.put-in-Child.new.self }) old c.args.frame c.args.turn c.in-Child.place c.in-Child.is depth passes c.put-in-Child.ensures refl refl
+returns-in-None-clause-lighter g c = λ old depth takes.
+    none_lighter c.args.plan.now.elements c.args.self.now (record c.args.self.now { stack = c.put-in-Child.new.self }) old c.args.frame c.args.turn c.in-Child.place c.in-Child.is depth takes c.put-in-Child.ensures refl refl

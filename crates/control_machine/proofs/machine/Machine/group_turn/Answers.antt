@@ -1,7 +1,7 @@
 use Rattle.std.proofs.Common.{sym, ap, ◌∙◌, refl}
 use Rattle.std.proofs.lemmas.Result.{IfOk-weaker}
-use Rattle.jm_meaning.specs.State.{state_of, at_rounds}
 use Rattle.control_machine.specs.Moves.{past}
+use Rattle.control_machine.specs.Left.{own_at, state_at}
 use Rattle.control_machine.specs.Turns.{went}
 use Rattle.control_machine.proofs.OpenLaws.{goes_as}
 use Rattle.control_machine.proofs.Answered.{came_as, group_child_next}
@@ -17,16 +17,16 @@ open-requires-clause-nests g c =
     child_nests c.args.plan.now.elements 30 c.in-Some.place c.in-Some-child_at.child o.element o.below (sym (c.in-Some-child_at.ensures o.element o.there))
 
 pub returns-in-Some-child_at-clause-came : goal.returns-in-Some-child_at-clause-came
-returns-in-Some-child_at-clause-came g c = λ own same.
+returns-in-Some-child_at-clause-came g c = λ units.
     let o = c.requires.stands.group in
     let n = c.in-Some.ensures in
-    came_as (g.O.Outside.account c.args.outside.now) (g.O.Outside.account c.open.new.outside) _ _ (went c.args.plan.now c.open.new.self (state_of c.open.new.state (at_rounds own c.open.new.self.rounds)))
-    (past (state_of c.open.new.state (at_rounds own c.open.new.self.rounds))) c.open.result
-    (group_child_next c.args.plan.now c.args.self.now (record c.args.self.now { group = record c.args.self.now.group { pass = c.next_child.new.self } }) c.args.state.now own c.in-Some.place c.in-Some-child_at.child c.from-round.result c.requires.normal c.requires.empty
+    came_as (g.O.Outside.account c.args.outside.now) (g.O.Outside.account c.open.new.outside) _ _ (went c.args.plan.now c.open.new.self (state_at c.open.new.self units c.open.new.state))
+    (past (state_at c.open.new.self units c.open.new.state)) c.open.result
+    (group_child_next c.args.plan.now c.args.self.now (record c.args.self.now { group = record c.args.self.now.group { pass = c.next_child.new.self } }) c.args.state.now (own_at c.args.self.now units) c.in-Some.place c.in-Some-child_at.child c.from-round.result c.requires.normal c.requires.empty
     (some_left c.args.self.now.group.pass c.in-Some.place n.0 n.1) (all_of c.args.plan.now.elements c.args.self.now.group.element o.element c.args.self.now.group.pass.children o.there o.pass) n.0
     (taken_child c.args.plan.now.elements c.args.self.now.group.element o.element c.in-Some.place c.in-Some-child_at.child o.there (sym (c.in-Some-child_at.ensures o.element o.there)))
     (c.from-round.ensures ∙ c.saturating_sub.ensures) (ap (λ p. record c.args.self.now.group { pass = p }) n.2) refl c.requires.empty)
-    (c.open.ensures.came own same)
+    (c.open.ensures.came units)
 
 pub returns-in-Some-child_at-clause-lighter : goal.returns-in-Some-child_at-clause-lighter
 returns-in-Some-child_at-clause-lighter g c = IfOk-weaker c.open.result _ _ (λ w opened.
@@ -51,9 +51,9 @@ returns-in-None-child_at-clause-lighter g c =
     absurd (no_such_child c.args.plan.now.elements o.element c.args.self.now.group.pass c.in-Some.place c.in-Some.ensures.1 o.pass (c.in-None-child_at.ensures o.element o.there))
 
 pub returns-in-None-clause-came : goal.returns-in-None-clause-came
-returns-in-None-clause-came g c = λ own same.
+returns-in-None-clause-came g c = λ units.
     let n = c.in-None.ensures in
-    goes_as _ _ _ (rw n.1 at (c.next_round.ensures.same c.args.plan.now c.args.state.now own) c.requires.stands.group c.requires.empty c.requires.normal n.0 same)
+    goes_as _ _ _ (rw n.1 at (c.next_round.ensures.same c.args.plan.now units c.args.state.now) c.requires.stands.group c.requires.empty c.requires.normal n.0)
 
 pub returns-in-None-clause-given : goal.returns-in-None-clause-given
 returns-in-None-clause-given g c = c.next_round.ensures.given c.args.plan.now.elements

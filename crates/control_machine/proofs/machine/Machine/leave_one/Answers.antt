@@ -1,33 +1,29 @@
-use Rattle.std.proofs.Common.{sym, ◌∙◌, refl, arith}
-use Rattle.control_machine.proofs.Leaving.{popped_same, popped_lighter, stop_same, loop_same, loop_stands, loop_group, none_of_pop, at_normal}
+use Rattle.std.proofs.Common.{refl}
+use Rattle.control_machine.specs.Left.{own_at}
+use Rattle.control_machine.proofs.Leaving.{popped_same}
+use Rattle.control_machine.proofs.Closed.{closed_given, closed_normal, closed_rounds, closed_index, closed_lightens}
+use Rattle.control_machine.proofs.Lightening.{popped_light}
 use Rattle.control_machine.proofs.machine.Machine.leave_one.Goals as goal
 
-pub returns-then-is_some-clause-same : goal.returns-then-is_some-clause-same
-returns-then-is_some-clause-same c = λ plan user own stands away same.
-    popped_same plan c.args.self.now (record c.args.self.now { stack = c.pop.new.self }) c.pop.result user own c.pop.ensures (sym c.is_some.ensures ∙ c.if-is_some.true) away refl refl refl c.args.self.now.rounds (sym same)
+pub returns-in-Some-clause-same : goal.returns-in-Some-clause-same
+returns-in-Some-clause-same c = λ plan units user stands away.
+    rw c.close.ensures (popped_same plan c.args.self.now (record c.args.self.now { stack = c.pop.new.self }) c.in-Some.frame user (own_at c.args.self.now units) c.in-Some.ensures.0 away refl refl refl stands c.args.self.now.rounds refl)
 
-pub returns-then-is_some-clause-lighter : goal.returns-then-is_some-clause-lighter
-returns-then-is_some-clause-lighter c = λ elements. popped_lighter elements c.args.self.now (record c.args.self.now { stack = c.pop.new.self }) c.pop.result c.pop.ensures (sym c.is_some.ensures ∙ c.if-is_some.true) refl refl
+pub returns-in-Some-clause-given : goal.returns-in-Some-clause-given
+returns-in-Some-clause-given c = λ plan stands away. rw c.close.ensures (closed_given plan.elements _ c.args.self.now.rounds c.in-Some.frame (rw c.in-Some.ensures.0 at stands.open_).0)
 
-pub returns-in-Stop-clause-same : goal.returns-in-Stop-clause-same
-returns-in-Stop-clause-same c = λ plan user own stands away same. stop_same plan c.args.self.now c.in-Stop.end user own c.in-Stop.is stands same
+pub returns-in-Some-clause-lighter : goal.returns-in-Some-clause-lighter
+returns-in-Some-clause-lighter c = λ elements. rw c.close.ensures
+    (closed_lightens c.in-Some.frame _ _ (popped_light elements c.args.self.now (record c.args.self.now { stack = c.pop.new.self }) c.in-Some.frame c.in-Some.ensures.0 refl refl))
 
-pub next_round-requires : goal.next_round-requires
-next_round-requires c = c.requires
+pub returns-in-Some-clause-normal : goal.returns-in-Some-clause-normal
+returns-in-Some-clause-normal c = λ plan stands. rw c.close.ensures (closed_normal c.in-Some.frame c.args.self.now.signal)
 
-pub returns : goal.returns
-returns c =
-    let n = c.next_round.ensures in
-    record {
-      same = λ plan user own stands away same.
-          loop_same plan c.args.self.now c.pop.new.self c.pop.result user own c.pop.ensures (sym c.is_some.ensures ∙ c.if-is_some.false) away c.in_default.not-Stop
-          ∙ n.same plan user own (loop_group plan.elements c.args.self.now.rounds c.args.self.now.group stands.group) (none_of_pop c.args.self.now.stack c.pop.new.self c.pop.result c.pop.ensures (sym c.is_some.ensures ∙ c.if-is_some.false)) refl (omega arith) same;
-      given = λ plan stands away. n.given plan.elements;
-      stands = λ plan stands. loop_stands plan c.args.self.now c.next_round.new.self c.pop.new.self c.pop.result c.pop.ensures (sym c.is_some.ensures ∙ c.if-is_some.false) stands
-          (n.group plan.elements (loop_group plan.elements c.args.self.now.rounds c.args.self.now.group stands.group)) n.rest n.thread.1;
-      lighter = λ elements. tt;
-      normal = λ plan stands. at_normal c.next_round.result c.next_round.new.self.signal n.rest.1;
-      rounds = n.rounds;
-      index = n.index;
-      thread = n.thread;
-    }
+pub returns-in-Some-clause-rounds : goal.returns-in-Some-clause-rounds
+returns-in-Some-clause-rounds c = rw c.close.ensures (closed_rounds c.in-Some.frame c.args.self.now.rounds)
+
+pub returns-in-Some-clause-index : goal.returns-in-Some-clause-index
+returns-in-Some-clause-index c = rw c.close.ensures (closed_index c.in-Some.frame c.args.self.now.group)
+
+pub returns-in-None-clause-stands : goal.returns-in-None-clause-stands
+returns-in-None-clause-stands c = rw c.in-None.ensures.1 at c.leave_round.ensures.stands

@@ -1,10 +1,7 @@
-use Rattle.std.proofs.Common.{refl, sym, ap, ◌∙◌, arith}
+use Rattle.std.proofs.Common.{refl, ◌∙◌, arith}
 use Rattle.jm_base.proofs.RunLaws.{goes-append}
 use Rattle.var_functions.proofs.CameLaws.{refused-first}
-use Rattle.jm_meaning.specs.State.{at_rounds}
-use Rattle.control_machine.specs.Left.{left_of}
 use Rattle.control_machine.proofs.OpenLaws.{goes_as}
-use Rattle.control_machine.proofs.Turning.{at_own}
 use Rattle.control_machine.proofs.Ways.{later_rounds}
 use Rattle.control_machine.proofs.machine.Machine.next.Goals as goal
 
@@ -13,7 +10,7 @@ turns-init g c = record {
   stands = c.requires;
   fewer = omega arith;
   thread = (refl, refl);
-  goes = λ own same. goes_as _ _ _ (ap (left_of c.args.plan.now c.args.self.now) (at_own c.args.state.now own c.args.self.now.rounds (sym same)));
+  goes = λ units. goes_as _ _ _ refl;
 }
 
 pub turn-requires : goal.turn-requires
@@ -31,12 +28,12 @@ turns-preserved g c =
       stands = t.stands;
       fewer = omega (arith, i.fewer, r);
       thread = (t.thread.0 ∙ i.thread.0, t.thread.1 ∙ i.thread.1);
-      goes = λ own same. goes-append (i.goes own same) (rw c.in-Ok-On.field-0-is at (t.came (at_rounds own c.turns.self.rounds) refl));
+      goes = λ units. goes-append (i.goes units) (rw c.in-Ok-On.field-0-is at (t.came units));
     }
 
 pub returns-in-Ok-To-clause-came : goal.returns-in-Ok-To-clause-came
-returns-in-Ok-To-clause-came g c = λ own same.
-    goes-append (c.turns.invariant.goes own same) (rw c.in-Ok-To.field-0-is at (c.in-Ok-To.ensures.came (at_rounds own c.turns.self.rounds) refl))
+returns-in-Ok-To-clause-came g c = λ units.
+    goes-append (c.turns.invariant.goes units) (rw c.in-Ok-To.field-0-is at (c.in-Ok-To.ensures.came units))
 
 pub returns-in-Ok-To-clause-rounds : goal.returns-in-Ok-To-clause-rounds
 returns-in-Ok-To-clause-rounds g c = later_rounds c.in-Ok-To.next _ _ _ c.turns.invariant.fewer (rw c.in-Ok-To.field-0-is at c.in-Ok-To.ensures.rounds)
@@ -48,7 +45,7 @@ pub returns-in-Ok-To-clause-thread : goal.returns-in-Ok-To-clause-thread
 returns-in-Ok-To-clause-thread g c = let i = c.turns.invariant.thread in let t = c.in-Ok-To.ensures.thread in (t.0 ∙ i.0, t.1 ∙ i.1)
 
 pub returns-in-Err-clause-came : goal.returns-in-Err-clause-came
-returns-in-Err-clause-came g c = λ own same. refused-first (c.turns.invariant.goes own same) (c.in-Err.ensures.came (at_rounds own c.turns.self.rounds) refl)
+returns-in-Err-clause-came g c = λ units. refused-first (c.turns.invariant.goes units) (c.in-Err.ensures.came units)
 
 pub returns-in-Err-clause-thread : goal.returns-in-Err-clause-thread
 returns-in-Err-clause-thread g c = let i = c.turns.invariant.thread in let t = c.in-Err.ensures.thread in (t.0 ∙ i.0, t.1 ∙ i.1)

@@ -1,8 +1,6 @@
-use Rattle.std.proofs.Common.{refl}
 use Rattle.var_functions.proofs.CameLaws.{came-first}
-use Rattle.jm_meaning.specs.State.{state_of}
 use Rattle.control_machine.specs.Moves.{past}
-use Rattle.control_machine.specs.Left.{left_of, moved}
+use Rattle.control_machine.specs.Left.{left_of, state_at, moved}
 use Rattle.thread_machine.specs.Standing.{state_in}
 use Rattle.thread_machine.specs.Inside.{standing_of}
 use Rattle.thread_machine.specs.Ran.{left_to}
@@ -12,6 +10,6 @@ use Rattle.thread_machine.proofs.runner.Runner.next_move.Goals as goal
 pub returns-in-Ok-clause-came : goal.returns-in-Ok-clause-came
 returns-in-Ok-clause-came g c =
     came-first _ _ _ (left_to c.args.self.now) (left_of c.set_out.new.self.plan.now c.set_out.new.self.machine (state_in (standing_of c.set_out.new.self false)))
-    (λ m. moved c.set_out.new.self.plan.now c.walk.new.machine (state_of c.walk.new.user (record { units = c.set_out.new.self.units; rounds = c.walk.new.machine.rounds })) m)
-    (past (state_of c.walk.new.user (record { units = c.set_out.new.self.units; rounds = c.walk.new.machine.rounds })))
-    c.walk.result c.in-Ok.ensures.came (c.walk.ensures.came (record { units = c.set_out.new.self.units; rounds = c.set_out.new.self.machine.rounds }) refl)
+    (λ m. moved c.set_out.new.self.plan.now c.walk.new.machine (state_at c.walk.new.machine c.set_out.new.self.units c.walk.new.user) m)
+    (past (state_at c.walk.new.machine c.set_out.new.self.units c.walk.new.user))
+    c.walk.result c.in-Ok.ensures.came (c.walk.ensures.came c.set_out.new.self.units)

@@ -15,8 +15,8 @@ label_of-label-requires g c =
 pub returns-in-Ok-Some-clause-gives : goal.returns-in-Ok-Some-clause-gives
 returns-in-Ok-Some-clause-gives g c =
     gave_sample c.args.self.now c.args.number c.requires.there c.request_of-request.result.now c.label_of-label.result c.request_of-request.ensures c.label_of-label.ensures c.if-self-eq0.false _ _
-    c.run_sampler.new.state c.in-Ok-Some.field-0 c.in-Ok-Some.sample c.owe.new.self c.owe.result c.requires.pause c.requires.begun c.in-Ok-Some.field-0-is c.in-Ok-Some.ensures.label
-    c.in-Ok-Some.ensures.came c.owe.ensures.new c.owe.ensures.step
+    c.run_sampler.new.state c.in-Ok-Some.field-0 c.in-Ok-Some.sample c.tell.new.self c.tell.result c.requires.pause c.requires.begun c.in-Ok-Some.field-0-is c.in-Ok-Some.ensures.label
+    c.in-Ok-Some.ensures.came c.tell.ensures.new c.tell.ensures.step
 
 pub returns-in-Ok-None-clause-gives : goal.returns-in-Ok-None-clause-gives
 returns-in-Ok-None-clause-gives g c =

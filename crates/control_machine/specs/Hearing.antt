@@ -1,0 +1,31 @@
+-- What open elements hear of a sampler's sample.
+use Rattle.std.specs.Prelude.{List, map}
+use Rattle.jm_base.specs.declared.types.Sample.{Sample}
+use Rattle.jm_meaning.specs.Sampling.{after_sample}
+use Rattle.jm_meaning.specs.Transactions.{with_sample}
+use Rattle.control_machine.specs.declared.cursor.Cursor.{Cursor}
+use Rattle.control_machine.specs.declared.cursor.Cursor.TheVariants.{Transaction}
+use Rattle.control_machine.specs.declared.stack.Frame.{Frame}
+use Rattle.control_machine.specs.declared.machine.Machine.{Machine}
+
+-- a transaction counts the sample
+abbrev pub hearing : Sample → Cursor → Cursor
+hearing sample (Transaction c) = Transaction (record { children = c.children; tally = with_sample c.tally sample })
+hearing sample c = c
+
+abbrev pub frame_hearing : Sample → Frame → Frame
+frame_hearing sample f = record { element = f.element; round = f.round; depth = f.depth; cursor = hearing sample f.cursor }
+
+abbrev pub all_hearing : Sample → List Frame → List Frame
+all_hearing sample frames = map (frame_hearing sample) frames
+
+-- A machine that was told of a sample: the open transactions count it, and where it failed the group's action follows.
+abbrev pub told : Sample → Machine → Machine
+told sample m = record {
+  group = m.group;
+  stack = record { frames = all_hearing sample m.stack.frames; room = m.stack.room };
+  rounds = m.rounds;
+  places = m.places;
+  at_failure = m.at_failure;
+  signal = after_sample sample.ok m.at_failure;
+}

@@ -1,0 +1,12 @@
+// A transaction that is open.
+
+use jm_meaning::Tally;
+use logic_controllers::SimpleCursor;
+
+/// An open transaction: its children, which run in order as those of a Simple Controller, and what it has counted of the
+/// samples in it.
+#[derive(Clone, Copy)]
+pub struct OpenTransaction {
+    pub children: SimpleCursor,
+    pub tally: Tally,
+}

@@ -1,0 +1,7 @@
+use Rattle.std.proofs.Common.{◌≡◌, take}
+use Rattle.interval_tables.specs.declared.row.Row.{Row}
+use Rattle.interval_tables.specs.Totals.{total}
+use Rattle.output_lines.proofs.reports.bytes_in.Given as goal
+
+abbrev pub invariant-loop-row : goal.invariant-loop-row
+invariant-loop-row l = l.bytes ≡ total (λ (r : Row). r.bytes) (take l.row-index l.rows)
