@@ -13,7 +13,7 @@ import subprocess
 import sys
 import time
 
-from model import CONTROLLERS, printed
+from model import CONTROLLERS, printed, threads_of
 
 TOP = os.path.dirname(os.path.dirname(os.path.abspath(__file__)))
 PROGRAM = f"{TOP}/crates/jm_program/out/jm_program"
@@ -102,20 +102,25 @@ class Plans:
             children.insert(0, self.sampler())
         return {"type": kind, "name": name, "props": props, "children": children}
 
-    def plan(self):
+    def group(self):
         action = self.one_of("continue", "continue", "nextLoop", "nextLoop", "stopThread", "stopTest")
-        props = {"loops": self.one_of(1, 1, 2, 3, 5), "onError": action}
+        props = {"loops": self.one_of(1, 1, 2, 3, 5), "onError": action, "threads": self.one_of(1, 1, 1, 2, 3)}
+        if self.often(0.3):
+            props["rampMs"] = self.one_of(1, 10, 1000)
         children = [self.element(self.choices.randint(1, 5), []) for _ in range(self.choices.randint(1, 4))]
-        group = {"type": "ThreadGroup", "name": self.one_of("TG", "G,x"), "props": props, "children": children}
-        return {"type": "TestPlan", "children": [{"type": "UserVariables", "props": {"vars": PAIRS}}, group]}
+        return {"type": "ThreadGroup", "name": self.one_of("TG", "G,x"), "props": props, "children": children}
+
+    def plan(self):
+        groups = [self.group() for _ in range(self.one_of(1, 1, 1, 2))]
+        return {"type": "TestPlan", "children": [{"type": "UserVariables", "props": {"vars": PAIRS}}, *groups]}
 
 
-def differs(plan, seed, budget):
-    """What was printed and what the model prints, where they are not the same."""
-    words = [PROGRAM, "solo", "--seed", str(seed), "--samples", str(budget)]
+def differs(plan, thread, seed, budget):
+    """What the model prints and, where it is not the same, what was printed."""
+    words = [PROGRAM, "solo", "--thread", str(thread), "--seed", str(seed), "--samples", str(budget)]
     ran = subprocess.run(words, input=json.dumps(plan).encode(), capture_output=True)
     found = ran.stdout.decode(), ran.stderr.decode()
-    wanted = printed(plan, seed, budget)
+    wanted = printed(plan, thread, seed, budget)
     return wanted, None if (ran.returncode, found) == (0, wanted) else (ran.returncode, *found)
 
 
@@ -124,11 +129,12 @@ def main(seconds=60, first=1):
     choices, ends, until = random.Random(first), collections.Counter(), time.monotonic() + seconds
     while time.monotonic() < until:
         plan = Plans(choices).plan()
+        thread = choices.randrange(len(threads_of(plan)))
         seed = choices.choice([0, 7, choices.getrandbits(64)])
         budget = choices.choice([1, 2, 3, 5, 8, 20, 60, 200])
-        wanted, other = differs(plan, seed, budget)
+        wanted, other = differs(plan, thread, seed, budget)
         if other:
-            words = f"solo --seed {seed} --samples {budget}"
+            words = f"solo --thread {thread} --seed {seed} --samples {budget}"
             print(json.dumps(plan), words, *other, "the model:", *wanted, sep="\n")
             return 1
         ends[wanted[1].rstrip().rsplit(",", 1)[1]] += 1

@@ -81,15 +81,25 @@ def is_number(text):
     return text.isascii() and text.isdigit()
 
 
-class Thread:
-    """The first thread of a plan's first group."""
+def threads_of(plan):
+    """For each thread of a plan its group, the number of that from 1, and the number of the thread in it from 0."""
+    groups = [it for it in in_tree_order(plan) if it["type"] == "ThreadGroup"]
+    return [(group, number, place) for number, group in enumerate(groups, 1)
+            for place in range(group.get("props", {}).get("threads", 1))]
 
-    def __init__(self, plan, seed, budget):
+
+class Thread:
+    """A thread of a plan, numbered from 0 over all groups."""
+
+    def __init__(self, plan, thread, seed, budget):
         elements = list(in_tree_order(plan))
-        self.group = next(it for it in elements if it["type"] == "ThreadGroup")
+        self.group, number, place = threads_of(plan)[thread]
+        self.name = f"{name_of(self.group)} {number}-{place + 1}"
         self.labels = list(dict.fromkeys(name_of(it) for it in elements if it["type"] in ("Script", "Transaction")))
         self.variables, self.counter, self.units, self.rounds = {}, 0, budget, ROUNDS
-        self.words, self.clock, self.places, self.replies = Words(seed, 0), 0, {}, {}
+        props = self.group.get("props", {})
+        self.clock = place * props.get("rampMs", 0) // props.get("threads", 1)
+        self.words, self.places, self.replies = Words(seed, thread), {}, {}
         self.samples, self.open = [], []
         for element in elements:
             if element["type"] == "UserVariables":
@@ -276,10 +286,10 @@ def line_of(*fields):
     return ",".join(map(field_of, fields)) + "\n"
 
 
-def printed(plan, seed, budget):
-    """The results and the report of the plan's first thread."""
-    thread = Thread(plan, seed, budget)
-    end, name = thread.to_its_end(), name_of(thread.group) + " 1-1"
+def printed(plan, thread, seed, budget):
+    """The results and the report of a plan's thread."""
+    thread = Thread(plan, thread, seed, budget)
+    end, name = thread.to_its_end(), thread.name
     results, report, sums = HEADER + "\n", "", [0, 0, 0, 0]
     for it in thread.samples:
         front = [it[part] for part in ("stamp", "elapsed", "label", "code", "message")]
