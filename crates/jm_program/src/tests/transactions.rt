@@ -28,7 +28,7 @@ const TREES: &str = r#"(Transaction.T A B ) => A B T | Completed
 (RandomOrder (Transaction.T A ) ) => A T | Completed
 (If:"condition":"true","all":true (Transaction.T A ) B ) => A T B | Completed
 (While:${__jexl3(${__counter(TRUE)}<3)} (Transaction.T A ) ) => A T A T | Completed
-Vars:u_1=x&u_2=yy (ForEach:u (Transaction.T A=${o} ) ) => A1 T1 A2 T2 | Completed
+Vars:u_1=x&u_2=yy (ForEach:u (Transaction.sum A=${o} ) ) => A1 sum1 A2 sum2 | Completed
 (Transaction.T F:! ) A => F T A | Completed
 (Transaction.T F:~ A ) => F A T | Completed
 (Transaction.T F:! A ) (If:${JMeterThread.last_sample_ok} B ) => F A T B | Completed
