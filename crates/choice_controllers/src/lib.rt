@@ -11,9 +11,9 @@ pub mod random_cursor;
 pub mod switch_cursor;
 
 pub use interleave_cursor::InterleaveCursor;
-pub use order_cursor::OrderCursor;
-pub use random_cursor::RandomCursor;
-pub use switch_cursor::SwitchCursor;
+pub use order_cursor::{OrderCursor, shuffle};
+pub use random_cursor::{RandomCursor, random_place};
+pub use switch_cursor::{SwitchCursor, picks};
 
 #[cfg(test)]
 mod tests;

@@ -37,7 +37,7 @@ fn places(alloc: Global, children: u16) -> M<Vec<u16>>
 }
 
 /// Exchanges the place at each index, from the last down to 1, with the one at an index up to it, which a word picks.
-fn shuffle(places: &mut [u16], fns: &mut FnState)
+pub fn shuffle(places: &mut [u16], fns: &mut FnState)
     ensures order { places.new ≡ (shuffled (length places.old - 1) places.old fns.old).0 }
     ensures fns { fns.new ≡ (shuffled (length places.old - 1) places.old fns.old).1 }
     ensures later { IsLater fns.old fns.new }

@@ -25,7 +25,7 @@ pub struct RandomCursor {
 }
 
 /// Draws the place of one of so many children. Without children there is none, and nothing is drawn.
-fn random_place(children: u16, fns: &mut FnState) -> Option<u16>
+pub fn random_place(children: u16, fns: &mut FnState) -> Option<u16>
     ensures place { result ≡ random_place children fns.old }
     ensures fns { fns.new ≡ random_fns children fns.old }
     ensures child { IfSome result (λ place. place < children) }

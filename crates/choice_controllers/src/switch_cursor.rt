@@ -79,7 +79,7 @@ fn index_among(children: u16, index: u32) -> u16
 }
 
 /// The place of the child that a text picks.
-fn picks(plan: &Plan, element: &Element, text: &[u8]) -> Option<u16>
+pub fn picks(plan: &Plan, element: &Element, text: &[u8]) -> Option<u16>
     ensures place { result ≡ picks text.now (run_names plan.now.elements element.now) }
     ensures child { IfSome result (λ place. place < run_count plan.now.elements element.now) }
 {

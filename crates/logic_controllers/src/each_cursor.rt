@@ -59,14 +59,14 @@ fn copied_value(alloc: Global, vars: &Vars, name: &Text) -> M<Option<Text>>
 /// Which variables of a row are read: whether `_` stands in front of their numbers, the number before the first one and
 /// the number of the last one.
 #[derive(Clone, Copy)]
-struct Span {
-    separator: bool,
-    start: u32,
-    end: u32,
+pub struct Span {
+    pub separator: bool,
+    pub start: u32,
+    pub end: u32,
 }
 
 /// The value of the round of this index, where there is one.
-fn value_at(alloc: Global, vars: &Vars, input: &Text, span: Span, index: u32) -> M<Option<Text>>
+pub fn value_at(alloc: Global, vars: &Vars, input: &Text, span: Span, index: u32) -> M<Option<Text>>
     ensures value { IfOk result (λ v. v ≡ value_at (record { input = input.now; separator = span.separator; start = span.start; end = span.end }) index vars.now) }
     ensures within { IfOk result (λ v. IfSome v (λ t. span.start + 1 + index ≤ span.end)) }
 {
@@ -105,6 +105,7 @@ impl EachCursor {
             (O.account outside.new) self.new state.new result }
         ensures rounds { (e : Element) → slice_get plan.now.elements self.old.element ≡ Some e → self.new.rounds ≡ before_rounds (run_count plan.now.elements e) }
         ensures same { self.new.element ≡ self.old.element }
+        ensures state { state.new ≡ state.old }
         ensures done { result ≡ Ok tt }
     {
         let Some(element) = plan.element(self.element) else {

@@ -26,7 +26,7 @@ pub struct IfCursor {
 }
 
 /// Whether the text of a condition is true: `true`, in capitals or not.
-fn is_true(text: &[u8]) -> bool
+pub fn is_true(text: &[u8]) -> bool
     ensures { result ≡ is_true text.now }
 {
     text.eq_ignore_ascii_case(b"true")

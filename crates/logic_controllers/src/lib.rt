@@ -13,13 +13,13 @@ pub mod simple_cursor;
 pub mod while_cursor;
 
 pub use cursor_steps::Pass;
-pub use each_cursor::EachCursor;
-pub use if_cursor::IfCursor;
-pub use loop_cursor::LoopCursor;
+pub use each_cursor::{EachCursor, Span, value_at};
+pub use if_cursor::{IfCursor, is_true};
+pub use loop_cursor::{LoopCursor, loops_of, round_begins};
 pub use once_cursor::OnceCursor;
-pub use rounds::Rounds;
+pub use rounds::{Rounds, decimal_text, index_name};
 pub use simple_cursor::SimpleCursor;
-pub use while_cursor::WhileCursor;
+pub use while_cursor::{WhileCursor, goes_on, last_ok};
 
 #[cfg(test)]
 mod tests;

@@ -30,7 +30,7 @@ pub struct LoopCursor {
 }
 
 /// How many rounds a text asks for.
-fn loops_of(text: &[u8]) -> Loops
+pub fn loops_of(text: &[u8]) -> Loops
     ensures { result ≡ loops_of text.now }
 {
     if text == b"-1".as_slice() {
@@ -40,7 +40,7 @@ fn loops_of(text: &[u8]) -> Loops
 }
 
 /// Whether a round of this index begins.
-fn round_begins(loops: Loops, index: u32) -> bool
+pub fn round_begins(loops: Loops, index: u32) -> bool
     ensures { result ≡ round_begins loops index }
 {
     match loops {

@@ -21,7 +21,7 @@ pub struct Rounds {
 }
 
 /// Text of a number's decimal digits.
-pub(crate) fn decimal_text(alloc: Global, number: u64) -> M<Text>
+pub fn decimal_text(alloc: Global, number: u64) -> M<Text>
     ensures { IfOk result (λ t. t ≡ decimal number) }
 {
     let text = format!(in alloc; "{number}")?;
@@ -29,7 +29,7 @@ pub(crate) fn decimal_text(alloc: Global, number: u64) -> M<Text>
 }
 
 /// The name of the index variable of an element of this name.
-fn index_name(alloc: Global, name: &[u8]) -> M<Text>
+pub fn index_name(alloc: Global, name: &[u8]) -> M<Text>
     ensures { IfOk result (λ t. t ≡ index_name name.now) }
 {
     let mut text = Vec::with_capacity(alloc, name.len() + 11)?;

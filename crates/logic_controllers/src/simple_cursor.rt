@@ -45,6 +45,7 @@ impl SimpleCursor {
             (O.account outside.new) self.new state.new result }
         ensures pass { (e : Element) → slice_get plan.now.elements self.old.element ≡ Some e → self.new.pass ≡ pass_over (run_count plan.now.elements e) }
         ensures same { self.new.element ≡ self.old.element }
+        ensures state { state.new ≡ state.old }
         ensures done { result ≡ Ok tt }
     {
         let Some(element) = plan.element(self.element) else {
@@ -68,6 +69,7 @@ impl SimpleCursor {
         ensures pass { IsOkAnd result (Passes self.old.pass self.new.pass) }
         ensures children { self.new.pass.children ≡ self.old.pass.children }
         ensures same { self.new.element ≡ self.old.element }
+        ensures state { state.new ≡ state.old }
     {
         match self.pass.next_child() {
             Some(place) => Ok(Turn::Child(place)),

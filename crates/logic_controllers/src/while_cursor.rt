@@ -34,7 +34,7 @@ fn is_blank(text: &[u8]) -> bool
 }
 
 /// Whether the thread's last sample succeeded.
-fn last_ok(vars: &Vars) -> bool
+pub fn last_ok(vars: &Vars) -> bool
     ensures { result ≡ last_ok vars.now }
 {
     match vars.get(b"JMeterThread.last_sample_ok") {
@@ -44,7 +44,7 @@ fn last_ok(vars: &Vars) -> bool
 }
 
 /// Whether a round of this index begins, by the text of the condition.
-fn goes_on(text: &[u8], index: u32, ok: bool) -> bool
+pub fn goes_on(text: &[u8], index: u32, ok: bool) -> bool
     ensures { result ≡ goes_on text.now index ok }
 {
     if is_blank(text) {
@@ -81,6 +81,7 @@ impl WhileCursor {
             (O.account outside.new) self.new state.new result }
         ensures rounds { (e : Element) → slice_get plan.now.elements self.old.element ≡ Some e → self.new.rounds ≡ before_rounds (run_count plan.now.elements e) }
         ensures same { self.new.element ≡ self.old.element }
+        ensures state { state.new ≡ state.old }
         ensures done { result ≡ Ok tt }
     {
         let Some(element) = plan.element(self.element) else {
