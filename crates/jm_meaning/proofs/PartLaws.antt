@@ -29,7 +29,7 @@ normal-assoc f g s (Stop end) = refl
 pub then-assoc : (r : Run Ending) (f g : Part) → and_then (and_then r f) g ≡ and_then r (λ s. and_then (f s) g)
 then-assoc r f g = bind-assoc r (on_normal f) (on_normal g) ∙ ap (λ h. r >>= h) (fun_ext λ e. normal-assoc f g e.state e.signal)
 
--- what stands behind a decision to begin a round
+-- what stands after a decision to begin a round
 abbrev pub round_at : {X : Type 0} → ℕ → Turns X → (ℕ → Part) → ℕ → X → Part
 round_at limit turns body i x s =
     with_round s (λ s. and_then (turns.opens x i s) (λ s. and_then (body i s) (rounds (limit - (i + 1)) turns body (i + 1))))
@@ -71,7 +71,7 @@ pub next-round : {X : Type 0} (limit : ℕ) (turns : Turns X) (body : ℕ → Pa
     → rounds (limit - i) turns body i s ≡ tried (turns.begins i) s (where_begun (round_at limit turns body i))
 next-round limit turns body i s bound = by_fuel limit turns body i s bound (limit - i) refl
 
--- what a part goes on with behind a template's text
+-- what a part goes on with after a template's text
 pub text-then : (template : Pieces) (s : State) (next : List ℕ → Part)
     → tried (text template) s next ≡ (expansion template s.user.vars s.user.fns >>= λ x. on_came s.own next (text_of s.user x))
 text-then template s next = bind-assoc (expansion template s.user.vars s.user.fns) (λ x. over (text_of s.user x)) (on_came s.own next)
@@ -97,7 +97,7 @@ puts-came a made old own vars (Err ValueLimit) put =
     (subst (λ m. Goes a (with_vars m (state_of old own)) [] (over (stopped PastValueLimit (state_of old own))) a) (sym put.0) (goes-nothing a _)))
 puts-came a made old own vars (Err NoMemory) put = by_memory (_, goes-nothing a _)
 
--- variables that were to be set behind a part
+-- variables that were to be set after a part
 pub put-then : (made : Option Variables) (s : State) (next : Part) → (vars : Variables) → made ≡ Some vars
     → and_then (with_vars made s) next ≡ next (state_of (record { vars = vars; fns = s.user.fns }) s.own)
 put-then made s next vars is = ap (λ m. and_then (with_vars m s) next) is

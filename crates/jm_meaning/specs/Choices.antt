@@ -14,7 +14,7 @@ use Rattle.jm_meaning.specs.Children.{Below, in_order, one_of}
 abbrev pub chosen : Below → ℕ → List ℕ → Option ℕ → Part
 chosen below round children place s = one_of below round (option_and_then (slice_get children) place) s
 
--- the Interleave Controller of this number, with so many children, has moved on to its next child
+-- the Interleave Controller of this number, with that many children, has moved on to its next child
 abbrev pub moved_on : ℕ → ℕ → State → State
 moved_on number children s =
     state_of s.user (at_places s.own (with_place s.own.places number (next_place children (place_of s.own.places number))))

@@ -74,7 +74,7 @@ meaning here zero number round s = over (normal s)
 meaning here (suc depth) number round s =
     element_meaning here (meaning here depth) number (slice_get here.plan.elements number) round s
 
--- the rounds of a thread group, so many at most, from one of this index on
+-- the rounds of a thread group, that many at most, from one of this index on
 abbrev pub group_rounds : ℕ → Below → Loops → List ℕ → ℕ → Part
 group_rounds n below loops children = rounds n (group_turns loops) (λ i s. round_of_group (in_order below i children s))
 
@@ -105,11 +105,11 @@ failure_of (Some e) = failure_in e.kind
 abbrev pub here_at : Tree → ℕ → Here
 here_at plan group = record { plan = plan; at_failure = failure_of (slice_get plan.elements group) }
 
--- behind the rounds of the group the thread ends
+-- after the rounds of the group the thread ends
 abbrev pub and_end : Run Ending → Run Unit
 and_end run = run >>= λ e. give (Ended (end_of e.signal)) (over tt)
 
--- a pause of so many milliseconds, if it is any, and then the run
+-- a pause of that many milliseconds, where there is one, and then the run
 abbrev pub behind_pause : {A : Type 0} → ℕ → Run A → Run A
 behind_pause zero run = run
 behind_pause (suc ms) run = wait (suc ms) (give (Waited (suc ms)) run)

@@ -24,7 +24,7 @@ where_begun next None s = over (normal s)
 where_begun next (Some x) s = next x s
 
 -- Rounds from one of this index on: whether it begins is decided first, then it is taken from the rounds left.
--- There are at most so many, since each takes one of the rounds left.
+-- There are at most that many, since each takes one of the rounds left.
 unfoldable pub rounds : {X : Type 0} → ℕ → Turns X → (ℕ → Part) → ℕ → Part
 rounds zero turns body i s = tried (turns.begins i) s (where_begun (λ x s. over (stopped RoundLimit s)))
 rounds (suc n) turns body i s = tried (turns.begins i) s (where_begun (λ x s.
@@ -38,7 +38,7 @@ where_so b = if b then Some tt else None
 abbrev pub set_index : List ℕ → ℕ → Part
 set_index name i = put (index_name name) (decimal i)
 
--- so many rounds
+-- that many rounds
 abbrev pub loop_turns : List ℕ → Loops → Turns (Unit {0})
 loop_turns name loops = record {
   begins = λ i user. over (fine (where_so (round_begins loops i)) user);

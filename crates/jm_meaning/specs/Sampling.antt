@@ -90,6 +90,6 @@ given_sample number at_failure None s = give (Nothing number) (over (normal s))
 given_sample number at_failure (Some sample) s =
     give (Sampled Sampler sample) (over (record { state = s; signal = after_sample sample.ok at_failure }))
 
--- a sampler's part of the run, behind the unit that it uses
+-- a sampler's part of the run, after the unit that it uses
 abbrev pub sampling : ℕ → ℕ → Pieces → Signal → Part
 sampling label number request at_failure s = tried (pipeline label number request) s (given_sample number at_failure)

@@ -26,7 +26,7 @@ pub record State : Type 0 where
 abbrev pub state_of : UserState → Own → State
 state_of user own = record { user = user; own = own }
 
--- the state behind a part of the run, and the signal
+-- the state after a part of the run, and the signal
 pub record Ending : Type 0 where
   pub state : State
   pub signal : Signal
@@ -49,7 +49,7 @@ on_normal next e = elim e.signal [ Normal ↦ next e.state | NextLoop ↦ over e
 abbrev pub and_then : Run Ending → Part → Run Ending
 and_then run next = run >>= on_normal next
 
--- with so many units, or rounds, left
+-- with that many units, or rounds, left
 abbrev pub at_units : Own → ℕ → Own
 at_units own n = record { units = n; rounds = own.rounds; places = own.places }
 
@@ -68,7 +68,7 @@ place_of places number = slice_index_or places number 0
 abbrev pub with_place : List ℕ → ℕ → ℕ → List ℕ
 with_place places number place = slice_set places number place
 
--- with so much kept by functions
+-- where functions keep this
 abbrev pub with_fns : State → Functions → State
 with_fns s fns = state_of (record { vars = s.user.vars; fns = fns }) s.own
 

@@ -21,7 +21,7 @@ abbrev pub with_event : List Sample → Event → List Sample
 with_event samples (Sampled Sampler sample) = samples ++ sample ∷ []
 with_event samples event = samples
 
--- a run, with the samples of its samplers behind these
+-- a run, with the samples of its samplers after these
 unfoldable pub heard : {A : Type 0} → List Sample → Run A → Run (Heard A)
 heard samples (over x) = over (record { samples = samples; came_to = x })
 heard samples (give event run) = give event (heard (with_event samples event) run)
@@ -86,11 +86,11 @@ abbrev pub with_own_sample : ℕ → Tally → Ending → Run Ending
 with_own_sample label tally e =
     with_unit e.state (λ s. give (Sampled Transaction (sample_by label tally)) (over (record { state = s; signal = e.signal })))
 
--- behind a transaction that has ended so: its sample, where there is one
+-- after a transaction that has ended so: its sample, where there is one
 abbrev pub summed : ℕ → Tally → Ending → Run Ending
 summed label tally e = if gives_sample e.signal && nat_lt 0 tally.samples then with_own_sample label tally e else over e
 
--- A transaction is its children's part, and its sample behind it.
+-- A transaction is its children's part, and then its sample.
 abbrev pub transaction : ℕ → Part → Part
 transaction label part s = heard [] (part s) >>= λ h. summed label (tally_of h.samples) h.came_to
 
@@ -125,7 +125,7 @@ tallied tally (ask sampler request next) = ask sampler request (λ outcome. tall
 abbrev pub transaction_from : ℕ → Tally → Run Ending → Run Ending
 transaction_from label tally run = tallied tally run >>= λ t. summed label t.tally t.came_to
 
--- behind these events
+-- after these events
 unfoldable pub counted : Tally → List Event → Tally
 counted tally [] = tally
 counted tally (event ∷ events) = counted (counting tally event) events

@@ -1,10 +1,13 @@
 // The first variables of a thread.
 
+ghost use Rattle.std.specs.Prelude.{◌≡◌, OnErr};
 ghost use Rattle.jm_base.specs.Run.{over};
 ghost use Rattle.jm_base.specs.declared.types.End.TheVariants.{ValueLimit as PastValueLimit};
 ghost use Rattle.var_functions.specs.Came.{CameTo};
+ghost use Rattle.var_functions.specs.State.{IsLater};
 ghost use Rattle.jm_meaning.specs.State.{Own, state_of, normal, stopped, tried, text, put};
 ghost use Rattle.jm_meaning.specs.Beginning.{set_first, set_all, user_variables};
+ghost use Rattle.jm_meaning.specs.Cut.{SetsPrefix};
 
 use crate::sampler::put_copy;
 use element_props::Pair;
@@ -17,7 +20,8 @@ use var_functions::{UserState, VarError, expand};
 /// comes, and a later one of the same name wins (the manual's "User Defined Variables"). After them it sets
 /// `JMeterThread.last_sample_ok` to `true`.
 ///
-/// `ValueLimit` comes where a value or the variables would be past a limit.
+/// `ValueLimit` comes where a value or the variables would be past a limit. A call that refuses, out of memory too, has
+/// set the variables that came before and no other.
 pub fn set_first<O: Outside>(
     alloc: Global,
     plan: &Plan,
@@ -26,6 +30,8 @@ pub fn set_first<O: Outside>(
 ) -> Result<(), VarError>
     ensures came { (own : Own) → CameTo (O.account outside.old) (set_first plan.now.elements (state_of state.old own)) (O.account outside.new)
         (λ u. over (normal (state_of state.new own))) (over (stopped PastValueLimit (state_of state.new own))) result }
+    ensures later { IsLater state.old.fns state.new.fns }
+    ensures cut { OnErr result (SetsPrefix (O.account outside.old) (user_variables plan.now.elements) state.old (O.account outside.new) state.new) }
 {
     match set_elements(alloc, plan.elements(), state, outside) {
         Ok(()) => put_copy(
@@ -46,6 +52,8 @@ fn set_elements<O: Outside>(
 ) -> Result<(), VarError>
     ensures came { (own : Own) → CameTo (O.account outside.old) (set_all (user_variables elements.now) (state_of state.old own)) (O.account outside.new)
         (λ u. over (normal (state_of state.new own))) (over (stopped PastValueLimit (state_of state.new own))) result }
+    ensures later { IsLater state.old.fns state.new.fns }
+    ensures cut { OnErr result (SetsPrefix (O.account outside.old) (user_variables elements.now) state.old (O.account outside.new) state.new) }
 {
     for element in elements {
         if let Kind::UserVariables { vars } = &element.kind {
@@ -66,6 +74,8 @@ fn set_pairs<O: Outside>(
 ) -> Result<(), VarError>
     ensures came { (own : Own) → CameTo (O.account outside.old) (set_all pairs.now (state_of state.old own)) (O.account outside.new)
         (λ u. over (normal (state_of state.new own))) (over (stopped PastValueLimit (state_of state.new own))) result }
+    ensures later { IsLater state.old.fns state.new.fns }
+    ensures cut { OnErr result (SetsPrefix (O.account outside.old) pairs.now state.old (O.account outside.new) state.new) }
 {
     for pair in pairs {
         match set_pair(alloc, pair, state, outside) {
@@ -84,6 +94,8 @@ fn set_pair<O: Outside>(
 ) -> Result<(), VarError>
     ensures came { (own : Own) → CameTo (O.account outside.old) (tried (text pair.now.value) (state_of state.old own) (put pair.now.name)) (O.account outside.new)
         (λ u. over (normal (state_of state.new own))) (over (stopped PastValueLimit (state_of state.new own))) result }
+    ensures later { IsLater state.old.fns state.new.fns }
+    ensures kept { OnErr result (state.new.vars ≡ state.old.vars) }
 {
     match expand(alloc, &pair.value, state, outside) {
         Ok(value) => put_copy(alloc, pair.name.bytes(), value.bytes(), &mut state.vars),

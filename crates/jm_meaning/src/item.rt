@@ -5,7 +5,7 @@ use jm_base::{End, Sample};
 /// One item of a bare trace: a trace without interval numbers and places.
 #[derive(Drop)]
 pub enum Item {
-    /// A pause of so many milliseconds.
+    /// A pause of that many milliseconds.
     Paused(u32),
     /// A sample of a sampler or a transaction.
     Sampled(Sample),

@@ -27,7 +27,7 @@ pub fn ramp_up_pause(plan: &Plan, thread: u16) -> u32
     ramp_up(found.number, *threads, *ramp_ms)
 }
 
-// The pause of the thread of this number, from 1, where so many start over a ramp-up time.
+// The pause of the thread of this number, from 1, where that many start over a ramp-up time.
 fn ramp_up(number: u16, threads: u16, ramp_ms: u32) -> u32
     requires first { 1 ≤ number }
     requires last { number ≤ threads }

@@ -4,6 +4,7 @@ ghost use Rattle.std.specs.Prelude.{IfSome, ◌≡◌, [], IfOk, OnErr, Option, 
 ghost use Rattle.jm_base.specs.Run.{over};
 ghost use Rattle.jm_base.specs.Outside.{Account, Goes};
 ghost use Rattle.var_functions.specs.Came.{CameTo};
+ghost use Rattle.var_functions.specs.State.{IsLater};
 ghost use Rattle.var_functions.specs.Vars.{put_var, Puts};
 ghost use Rattle.jm_meaning.specs.Left.{LeftOf};
 ghost use Rattle.jm_meaning.specs.State.{fine, past_limit};
@@ -19,7 +20,8 @@ use var_functions::{UserState, VarError, Vars, expand};
 /// readings of the clock, and sets `JMeterThread.last_sample_ok` to whether the sample succeeded. There is no sample where
 /// the outcome is null, and then the variable stays.
 ///
-/// `ValueLimit` comes where the text, or the variables with that one, would be past a limit.
+/// `ValueLimit` comes where the text, or the variables with that one, would be past a limit. A call that refuses leaves
+/// the variables as they were; what functions keep stands at a later moment.
 pub fn run_sampler<O: Outside>(
     alloc: Global,
     label: u16,
@@ -31,6 +33,9 @@ pub fn run_sampler<O: Outside>(
     ensures came { CameTo (O.account outside.old) (pipeline label number request.now state.old) (O.account outside.new)
         (λ sample. over (fine sample state.new)) (over (past_limit state.new)) result }
     ensures label { IfOk result (λ r. IfSome r (λ s. s.label ≡ label)) }
+    // After every answer, out of memory too.
+    ensures later { IsLater state.old.fns state.new.fns }
+    ensures kept { OnErr result (state.new.vars ≡ state.old.vars) }
 {
     match expand(alloc, request, state, outside) {
         Ok(text) => ask(alloc, label, number, &text, state, outside),
@@ -50,6 +55,8 @@ fn ask<O: Outside>(
     ensures came { CameTo (O.account outside.old) (asked label number text.now state.old) (O.account outside.new)
         (λ sample. over (fine sample state.new)) (over (past_limit state.new)) result }
     ensures label { IfOk result (λ r. IfSome r (λ s. s.label ≡ label)) }
+    ensures fns { state.new.fns ≡ state.old.fns }
+    ensures kept { OnErr result (state.new ≡ state.old) }
 {
     match sample_once(alloc, label, number, text.bytes(), outside) {
         Ok(Some(sample)) => note(alloc, sample, state),
@@ -63,6 +70,8 @@ fn note(alloc: Global, sample: Sample, state: &mut UserState) -> Result<Option<S
     ensures came { (a : Account) → CameTo a (over (noted state.old (Some sample))) a
         (λ found. over (fine found state.new)) (over (past_limit state.new)) result }
     ensures sample { IfOk result (λ found. found ≡ Some sample) }
+    ensures fns { state.new.fns ≡ state.old.fns }
+    ensures kept { OnErr result (state.new ≡ state.old) }
 {
     match put_copy(
         alloc,

@@ -6,7 +6,7 @@ ghost use Rattle.jm_meaning.specs.Meaning.{signal_of};
 use element_tree::OnError;
 use jm_base::End;
 
-/// Whether the run goes on behind a part of it.
+/// Whether the run goes on after a part of it.
 #[derive(Clone, Copy, PartialEq, Eq, Debug)]
 pub enum Signal {
     /// It goes on with what comes next.
