@@ -37,7 +37,7 @@ use Rattle.control_machine.proofs.Turning.{IsLike, at_own}
 pub came_as : {B : Type 0} (a b : Account) (run x : Run Ending) (on : B → Run Ending) (limit : Run Ending) (res : Result B VarError) → run ≡ x → CameTo a x b on limit res → CameTo a run b on limit res
 came_as a b run x on limit res is came = subst (λ r. CameTo a r b on limit res) (sym is) came
 
--- what is left behind the answer of an element that was taken out of the open ones
+-- what is left after the answer of an element that was taken out of the open ones
 abbrev pub answered : Tree → Machine → Frame → Element → State → Turn → Run Ending
 answered plan m f e s turn =
     left_behind plan m (closed (here_in plan m) f (turned (meaning (here_in plan m) f.depth) (round_in f.round f.cursor) (children_of plan.elements e) (left_by (here_in plan m) f e) s turn))

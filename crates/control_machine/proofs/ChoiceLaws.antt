@@ -34,7 +34,7 @@ ends-so s Normal = refl
 ends-so s NextLoop = refl
 ends-so s (Stop end) = refl
 
--- a part behind which nothing is left
+-- a part after which nothing is left
 pub then-nothing : (r : Run Ending) → and_then r (λ s. over (normal s)) ≡ r
 then-nothing (over e) = ends-so e.state e.signal
 then-nothing (give e r) = ap (give e) (then-nothing r)

@@ -1,4 +1,4 @@
--- The controllers that choose have fewer children left behind each child.
+-- The controllers that choose have fewer children left after each child.
 use Rattle.std.proofs.Common.{◌≡◌, ℕ, ◌+◌, ◌-◌, ◌<◌, ◌≤◌, List, [], length, Option, Some, None, refl, sym, ap, subst, arith}
 use Rattle.std.specs.Prelude.{slice_get, unwrap_or, Result, Ok, Err, IfSome, IfOk, IsOkAnd}
 use Rattle.std.proofs.lemmas.Option.{slice_get_within}

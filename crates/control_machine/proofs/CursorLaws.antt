@@ -112,7 +112,7 @@ module _ {X : Type 0} (turns : Turns X) (below : Below) (children : List ℕ) (r
       → round_at max_rounds turns (λ i. in_order below i children) r.begun x t ≡ with_round t (λ s. and_then (turns.opens x r.begun s) (round_left turns below children (round_begun r)))
   new_round x all t = ap (with_round t) (fun_ext λ s. ap (and_then (turns.opens x r.begun s)) (fun_ext λ s. first_left all s))
 
-  -- behind the last child of a round the next one is decided on
+  -- after the last child of a round the next one is decided on
   pub round-decided : is_left r.pass ≡ false → r.pass.children ≡ length children → r.begun + s.own.rounds ≤ max_rounds
       → round_left turns below children r s
       ≡ tried (turns.begins r.begun) s (where_begun (λ x s. with_round s (λ s. and_then (turns.opens x r.begun s) (round_left turns below children (round_begun r)))))

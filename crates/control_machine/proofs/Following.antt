@@ -1,4 +1,4 @@
--- What the innermost open element answered is followed, and the group behind it.
+-- What the innermost open element answered is followed, and the group after it.
 use Rattle.std.proofs.Common.{◌≡◌, ℕ, suc, ◌-◌, ◌+◌, ◌≤◌, Bool, true, false, List, [], length, Some, refl, sym, ap, ◌∙◌, arith}
 use Rattle.std.specs.Prelude.{slice_get}
 use Rattle.jm_base.specs.declared.types.End.TheVariants.{Completed, RoundLimit}
@@ -35,7 +35,7 @@ own_same own n is = ap (at_rounds own) is
 -- ---- the group
 
 module _ (here : Here) (g : Group) (user : UserState) (own : Own) where
-  -- behind the last child of a round the next one is decided on
+  -- after the last child of a round the next one is decided on
   at_end : is_left g.pass ≡ false → left_in here g [] (over (normal (state_of user own)))
       ≡ group_rounds (max_rounds - g.begun) (meaning here 30) g.loops (children_at here.plan.elements g.element) g.begun (state_of user own)
   unfolding left_in rest_of

@@ -23,4 +23,5 @@ pub mod Rounding
 pub mod Grouping
 pub mod Leaving
 pub mod Ways
+pub mod CutLaws
 pub mod Starting

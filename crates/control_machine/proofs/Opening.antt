@@ -19,7 +19,7 @@ meant here depth n round s e some there =
     let is : depth ≡ suc (depth - 1) = omega arith in
     subst (λ d. meaning here d n round s ≡ kind_meaning here (meaning here (depth - 1)) n e e.kind round s) (sym is) (meant_one here (depth - 1) n round s e there)
 
--- what nests so deep is there, and what is below it nests less deep
+-- what nests that deep is there, and what is below it nests less deep
 pub record NestsAt (elements : List Element) (depth n : ℕ) : Type 0 where
   pub element : Element
   pub some : 1 ≤ depth

@@ -73,6 +73,14 @@ module _ (here : Here) where
   out_of_top g f fs s NextLoop away = refl
   out_of_top g f fs s (Stop end) away = refl
 
+-- what the innermost open element has come to, in the whole
+pub framed_goes : (here : Here) (g : Group) (fs : List Frame) (f : Frame) (e : Element) (s : State) (a m : Account) (x : Run Ending)
+    → slice_get here.plan.elements f.element ≡ Some e → Goes a (left_by here f e s) [] x m
+    → Goes a (left_in here g (f ∷ fs) (over (normal s))) [] (left_in here g fs (closed here f x)) m
+framed_goes here g fs f e s a m x there go =
+    subst (λ r. Goes a r [] (left_in here g fs (closed here f x)) m) (sym (innermost here g f fs e s there))
+    (goes_left here g fs (goes_closing (label_at here.plan.elements f.element) (tally_in f.cursor) go))
+
 -- the answer of the innermost open element, in the whole
 pub framed_came : {B : Type 0} (here : Here) (g : Group) (fs : List Frame) (f : Frame) (e : Element) (s : State) (a m b : Account) (x : Run Ending)
     (on : B → Run Ending) (limit : Run Ending) (res : Result B VarError) → slice_get here.plan.elements f.element ≡ Some e

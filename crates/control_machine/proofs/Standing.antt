@@ -1,4 +1,4 @@
--- A machine stands in its plan behind each turn.
+-- A machine stands in its plan after each turn.
 use Rattle.std.proofs.Common.{◌≡◌, inr, ℕ, zero, suc, ◌+◌, ◌-◌, ◌≤◌, ◌<◌, Bool, true, false, List, [], ◌∷◌, length, take, Option, Some, None, refl, sym, subst, arith}
 use Rattle.std.specs.Prelude.{if◌then◌else◌, slice_get, Result, Ok, Err, MatchResult, IfOk, IfSome}
 use Rattle.std.specs.List.{AllByRecursion, filter}
@@ -46,7 +46,7 @@ round_open elements left k f turn is some less o =
 pub child_open : (elements : List Element) (left place : ℕ) (f : Frame) (turn : Turn) → turn ≡ Child place → IsOpen elements (begun_after max_rounds turn) left f → IsOpen elements max_rounds left f
 child_open elements left place f turn is o = subst (λ t. IsOpen elements (begun_after max_rounds t) left f) is o
 
--- an element behind its answer
+-- an element after its answer
 pub answered_open : (elements : List Element) (left : ℕ) (f : Frame) (c : Cursor) (turn : Turn) (o : IsOpen elements max_rounds left f)
     → FitsKind f.element (length (children_of elements o.element)) o.element.kind c → begun_of c ≤ begun_after (begun_of f.cursor) turn
     → IsOpen elements (begun_after max_rounds turn) left (record { element = f.element; round = f.round; depth = f.depth; cursor = c })

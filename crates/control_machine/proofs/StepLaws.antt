@@ -1,4 +1,4 @@
--- Parts behind texts and variables are calls of cursors behind them.
+-- Parts after texts and variables are calls of cursors after them.
 use Rattle.std.proofs.Common.{◌≡◌, ℕ, List, Option, Some, None, refl, sym, ap, ◌∙◌}
 use mathlib.Core.Path.{fun_ext}
 use Rattle.jm_base.specs.Run.{Run, ◌>>=◌}
@@ -19,7 +19,7 @@ by_came : {A C : Type 0} (c : C) (user : UserState) (own : Own) (next : List ℕ
 by_came c user own next go part stops goes x None is = rw is (sym (stops (record { vars = user.vars; fns = x.fns })))
 by_came c user own next go part stops goes x (Some t) is = rw is (goes t (record { vars = user.vars; fns = x.fns }))
 
--- a part behind a text is a call behind its template
+-- a part after a text is a call after its template
 pub text-law : {A C : Type 0} (template : Pieces) (c : C) (s : State) (next : List ℕ → UserState → Run (Step A C)) (go : Step A C → Run Ending) (part : List ℕ → Part)
     → ((u : UserState) → go (record { answer = None; cursor = c; state = u }) ≡ past (state_of u s.own))
     → ((x : List ℕ) (u : UserState) → part x (state_of u s.own) ≡ (next x u >>= go))
@@ -29,7 +29,7 @@ text-law template c s next go part stops goes =
     ∙ ap (λ k. expansion template s.user.vars s.user.fns >>= k) (fun_ext λ x. by_came c s.user s.own next go part stops goes x x.came refl)
     ∙ sym (bind-assoc (expansion template s.user.vars s.user.fns) (with_text c s.user next) go)
 
--- a part behind variables that are set is a call behind them
+-- a part after variables that are set is a call after them
 pub vars-law : {A C : Type 0} (made : Option Variables) (c : C) (s : State) (next : UserState → Run (Step A C)) (go : Step A C → Run Ending) (part : Part)
     → ((u : UserState) → go (record { answer = None; cursor = c; state = u }) ≡ past (state_of u s.own))
     → ((u : UserState) → part (state_of u s.own) ≡ (next u >>= go))

@@ -30,7 +30,7 @@ use Rattle.control_machine.proofs.Following.{left_normal, left_later, own_same}
 rest_is : {a b : Account} (run x y : Run Ending) → x ≡ y → Goes a run [] x b → Goes a run [] y b
 rest_is {a} {b} run x y is goes = subst (λ r. Goes a run [] r b) is goes
 
--- the moment behind the turn, where no round was taken
+-- the moment after the turn, where no round was taken
 pub at_own : (user : UserState) (own : Own) (k : ℕ) → k ≡ own.rounds → state_of user own ≡ state_of user (at_rounds own k)
 at_own user own k is = ap (state_of user) (sym (own_same own k is))
 

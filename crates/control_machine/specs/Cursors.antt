@@ -39,13 +39,13 @@ abbrev pub if_left : Bool → Pieces → Below → ℕ → List ℕ → IfCursor
 if_left true condition below round children c = if_each below round (pass_left c.pass children) (text condition)
 if_left false condition below round children c = in_order below round (pass_left c.pass children)
 
--- the children that are left in this round, and the rounds behind it
+-- the children that are left in this round, and the rounds after it
 abbrev pub round_left : {X : Type 0} → Turns X → Below → List ℕ → Rounds → Part
 round_left turns below children r s =
     and_then (in_order below (r.begun - 1) (pass_left r.pass children) s)
     (rounds (max_rounds - r.begun) turns (λ i. in_order below i children) r.begun)
 
--- the same behind the index variable, where that is still to be set
+-- the same after the index variable, where that is still to be set
 abbrev pub turning_left : {X : Type 0} → List ℕ → Turns X → Below → List ℕ → Rounds → Part
 turning_left name turns below children r s =
     and_then (with_vars (opened_vars name r s.user.vars) s) (round_left turns below children r)
@@ -56,7 +56,7 @@ loop_left name below children c = turning_left name (loop_turns name c.loops) be
 abbrev pub while_left : List ℕ → Pieces → Below → List ℕ → WhileCursor → Part
 while_left name condition below children c = turning_left name (while_turns name condition) below children c.rounds
 
--- behind the index variable the kept value goes to the output
+-- after the index variable the kept value goes to the output
 abbrev pub each_left : List ℕ → Row → List ℕ → Below → List ℕ → EachCursor → Part
 each_left name row output below children c s =
     and_then (with_vars (opened_vars name c.rounds s.user.vars) s) (λ s.
@@ -143,7 +143,7 @@ round_in round (Order c) = round
 round_in round (Switch c) = round
 round_in round (Transaction c) = round
 
--- A cursor stands at the element of this number, which is of its kind and has so many children that run.
+-- A cursor stands at the element of this number, which is of its kind and has that many children that run.
 abbrev pub FitsKind : ℕ → ℕ → Kind → Cursor → Type 0
 FitsKind n count k (Simple c) = (c.element ≡ n) × (k ≡ kinds.Simple) × (c.pass.children ≤ count)
 FitsKind n count k (Once c) = (c.element ≡ n) × (k ≡ kinds.OnceOnly) × (c.pass.children ≤ count)

@@ -23,7 +23,7 @@ entered here below n round e s Sampler = kind_part here n e e.kind s
 entered here below n round e s (Open c) =
     closing (label_at here.plan.elements n) (tally_in c) (cursor_left below round (children_in here e) e c s)
 
--- what stands behind it
+-- what stands after it
 abbrev pub EnteredFits : ℕ → ℕ → Kind → Entered → Type 0
 EnteredFits n count k Nothing = Unit {0}
 EnteredFits n count k Sampler = IsScript k

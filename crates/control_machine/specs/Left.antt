@@ -29,7 +29,7 @@ use Rattle.control_machine.specs.declared.moves.Move.TheVariants.{Iteration, Run
 use Rattle.control_machine.specs.Moves.{pass_left}
 use Rattle.control_machine.specs.Cursors.{cursor_left, tally_in, begun_of, FitsKind}
 
--- what an open element gives behind the child that is open
+-- what an open element gives after the child that is open
 abbrev pub frame_left : Here → Frame → Option Element → Part
 frame_left here f None s = over (normal s)
 frame_left here f (Some e) s = cursor_left (meaning here f.depth) f.round (children_in here e) e f.cursor s
@@ -38,7 +38,7 @@ frame_left here f (Some e) s = cursor_left (meaning here f.depth) f.round (child
 abbrev pub label_at : List Element → ℕ → ℕ
 label_at elements number = unwrap_or (option_map (λ e. label_of elements e.name) (slice_get elements number)) 0
 
--- what an open element makes of the run in it: a transaction counts the samples, and gives its own behind them
+-- what an open element makes of the run in it: a transaction counts the samples, and gives its own after them
 abbrev pub closing : ℕ → Option Tally → Run Ending → Run Ending
 closing label None inner = inner
 closing label (Some tally) inner = transaction_from label tally inner
@@ -58,7 +58,7 @@ rest_of here (f ∷ fs) inner = rest_of here fs (around here f inner)
 abbrev pub children_at : List Element → ℕ → List ℕ
 children_at elements n = unwrap_or (option_map (children_of elements) (slice_get elements n)) []
 
--- the rest of a group's round, and the rounds behind it
+-- the rest of a group's round, and the rounds after it
 abbrev pub group_around : Here → Group → Run Ending → Run Ending
 group_around here g inner =
     and_then (round_of_group (and_then inner (in_order (meaning here 30) (g.begun - 1) (pass_left g.pass (children_at here.plan.elements g.element)))))
@@ -72,7 +72,7 @@ left_in here g fs inner = group_around here g (rest_of here fs inner)
 abbrev pub here_in : Tree → Machine → Here
 here_in plan m = record { plan = plan; at_failure = m.at_failure }
 
--- what is left of a thread's rounds behind a part of its run
+-- what is left of a thread's rounds after a part of its run
 abbrev pub left_behind : Tree → Machine → Run Ending → Run Ending
 left_behind plan m inner = left_in (here_in plan m) m.group m.stack.frames inner
 
@@ -80,7 +80,7 @@ left_behind plan m inner = left_in (here_in plan m) m.group m.stack.frames inner
 abbrev pub left_of : Tree → Machine → State → Run Ending
 left_of plan m s = left_behind plan m (over (record { state = s; signal = m.signal }))
 
--- what the thread carries beside its variables, with so many units left: the machine keeps the rounds and the places
+-- what the thread carries beside its variables, with that many units left: the machine keeps the rounds and the places
 abbrev pub own_at : Machine → ℕ → Own
 own_at m units = record { units = units; rounds = m.rounds; places = m.places }
 
@@ -103,7 +103,7 @@ abbrev pub ended : End → State → Ending
 ended Completed s = normal s
 ended end s = stopped end s
 
--- what is left behind a move; sections come to no move yet
+-- what is left after a move; sections come to no move yet
 abbrev pub moved : Tree → Machine → State → Move → Run Ending
 moved plan m s (Iteration index) = left_of plan m s
 moved plan m s (RunSampler number) = left_behind plan m (sampler_part (here_in plan m) number (slice_get plan.elements number) s)
@@ -151,7 +151,8 @@ IsMove elements (Finished end) = IsFinish end
 
 -- ---- what holds of a machine
 
--- an open element: it is of the kind of its cursor, those below it nest at most so deep, and its rounds are within the limit
+-- an open element: it is of the kind of its cursor, those below it nest at most that deep, and its rounds are within the
+-- limit
 pub record IsOpen (elements : List Element) (limit left : ℕ) (f : Frame) : Type 0 where
   pub element : Element
   pub there : slice_get elements f.element ≡ Some element
@@ -164,7 +165,7 @@ abbrev pub AreOpen : List Element → ℕ → List Frame → Type 0
 AreOpen elements left [] = Unit {0}
 AreOpen elements left (f ∷ fs) = IsOpen elements max_rounds left f × AreOpen elements left fs
 
--- the group, with children that nest at most so deep, and rounds within the limit
+-- the group, with children that nest at most that deep, and rounds within the limit
 pub record GroupIsOpen (elements : List Element) (left : ℕ) (g : Group) : Type 0 where
   pub element : Element
   pub there : slice_get elements g.element ≡ Some element
@@ -172,7 +173,7 @@ pub record GroupIsOpen (elements : List Element) (left : ℕ) (g : Group) : Type
   pub pass : g.pass.children ≡ length (children_of elements element)
   pub bound : g.begun + left ≤ max_rounds
 
--- a signal of the way out, if it is none that goes on
+-- a signal of the way out, or that the run goes on
 abbrev pub IsOut : Signal → Type 0
 IsOut Normal = Unit {0}
 IsOut NextLoop = Unit {0}

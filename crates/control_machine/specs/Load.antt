@@ -15,7 +15,7 @@ unfoldable pub children_count : List Element → ℕ
 children_count [] = 0
 children_count (e ∷ es) = length e.children + children_count es
 
--- more than all that can happen below an element where elements nest so deep
+-- more than all that can happen below an element where elements nest that deep
 unfoldable pub scale : ℕ → ℕ → ℕ
 scale children zero = 1
 scale children (suc depth) = (children + 2) * scale children depth

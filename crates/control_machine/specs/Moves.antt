@@ -1,4 +1,4 @@
--- What an open element answers, and what is left behind the answer.
+-- What an open element answers, and what is left after the answer.
 use Rattle.std.specs.Prelude.{ℕ, List, drop, take, Some, None, slice_get}
 use Rattle.jm_base.specs.declared.types.End.TheVariants.{ValueLimit}
 use Rattle.jm_base.specs.Run.{Run, over}
@@ -17,13 +17,13 @@ past s = over (stopped ValueLimit s)
 abbrev pub pass_left : Pass → List ℕ → List ℕ
 pass_left p children = drop p.next (take p.children children)
 
--- behind the answer: a child and what is left behind it, a round that is taken and what is left then, or nothing
+-- after the answer: a child and what is left after it, a round that is taken and what is left then, or nothing
 abbrev pub turned : Below → ℕ → List ℕ → Part → State → Turn → Run Ending
 turned below round children left s (Child place) = and_then (one_of below round (slice_get children place) s) left
 turned below round children left s Round = with_round s left
 turned below round children left s Over = over (normal s)
 
--- how a cursor's step goes on, where so much is left by the cursor
+-- how a cursor's step goes on, where this is left by the cursor
 abbrev pub stepped : {C : Type 0} → Below → (C → ℕ) → List ℕ → (C → Part) → Own → Step Turn C → Run Ending
 stepped below round children left own step = elim step.answer [
   | None ↦ past (state_of step.state own)

@@ -3,10 +3,13 @@ use Rattle.std.specs.Prelude.{◌≡◌, ◌⊎◌, ℕ, ◌+◌, ◌-◌, ◌*�
 use Rattle.jm_base.specs.declared.types.End.TheVariants.{StopThread, StopTest}
 use Rattle.jm_base.specs.Run.{Run}
 use Rattle.element_tree.specs.declared.kinds.Element.{Element}
+use Rattle.element_tree.specs.declared.package.Turn.{Turn}
 use Rattle.element_tree.specs.Tree.{Tree}
 use Rattle.jm_meaning.specs.declared.signal.Signal.{Signal}
 use Rattle.jm_meaning.specs.declared.signal.Signal.TheVariants.{Normal, NextLoop, Stop}
 use Rattle.jm_meaning.specs.State.{State, Ending}
+use Rattle.jm_meaning.specs.Children.{children_of}
+use Rattle.jm_meaning.specs.Meaning.{meaning}
 use Rattle.control_machine.specs.declared.stack.Frame.{Frame}
 use Rattle.control_machine.specs.declared.machine.Group.{Group}
 use Rattle.control_machine.specs.declared.machine.Machine.{Machine}
@@ -17,11 +20,12 @@ use Rattle.control_machine.specs.declared.moves.Move.TheVariants.{Iteration, Run
 use Rattle.control_machine.specs.declared.moves.Leave.{Leave}
 use Rattle.control_machine.specs.declared.moves.Leave.TheVariants as leaves
 use Rattle.jm_meaning.specs.declared.transaction.Tally.{Tally}
-use Rattle.control_machine.specs.Cursors.{tally_in}
-use Rattle.control_machine.specs.Left.{left_of, left_in, here_in, moved, IsMove}
+use Rattle.control_machine.specs.Moves.{turned}
+use Rattle.control_machine.specs.Cursors.{cursor_left, round_in, tally_in}
+use Rattle.control_machine.specs.Left.{left_of, left_in, left_behind, closed, here_in, moved, IsMove}
 use Rattle.control_machine.specs.Load.{children_count, scale, load, remaining, children_left}
 
--- what is left behind a turn
+-- what is left after a turn
 abbrev pub went : Tree → Machine → State → Went → Run Ending
 went plan m s On = left_of plan m s
 went plan m s (To move) = moved plan m s move
@@ -53,11 +57,17 @@ signal_left leaves.StopTest = Stop StopTest
 abbrev pub left_from : Tree → Machine → Frame → Run Ending → Run Ending
 left_from plan m f inner = left_in (here_in plan m) m.group (f ∷ m.stack.frames) inner
 
+-- what is left where an element that was taken out of the open ones has answered
+abbrev pub left_answered : Tree → Machine → Frame → Element → Turn → State → Run Ending
+left_answered plan m f e turn s =
+    left_behind plan m (closed (here_in plan m) f (turned (meaning (here_in plan m) f.depth) (round_in f.round f.cursor) (children_of plan.elements e)
+    (cursor_left (meaning (here_in plan m) f.depth) f.round (children_of plan.elements e) e f.cursor) s turn))
+
 -- the load of these open elements, in a machine
 abbrev pub load_in : List Element → Machine → List Frame → ℕ
 load_in elements m frames = load (children_count elements) frames + (remaining m.group.pass + m.rounds) * scale (children_count elements) 31
 
--- the open elements where a child was opened at which elements nest so deep: one more of them, or none
+-- the open elements where a child was opened at which elements nest that deep: one more of them, or none
 abbrev pub IsOpened : List Element → ℕ → List Frame → List Frame → Type 0
 IsOpened elements depth old new =
     (new ≡ old) ⊎ ((f : Frame) × (new ≡ f ∷ old) × (f.depth ≡ depth - 1) × (children_left f.cursor ≤ children_count elements))

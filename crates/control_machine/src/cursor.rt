@@ -1,8 +1,9 @@
 // The cursor of an open element, of any kind.
 
-ghost use Rattle.std.specs.Prelude.{◌≡◌, ◌+◌, ◌≤◌, slice_get, length, Some, ℕ, IfOk};
+ghost use Rattle.std.specs.Prelude.{◌≡◌, ◌+◌, ◌≤◌, slice_get, length, Some, ℕ, IfOk, OnErr};
 ghost use Rattle.element_tree.specs.declared.kinds.Element.{Element};
 ghost use Rattle.var_functions.specs.Came.{CameTo};
+ghost use Rattle.var_functions.specs.State.{IsLater};
 ghost use Rattle.logic_controllers.specs.Rounds.{begun_after};
 ghost use Rattle.jm_meaning.specs.State.{Own, state_of};
 ghost use Rattle.jm_meaning.specs.Children.{Below, children_of};
@@ -11,6 +12,7 @@ ghost use Rattle.control_machine.specs.Moves.{turned, past};
 ghost use Rattle.control_machine.specs.Cursors.{cursor_left, tally_in, begun_of, round_in, FitsKind};
 ghost use Rattle.control_machine.specs.Load.{children_left, TakesChild};
 ghost use Rattle.control_machine.specs.Hearing.{hearing};
+ghost use Rattle.control_machine.specs.Cut.{IsCutIn};
 
 use crate::transaction::OpenTransaction;
 use choice_controllers::{InterleaveCursor, OrderCursor, RandomCursor, SwitchCursor};
@@ -75,6 +77,10 @@ impl Cursor {
         ensures tally { tally_in self.new ≡ tally_in self.old }
         ensures fits { (e : Element) (n : ℕ) → slice_get plan.now.elements n ≡ Some e
             → FitsKind n (length (children_of plan.now.elements e)) e.kind self.old → FitsKind n (length (children_of plan.now.elements e)) e.kind self.new }
+        // After every answer, out of memory too.
+        ensures later { IsLater state.old.fns state.new.fns }
+        ensures cut { (e : Element) (n : ℕ) → slice_get plan.now.elements n ≡ Some e
+            → FitsKind n (length (children_of plan.now.elements e)) e.kind self.old → OnErr result (IsCutIn e self.old state.old state.new) }
     {
         match self {
             Cursor::Simple(cursor) => cursor.next(alloc, plan, round, state, outside),

@@ -9,6 +9,7 @@ ghost use Rattle.logic_controllers.specs.ForEachController.{Row, kind_of};
 ghost use Rattle.jm_meaning.specs.State.{Own, State, state_of, at_places};
 ghost use Rattle.jm_meaning.specs.Children.{Below, children_of};
 ghost use Rattle.jm_meaning.specs.Meaning.{kind_meaning};
+ghost use Rattle.jm_meaning.specs.Cut.{StandsLater};
 ghost use Rattle.jm_meaning.specs.declared.signal.Signal.{Signal};
 ghost use Rattle.control_machine.specs.Moves.{past};
 ghost use Rattle.control_machine.specs.Entering.{here_with, entered, EnteredFits};
@@ -48,6 +49,7 @@ fn enter_simple<O: Outside>(
         (entered (here_with plan.now failure) below child round e (state_of state.new own)) (past (state_of state.new own)) result }
     ensures fits { IfOk result (λ x. (e : Element) → slice_get plan.now.elements child ≡ Some e
         → EnteredFits child (length (children_of plan.now.elements e)) e.kind x) }
+    ensures stands { StandsLater state.old state.new }
 {
     let mut cursor = SimpleCursor::new(child);
     match cursor.enter(alloc, plan, state, outside) {
@@ -69,6 +71,7 @@ fn enter_once<O: Outside>(
         (entered (here_with plan.now failure) below child round e (state_of state.new own)) (past (state_of state.new own)) result }
     ensures fits { IfOk result (λ x. (e : Element) → slice_get plan.now.elements child ≡ Some e
         → EnteredFits child (length (children_of plan.now.elements e)) e.kind x) }
+    ensures stands { StandsLater state.old state.new }
 {
     let mut cursor = OnceCursor::new(child);
     match cursor.enter(alloc, plan, state, outside) {
@@ -90,6 +93,7 @@ fn enter_loop<O: Outside>(
         (entered (here_with plan.now failure) below child round e (state_of state.new own)) (past (state_of state.new own)) result }
     ensures fits { IfOk result (λ x. (e : Element) → slice_get plan.now.elements child ≡ Some e
         → EnteredFits child (length (children_of plan.now.elements e)) e.kind x) }
+    ensures stands { StandsLater state.old state.new }
 {
     let mut cursor = LoopCursor::new(child);
     match cursor.enter(alloc, plan, state, outside) {
@@ -111,6 +115,7 @@ fn enter_if<O: Outside>(
         (entered (here_with plan.now failure) below child round e (state_of state.new own)) (past (state_of state.new own)) result }
     ensures fits { IfOk result (λ x. (e : Element) → slice_get plan.now.elements child ≡ Some e
         → EnteredFits child (length (children_of plan.now.elements e)) e.kind x) }
+    ensures stands { StandsLater state.old state.new }
 {
     let mut cursor = IfCursor::new(child);
     match cursor.enter(alloc, plan, state, outside) {
@@ -132,6 +137,7 @@ fn enter_while<O: Outside>(
         (entered (here_with plan.now failure) below child round e (state_of state.new own)) (past (state_of state.new own)) result }
     ensures fits { IfOk result (λ x. (e : Element) → slice_get plan.now.elements child ≡ Some e
         → EnteredFits child (length (children_of plan.now.elements e)) e.kind x) }
+    ensures stands { StandsLater state.old state.new }
 {
     let mut cursor = WhileCursor::new(child);
     match cursor.enter(alloc, plan, state, outside) {
@@ -153,6 +159,7 @@ fn enter_each<O: Outside>(
         (entered (here_with plan.now failure) below child round e (state_of state.new own)) (past (state_of state.new own)) result }
     ensures fits { IfOk result (λ x. (e : Element) → slice_get plan.now.elements child ≡ Some e
         → EnteredFits child (length (children_of plan.now.elements e)) e.kind x) }
+    ensures stands { StandsLater state.old state.new }
 {
     let mut cursor = EachCursor::new(child);
     match cursor.enter(alloc, plan, state, outside) {
@@ -175,6 +182,7 @@ fn enter_interleave<O: Outside>(
         (entered (here_with plan.now failure) below child round e (state_of state.new (at_places own places.new))) (past (state_of state.new (at_places own places.new))) result }
     ensures fits { IfOk result (λ x. (e : Element) → slice_get plan.now.elements child ≡ Some e
         → EnteredFits child (length (children_of plan.now.elements e)) e.kind x) }
+    ensures stands { StandsLater state.old state.new }
 {
     let mut cursor = InterleaveCursor {
         element: child,
@@ -203,6 +211,7 @@ fn enter_random<O: Outside>(
         (entered (here_with plan.now failure) below child round e (state_of state.new own)) (past (state_of state.new own)) result }
     ensures fits { IfOk result (λ x. (e : Element) → slice_get plan.now.elements child ≡ Some e
         → EnteredFits child (length (children_of plan.now.elements e)) e.kind x) }
+    ensures stands { StandsLater state.old state.new }
 {
     let mut cursor = RandomCursor::new(child);
     match cursor.enter(alloc, plan, state, outside) {
@@ -224,6 +233,7 @@ fn enter_order<O: Outside>(
         (entered (here_with plan.now failure) below child round e (state_of state.new own)) (past (state_of state.new own)) result }
     ensures fits { IfOk result (λ x. (e : Element) → slice_get plan.now.elements child ≡ Some e
         → EnteredFits child (length (children_of plan.now.elements e)) e.kind x) }
+    ensures stands { StandsLater state.old state.new }
 {
     let mut cursor = OrderCursor::new(child);
     match cursor.enter(alloc, plan, state, outside) {
@@ -245,6 +255,7 @@ fn enter_switch<O: Outside>(
         (entered (here_with plan.now failure) below child round e (state_of state.new own)) (past (state_of state.new own)) result }
     ensures fits { IfOk result (λ x. (e : Element) → slice_get plan.now.elements child ≡ Some e
         → EnteredFits child (length (children_of plan.now.elements e)) e.kind x) }
+    ensures stands { StandsLater state.old state.new }
 {
     let mut cursor = SwitchCursor::new(child);
     match cursor.enter(alloc, plan, state, outside) {
@@ -270,7 +281,7 @@ fn enter_transaction(plan: &Plan, child: u16, element: &Element) -> Entered
 }
 
 /// Enters the element of this number: a Loop, a Switch or an If without `all` expands its text, and the controllers that
-/// choose choose their child, by which an Interleave's place moves on.
+/// choose choose their child, by which an Interleave's place moves on. No variable is set.
 pub fn enter<O: Outside>(
     alloc: Global,
     plan: &Plan,
@@ -284,6 +295,7 @@ pub fn enter<O: Outside>(
         (entered (here_with plan.now failure) below child round e (state_of state.new (at_places own places.new))) (past (state_of state.new (at_places own places.new))) result }
     ensures fits { IfOk result (λ x. (e : Element) → slice_get plan.now.elements child ≡ Some e
         → EnteredFits child (length (children_of plan.now.elements e)) e.kind x) }
+    ensures stands { StandsLater state.old state.new }
 {
     let Some(element) = plan.element(child) else {
         return Ok(Entered::Nothing);

@@ -1,8 +1,9 @@
 // The machine: the group's rounds, and the elements that are open in its round.
 
-ghost use Rattle.std.specs.Prelude.{◌≡◌, ◌<◌, ℕ, slice_get, length, IfOk};
+ghost use Rattle.std.specs.Prelude.{◌≡◌, ◌<◌, ℕ, slice_get, length, IfOk, OnErr};
 ghost use Rattle.element_tree.specs.Tree.{Tree, threads_of, group_of};
 ghost use Rattle.var_functions.specs.Came.{CameTo};
+ghost use Rattle.var_functions.specs.State.{IsLater};
 ghost use Rattle.jm_meaning.specs.State.{Own, state_of};
 ghost use Rattle.jm_meaning.specs.Sampling.{after_sample};
 ghost use Rattle.jm_meaning.specs.Meaning.{group_part, here_at, failure_of};
@@ -12,6 +13,7 @@ ghost use Rattle.control_machine.specs.Left.{StandsIn, left_of, state_at, moved,
 ghost use Rattle.control_machine.specs.Turns.{Lightens, TakesRound, IsRoundless, IsNormalAt, IsNormalOn, IsRoundOf, IsRoundIn, went, IsWent, signal_left};
 ghost use Rattle.control_machine.specs.Load.{load_of};
 ghost use Rattle.control_machine.specs.Hearing.{told};
+ghost use Rattle.control_machine.specs.Cut.{IsCut};
 
 use crate::moves::{Leave, Move};
 use crate::stack::Stack;
@@ -99,7 +101,7 @@ impl Machine {
     }
 
     /// The next move. `ValueLimit` comes where a text, a value or the variables would pass their limit on the way. After a
-    /// refusal and after `Finished` the machine is spent.
+    /// refusal and after `Finished` the machine is spent. A refusal leaves the variables as the steps before it left them.
     pub fn next<O: Outside>(
         &mut self,
         alloc: Global,
@@ -118,6 +120,9 @@ impl Machine {
         ensures rounds { IfOk result (λ m. TakesRound m self.old.rounds self.new.rounds) }
         ensures index { IfOk result (λ m. IsRoundOf m self.new.group) }
         ensures thread { (self.new.group.element ≡ self.old.group.element) × (self.new.at_failure ≡ self.old.at_failure) }
+        // After every answer, out of memory too.
+        ensures later { IsLater state.old.fns state.new.fns }
+        ensures cut { OnErr result (IsCut plan.now (O.account outside.old) (λ units. left_of plan.now self.old (state_at self.old units state.old)) (O.account outside.new) state.new) }
     {
         'turns: loop {
             match self.turn(alloc, plan, state, outside) {
@@ -166,6 +171,8 @@ impl Machine {
         ensures rounds { IfOk result (λ w. IsRoundless w self.old.rounds self.new.rounds) }
         ensures index { IfOk result (λ w. IsRoundIn w self.new.group) }
         ensures thread { (self.new.group.element ≡ self.old.group.element) × (self.new.at_failure ≡ self.old.at_failure) }
+        ensures later { IsLater state.old.fns state.new.fns }
+        ensures cut { OnErr result (IsCut plan.now (O.account outside.old) (λ units. left_of plan.now self.old (state_at self.old units state.old)) (O.account outside.new) state.new) }
     {
         match self.signal {
             Signal::Normal => self.go_on(alloc, plan, state, outside),
@@ -174,7 +181,7 @@ impl Machine {
     }
 }
 
-// The signal behind a sample.
+// The signal after a sample.
 fn signal_behind(ok: bool, at_failure: Signal) -> Signal
     ensures { result ≡ after_sample ok at_failure }
 {

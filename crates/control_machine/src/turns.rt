@@ -1,14 +1,14 @@
 // The turns of a machine.
 
-ghost use Rattle.std.specs.Prelude.{◌≡◌, ◌+◌, ◌-◌, ◌≤◌, ◌<◌, ℕ, slice_get, Some, List, [], ◌∷◌, IfOk, MatchResult};
+ghost use Rattle.std.specs.Prelude.{◌≡◌, ◌+◌, ◌-◌, ◌≤◌, ◌<◌, ℕ, slice_get, Some, List, [], ◌∷◌, IfOk, OnErr, MatchResult};
 ghost use Rattle.std.specs.List.{filter};
 ghost use Rattle.cursor_steps.specs.Children.{is_run_at};
 ghost use Rattle.element_tree.specs.declared.kinds.Element.{Element};
 ghost use Rattle.element_tree.specs.Tree.{Tree, Nests};
 ghost use Rattle.jm_base.specs.Run.{over};
 ghost use Rattle.var_functions.specs.Came.{CameTo};
+ghost use Rattle.var_functions.specs.State.{IsLater};
 ghost use Rattle.logic_controllers.specs.Rounds.{begun_after};
-ghost use Rattle.logic_controllers.specs.LoopController.{round_begins};
 ghost use Rattle.jm_meaning.specs.State.{normal};
 ghost use Rattle.jm_meaning.specs.Children.{children_of};
 ghost use Rattle.jm_meaning.specs.Meaning.{meaning};
@@ -17,8 +17,9 @@ ghost use Rattle.jm_meaning.specs.declared.signal.Signal.{Signal};
 ghost use Rattle.control_machine.specs.Moves.{turned, past};
 ghost use Rattle.control_machine.specs.Cursors.{cursor_left, round_in};
 ghost use Rattle.control_machine.specs.Left.{StandsIn, GroupIsOpen, IsOpen, left_of, left_behind, closed, state_at, moved, IsMove, here_in};
-ghost use Rattle.control_machine.specs.Turns.{Lightens, TakesRound, IsRoundless, IsNormalAt, IsNormalOn, IsRoundOf, IsRoundIn, went, IsWent, closing_of, left_from, load_in, IsOpened};
+ghost use Rattle.control_machine.specs.Turns.{Lightens, TakesRound, IsRoundless, IsNormalAt, IsNormalOn, IsRoundOf, IsRoundIn, went, IsWent, closing_of, left_from, left_answered, load_in, IsOpened};
 ghost use Rattle.control_machine.specs.Load.{children_left, TakesChild, load_of};
+ghost use Rattle.control_machine.specs.Cut.{IsCut};
 
 use crate::cursor::Cursor;
 use crate::enter::{Entered, enter};
@@ -26,9 +27,10 @@ use crate::machine::{Machine, Went};
 use crate::moves::Move;
 use crate::stack::Frame;
 use cursor_steps::is_run_at;
-use element_tree::{Loops, Plan, Turn};
+use element_tree::{Plan, Turn};
 use jm_base::{End, Outside};
 use jm_meaning::Signal;
+use logic_controllers::round_begins;
 use std::alloc::Global;
 use var_functions::{UserState, VarError};
 
@@ -73,7 +75,7 @@ impl Machine {
         self.next_round()
     }
 
-    // Behind the last child of a round of the group: the next round begins, or the rounds are over.
+    // After the last child of a round of the group: the next round begins, or the rounds are over.
     fn next_round(&mut self) -> Move
         requires { self.old.group.begun + self.old.rounds ≤ max_rounds }
         ensures same { (plan : Tree) (units : ℕ) (user : UserState) → GroupIsOpen plan.elements self.old.rounds self.old.group → self.old.stack.frames ≡ []
@@ -120,6 +122,8 @@ impl Machine {
         ensures rounds { IfOk result (λ w. IsRoundless w self.old.rounds self.new.rounds) }
         ensures index { IfOk result (λ w. IsRoundIn w self.new.group) }
         ensures thread { (self.new.group.element ≡ self.old.group.element) × (self.new.at_failure ≡ self.old.at_failure) }
+        ensures later { IsLater state.old.fns state.new.fns }
+        ensures cut { OnErr result (IsCut plan.now (O.account outside.old) (λ units. left_of plan.now self.old (state_at self.old units state.old)) (O.account outside.new) state.new) }
     {
         match self.stack.pop() {
             Some(frame) => self.frame_turn(frame, alloc, plan, state, outside),
@@ -151,6 +155,8 @@ impl Machine {
         ensures rounds { IfOk result (λ w. IsRoundless w self.old.rounds self.new.rounds) }
         ensures index { IfOk result (λ w. IsRoundIn w self.new.group) }
         ensures thread { (self.new.group.element ≡ self.old.group.element) × (self.new.at_failure ≡ self.old.at_failure) }
+        ensures later { IsLater state.old.fns state.new.fns }
+        ensures cut { OnErr result (IsCut plan.now (O.account outside.old) (λ units. left_from plan.now self.old frame (over (normal (state_at self.old units state.old)))) (O.account outside.new) state.new) }
     {
         let mut cursor = frame.cursor;
         match cursor.next(alloc, plan, frame.round, state, outside) {
@@ -183,10 +189,8 @@ impl Machine {
         requires room { 0 < self.old.stack.room }
         ensures came { (e : Element) (units : ℕ) → slice_get plan.now.elements frame.element ≡ Some e
             → CameTo (O.account outside.old)
-            (left_behind plan.now self.old (closed (here_in plan.now self.old) frame
-            (turned (meaning (here_in plan.now self.old) frame.depth) (round_in frame.round frame.cursor) (children_of plan.now.elements e)
-            (cursor_left (meaning (here_in plan.now self.old) frame.depth) frame.round (children_of plan.now.elements e) e frame.cursor) (state_at self.old units state.old) turn)))
-            (O.account outside.new) (went plan.now self.new (state_at self.new units state.new))
+            (left_answered plan.now self.old frame e turn (state_at self.old units state.old)) (O.account outside.new)
+            (went plan.now self.new (state_at self.new units state.new))
             (past (state_at self.new units state.new)) result }
         ensures given { IfOk result (IsWent plan.now.elements) }
         ensures stands { IfOk result (λ w. StandsIn plan.now self.new) }
@@ -196,6 +200,9 @@ impl Machine {
         ensures rounds { IfOk result (λ w. IsRoundless w self.old.rounds self.new.rounds) }
         ensures index { IfOk result (λ w. IsRoundIn w self.new.group) }
         ensures thread { (self.new.group.element ≡ self.old.group.element) × (self.new.at_failure ≡ self.old.at_failure) }
+        ensures later { IsLater state.old.fns state.new.fns }
+        ensures cut { (e : Element) → slice_get plan.now.elements frame.element ≡ Some e
+            → OnErr result (IsCut plan.now (O.account outside.old) (λ units. left_answered plan.now self.old frame e turn (state_at self.old units state.old)) (O.account outside.new) state.new) }
     {
         match turn {
             Turn::Over => Ok(close(&frame)),
@@ -241,6 +248,8 @@ impl Machine {
         ensures rounds { IfOk result (λ w. IsRoundless w self.old.rounds self.new.rounds) }
         ensures index { IfOk result (λ w. IsRoundIn w self.new.group) }
         ensures thread { (self.new.group.element ≡ self.old.group.element) × (self.new.at_failure ≡ self.old.at_failure) }
+        ensures later { IsLater state.old.fns state.new.fns }
+        ensures cut { OnErr result (IsCut plan.now (O.account outside.old) (λ units. left_of plan.now self.old (state_at self.old units state.old)) (O.account outside.new) state.new) }
     {
         match self.group.pass.next_child() {
             Some(place) => {
@@ -279,6 +288,9 @@ impl Machine {
         ensures load { IfOk result (λ w. IsOpened plan.now.elements depth self.old.stack.frames self.new.stack.frames) }
         ensures rounds { IfOk result (λ w. IsRoundless w self.old.rounds self.new.rounds) }
         ensures index { IfOk result (λ w. IsRoundIn w self.new.group) }
+        ensures later { IsLater state.old.fns state.new.fns }
+        ensures cut { OnErr result (IsCut plan.now (O.account outside.old)
+            (λ units. left_behind plan.now self.old (meaning (here_in plan.now self.old) depth child round (state_at self.old units state.old))) (O.account outside.new) state.new) }
     {
         match enter(alloc, plan, child, &mut self.places, state, outside) {
             Ok(Entered::Nothing) => Ok(Went::On),
@@ -357,14 +369,4 @@ fn run_at(plan: &Plan, numbers: &[u16], place: u16) -> Option<u16>
         }
     }
     None
-}
-
-// Whether the group has a round of this index.
-fn round_begins(loops: Loops, index: u32) -> bool
-    ensures { result ≡ round_begins loops index }
-{
-    match loops {
-        Loops::Forever => true,
-        Loops::Times(count) => index < count,
-    }
 }

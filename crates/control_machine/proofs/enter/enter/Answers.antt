@@ -4,6 +4,7 @@ use Rattle.element_tree.specs.declared.kinds.Kind.TheVariants as kinds
 use Rattle.logic_controllers.specs.ForEachController.{Row}
 use Rattle.jm_meaning.specs.State.{state_of, at_places, normal}
 use Rattle.jm_meaning.specs.Meaning.{kind_meaning}
+use Rattle.jm_meaning.proofs.CutLaws.{stands_same}
 use Rattle.control_machine.specs.Moves.{past}
 use Rattle.jm_meaning.specs.Children.{children_of}
 use Rattle.control_machine.specs.Entering.{here_with, entered, EnteredFits}
@@ -104,6 +105,7 @@ returns-in-Transaction g c =
           ∙ subst (λ x. kind_meaning (here_with c.args.plan.now failure) below c.args.child x (kinds.Transaction) round (state_of c.args.state.now (at_places own c.args.places.now)) ≡ entered (here_with c.args.plan.now failure) below c.args.child round x (state_of c.args.state.now (at_places own c.args.places.now)) c.enter_transaction.result) d
           (c.enter_transaction.ensures.came failure below round (state_of c.args.state.now (at_places own c.args.places.now))));
       fits = λ e there. subst (λ x. EnteredFits c.args.child (length (children_of c.args.plan.now.elements x)) x.kind c.enter_transaction.result) (same_element c.args.plan.now.elements c.args.child c.in-Some.element.now e (sym c.in-Some.ensures) there) c.enter_transaction.ensures.fits;
+      stands = stands_same c.args.state.now;
     }
 
 pub returns-in_default-kind : goal.returns-in_default-kind
@@ -116,4 +118,11 @@ returns-in_default-kind g c =
           (other_kind (here_with c.args.plan.now failure) below c.args.child e c.in-Some.element.now.kind round (state_of c.args.state.now (at_places own c.args.places.now))
           d.not-Script d.not-Simple d.not-OnceOnly d.not-Loop d.not-If d.not-While d.not-ForEach d.not-Interleave d.not-Random d.not-RandomOrder d.not-Switch d.not-Transaction));
       fits = λ e there. tt;
+      stands = stands_same c.args.state.now;
     }
+
+pub returns-in_default-clause-stands : goal.returns-in_default-clause-stands
+returns-in_default-clause-stands g c = stands_same c.args.state.now
+
+pub returns-in-Script-clause-stands : goal.returns-in-Script-clause-stands
+returns-in-Script-clause-stands g c = stands_same c.args.state.now

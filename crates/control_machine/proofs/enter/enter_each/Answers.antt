@@ -7,6 +7,7 @@ use Rattle.control_machine.specs.Cursors.{each_left_in}
 use Rattle.control_machine.proofs.EnterLaws.{each-enter-in}
 use Rattle.control_machine.proofs.FitLaws.{each_fits}
 use Rattle.control_machine.proofs.CameSteps.{came-begun}
+use Rattle.jm_meaning.proofs.CutLaws.{stands_as}
 use Rattle.control_machine.proofs.enter.enter_each.Goals as goal
 
 pub returns-in-Ok-clause-came : goal.returns-in-Ok-clause-came
@@ -18,3 +19,6 @@ pub returns-in-Ok-clause-fits : goal.returns-in-Ok-clause-fits
 returns-in-Ok-clause-fits g c = λ e there.
     let r = c.requires.there in
     each_fits c.args.plan.now.elements c.args.child r.0 e there c.enter.new.self r.1 r.2 r.3 (c.in-Ok.ensures.same ∙ ap (λ n. n.element) c.new-cursor.ensures) (c.in-Ok.ensures.rounds e (rw c.new-cursor.ensures there))
+
+pub returns-in-Ok-clause-stands : goal.returns-in-Ok-clause-stands
+returns-in-Ok-clause-stands g c = stands_as c.args.state.now c.enter.new.state c.in-Ok.ensures.state

@@ -1,5 +1,5 @@
 use Rattle.std.proofs.Common.{◌-◌, length, ap, ◌∙◌}
-use Rattle.std.proofs.lemmas.Result.{IfOk-weaker}
+use Rattle.std.proofs.lemmas.Result.{IfOk-weaker, on_err_weaker}
 use Rattle.element_tree.specs.declared.kinds.Kind.TheVariants as kinds
 use Rattle.logic_controllers.specs.ForEachController.{kind_of}
 use Rattle.jm_meaning.specs.State.{state_of}
@@ -10,6 +10,8 @@ use Rattle.control_machine.proofs.ChoiceLaws.{interleave-law, random-law, order-
 use Rattle.control_machine.proofs.PassLaws.{passes_fewer, of_answer}
 use Rattle.control_machine.proofs.ChoicePass.{none_begun, takes_chosen, order_takes, order_kept}
 use Rattle.control_machine.proofs.CameSteps.{came-step, there_at}
+use Rattle.jm_meaning.proofs.SamplingLaws.{on_err}
+use Rattle.control_machine.proofs.CutLaws.{later_of, later_as, cut_same, cut_still, cut_while, cut_each}
 use Rattle.control_machine.proofs.cursor.Cursor.next.Goals as goal
 
 pub returns-in-Simple-clause-came : goal.returns-in-Simple-clause-came
@@ -140,3 +142,72 @@ returns-in-Transaction-clause-fits g c = λ e n there fits.
 
 pub returns-in-Transaction-clause-pass : goal.returns-in-Transaction-clause-pass
 returns-in-Transaction-clause-pass g c = rw c.in-Transaction.is (of_answer c.next-in-Transaction.result _ _ (passes_fewer c.in-Transaction.open.children.pass c.next-in-Transaction.new.self.pass) c.next-in-Transaction.ensures.pass)
+
+pub returns-in-Simple-clause-later : goal.returns-in-Simple-clause-later
+returns-in-Simple-clause-later g c = later_as c.args.state.now c.next.new.state c.next.ensures.state
+
+pub returns-in-Simple-clause-cut : goal.returns-in-Simple-clause-cut
+returns-in-Simple-clause-cut g c = λ e n there fits. on_err c.next.result _ (cut_same e c.args.self.now c.args.state.now c.next.new.state c.next.ensures.state)
+
+pub returns-in-Once-clause-later : goal.returns-in-Once-clause-later
+returns-in-Once-clause-later g c = later_as c.args.state.now c.next-in-Once.new.state c.next-in-Once.ensures.state
+
+pub returns-in-Once-clause-cut : goal.returns-in-Once-clause-cut
+returns-in-Once-clause-cut g c = λ e n there fits. on_err c.next-in-Once.result _ (cut_same e c.args.self.now c.args.state.now c.next-in-Once.new.state c.next-in-Once.ensures.state)
+
+pub returns-in-Interleave-clause-later : goal.returns-in-Interleave-clause-later
+returns-in-Interleave-clause-later g c = later_as c.args.state.now c.next-in-Interleave.new.state c.next-in-Interleave.ensures.state
+
+pub returns-in-Interleave-clause-cut : goal.returns-in-Interleave-clause-cut
+returns-in-Interleave-clause-cut g c = λ e n there fits. on_err c.next-in-Interleave.result _ (cut_same e c.args.self.now c.args.state.now c.next-in-Interleave.new.state c.next-in-Interleave.ensures.state)
+
+pub returns-in-Random-clause-later : goal.returns-in-Random-clause-later
+returns-in-Random-clause-later g c = later_as c.args.state.now c.next-in-Random.new.state c.next-in-Random.ensures.state
+
+pub returns-in-Random-clause-cut : goal.returns-in-Random-clause-cut
+returns-in-Random-clause-cut g c = λ e n there fits. on_err c.next-in-Random.result _ (cut_same e c.args.self.now c.args.state.now c.next-in-Random.new.state c.next-in-Random.ensures.state)
+
+pub returns-in-Order-clause-later : goal.returns-in-Order-clause-later
+returns-in-Order-clause-later g c = later_as c.args.state.now c.next-in-Order.new.state c.next-in-Order.ensures.state
+
+pub returns-in-Order-clause-cut : goal.returns-in-Order-clause-cut
+returns-in-Order-clause-cut g c = λ e n there fits. on_err c.next-in-Order.result _ (cut_same e c.args.self.now c.args.state.now c.next-in-Order.new.state c.next-in-Order.ensures.state)
+
+pub returns-in-Switch-clause-later : goal.returns-in-Switch-clause-later
+returns-in-Switch-clause-later g c = later_as c.args.state.now c.next-in-Switch.new.state c.next-in-Switch.ensures.state
+
+pub returns-in-Switch-clause-cut : goal.returns-in-Switch-clause-cut
+returns-in-Switch-clause-cut g c = λ e n there fits. on_err c.next-in-Switch.result _ (cut_same e c.args.self.now c.args.state.now c.next-in-Switch.new.state c.next-in-Switch.ensures.state)
+
+pub returns-in-Transaction-clause-later : goal.returns-in-Transaction-clause-later
+returns-in-Transaction-clause-later g c = later_as c.args.state.now c.next-in-Transaction.new.state c.next-in-Transaction.ensures.state
+
+pub returns-in-Transaction-clause-cut : goal.returns-in-Transaction-clause-cut
+returns-in-Transaction-clause-cut g c = λ e n there fits. on_err c.next-in-Transaction.result _ (cut_same e c.args.self.now c.args.state.now c.next-in-Transaction.new.state c.next-in-Transaction.ensures.state)
+
+pub returns-in-Loop-clause-later : goal.returns-in-Loop-clause-later
+returns-in-Loop-clause-later g c = later_of c.args.state.now.fns c.next-in-Loop.new.state.fns c.next-in-Loop.ensures.fns
+
+pub returns-in-Loop-clause-cut : goal.returns-in-Loop-clause-cut
+returns-in-Loop-clause-cut g c = λ e n there fits.
+    on_err_weaker c.next-in-Loop.result (λ kept. cut_same e c.args.self.now c.args.state.now c.next-in-Loop.new.state kept.1) c.next-in-Loop.ensures.kept
+
+pub returns-in-If-clause-cut : goal.returns-in-If-clause-cut
+returns-in-If-clause-cut g c = λ e n there fits.
+    on_err c.next-in-If.result _ (cut_still e c.args.self.now c.args.state.now c.next-in-If.new.state c.next-in-If.ensures.vars c.next-in-If.ensures.later)
+
+pub returns-in-While-clause-cut : goal.returns-in-While-clause-cut
+returns-in-While-clause-cut g c = λ e n there fits.
+    let f = rw c.in-While.is at fits in
+    rw c.in-While.is (on_err_weaker c.next-in-While.result (cut_while e f.1.0 c.in-While.cursor c.next-in-While.new.self c.args.state.now c.next-in-While.new.state f.1.1 c.next-in-While.ensures.later)
+    (c.next-in-While.ensures.kept e (there_at c.args.plan.now.elements c.in-While.cursor.element n e (kinds.While f.1.0) f.0 there f.1.1).there))
+
+pub returns-in-Each-clause-later : goal.returns-in-Each-clause-later
+returns-in-Each-clause-later g c = later_of c.args.state.now.fns c.next-in-Each.new.state.fns c.next-in-Each.ensures.fns
+
+pub returns-in-Each-clause-cut : goal.returns-in-Each-clause-cut
+returns-in-Each-clause-cut g c = λ e n there fits.
+    let f = rw c.in-Each.is at fits in
+    rw c.in-Each.is (on_err_weaker c.next-in-Each.result
+    (cut_each e f.1.0 f.1.1 c.in-Each.cursor c.next-in-Each.new.self c.args.state.now c.next-in-Each.new.state f.1.2 (later_of c.args.state.now.fns c.next-in-Each.new.state.fns c.next-in-Each.ensures.fns))
+    (c.next-in-Each.ensures.kept e f.1.0 f.1.1 (there_at c.args.plan.now.elements c.in-Each.cursor.element n e (kind_of f.1.0 f.1.1) f.0 there f.1.2)))

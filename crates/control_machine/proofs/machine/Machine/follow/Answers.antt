@@ -1,14 +1,16 @@
 use Rattle.std.proofs.Common.{◌-◌, sym, refl, arith}
-use Rattle.std.proofs.lemmas.Result.{IfOk-weaker}
+use Rattle.std.proofs.lemmas.Result.{IfOk-weaker, on_err_weaker}
 use Rattle.control_machine.specs.Moves.{past}
 use Rattle.control_machine.specs.Left.{own_at, state_at}
-use Rattle.control_machine.specs.Turns.{went}
+use Rattle.control_machine.specs.Turns.{went, left_answered}
 use Rattle.control_machine.proofs.OpenLaws.{goes_as}
 use Rattle.control_machine.proofs.Closed.{closed_given, closed_lightens, closed_rounds, closed_index}
 use Rattle.control_machine.proofs.Answered.{came_as, is_over, no_round_left, round_taken, child_next, no_child}
 use Rattle.control_machine.proofs.Standing.{fewer_group, fewer_open, round_open, child_nests, few_left}
 use Rattle.control_machine.proofs.Lightening.{over_lighter, round_lighter, child_lighter, none_lighter}
 use Rattle.control_machine.proofs.Opening.{nests_at}
+use Rattle.control_machine.proofs.CutLaws.{cut_as}
+use Rattle.var_functions.proofs.LaterLaws.{later_same}
 use Rattle.control_machine.proofs.machine.Machine.follow.Goals as goal
 
 pub returns-in-Over-clause-came : goal.returns-in-Over-clause-came
@@ -82,3 +84,21 @@ returns-in-None-clause-came g c = λ e units there.
 pub returns-in-None-clause-lighter : goal.returns-in-None-clause-lighter
 returns-in-None-clause-lighter g c = λ old depth takes.
     none_lighter c.args.plan.now.elements c.args.self.now (record c.args.self.now { stack = c.put-in-Child.new.self }) old c.args.frame c.args.turn c.in-Child.place c.in-Child.is depth takes c.put-in-Child.ensures refl refl
+
+pub returns-in-Some-clause-cut : goal.returns-in-Some-clause-cut
+returns-in-Some-clause-cut g c = λ e there. on_err_weaker c.open.result (λ cut.
+    cut_as c.args.plan.now (λ units. left_answered c.args.plan.now c.args.self.now c.args.frame e c.args.turn (state_at c.args.self.now units c.args.state.now)) _ c.open.new.state
+    (λ units. child_next c.args.plan.now c.args.self.now c.args.frame e c.args.state.now (own_at c.args.self.now units) there c.args.turn c.in-Child.place c.in-Some.child c.round-round.result c.in-Child.is (sym (c.in-Some.ensures e there)) c.round-round.ensures
+    (record c.args.self.now { stack = c.put-in-Child.new.self }) (record { group = refl; failure = refl; signal = c.requires.normal }) c.put-in-Child.ensures) cut) c.open.ensures.cut
+
+pub returns-then-self-eq0-clause-later : goal.returns-then-self-eq0-clause-later
+returns-then-self-eq0-clause-later g c = later_same c.args.state.now.fns
+
+pub returns-in-Over-clause-later : goal.returns-in-Over-clause-later
+returns-in-Over-clause-later g c = later_same c.args.state.now.fns
+
+pub returns-else-self-eq0-clause-later : goal.returns-else-self-eq0-clause-later
+returns-else-self-eq0-clause-later g c = later_same c.args.state.now.fns
+
+pub returns-in-None-clause-later : goal.returns-in-None-clause-later
+returns-in-None-clause-later g c = later_same c.args.state.now.fns

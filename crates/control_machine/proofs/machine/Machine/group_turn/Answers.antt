@@ -1,7 +1,7 @@
 use Rattle.std.proofs.Common.{sym, ap, ◌∙◌, refl}
-use Rattle.std.proofs.lemmas.Result.{IfOk-weaker}
+use Rattle.std.proofs.lemmas.Result.{IfOk-weaker, on_err_weaker}
 use Rattle.control_machine.specs.Moves.{past}
-use Rattle.control_machine.specs.Left.{own_at, state_at}
+use Rattle.control_machine.specs.Left.{left_of, own_at, state_at}
 use Rattle.control_machine.specs.Turns.{went}
 use Rattle.control_machine.proofs.OpenLaws.{goes_as}
 use Rattle.control_machine.proofs.Answered.{came_as, group_child_next}
@@ -9,6 +9,8 @@ use Rattle.control_machine.proofs.Grouping.{some_left, taken_child, no_such_chil
 use Rattle.control_machine.proofs.Rounding.{all_of}
 use Rattle.control_machine.proofs.Standing.{child_nests}
 use Rattle.control_machine.proofs.Lightening.{group_lighter}
+use Rattle.control_machine.proofs.CutLaws.{cut_as}
+use Rattle.var_functions.proofs.LaterLaws.{later_same}
 use Rattle.control_machine.proofs.machine.Machine.group_turn.Goals as goal
 
 pub open-requires-clause-nests : goal.open-requires-clause-nests
@@ -57,3 +59,19 @@ returns-in-None-clause-came g c = λ units.
 
 pub returns-in-None-clause-given : goal.returns-in-None-clause-given
 returns-in-None-clause-given g c = c.next_round.ensures.given c.args.plan.now.elements
+
+pub returns-in-Some-child_at-clause-cut : goal.returns-in-Some-child_at-clause-cut
+returns-in-Some-child_at-clause-cut g c = on_err_weaker c.open.result (λ cut.
+    let o = c.requires.stands.group in
+    let n = c.in-Some.ensures in
+    cut_as c.args.plan.now (λ units. left_of c.args.plan.now c.args.self.now (state_at c.args.self.now units c.args.state.now)) _ c.open.new.state
+    (λ units. group_child_next c.args.plan.now c.args.self.now (record c.args.self.now { group = record c.args.self.now.group { pass = c.next_child.new.self } }) c.args.state.now (own_at c.args.self.now units) c.in-Some.place c.in-Some-child_at.child c.from-round.result c.requires.normal c.requires.empty
+    (some_left c.args.self.now.group.pass c.in-Some.place n.0 n.1) (all_of c.args.plan.now.elements c.args.self.now.group.element o.element c.args.self.now.group.pass.children o.there o.pass) n.0
+    (taken_child c.args.plan.now.elements c.args.self.now.group.element o.element c.in-Some.place c.in-Some-child_at.child o.there (sym (c.in-Some-child_at.ensures o.element o.there)))
+    (c.from-round.ensures ∙ c.saturating_sub.ensures) (ap (λ p. record c.args.self.now.group { pass = p }) n.2) refl c.requires.empty) cut) c.open.ensures.cut
+
+pub returns-in-None-child_at-clause-later : goal.returns-in-None-child_at-clause-later
+returns-in-None-child_at-clause-later g c = later_same c.args.state.now.fns
+
+pub returns-in-None-clause-later : goal.returns-in-None-clause-later
+returns-in-None-clause-later g c = later_same c.args.state.now.fns

@@ -3,6 +3,9 @@ use Rattle.jm_base.proofs.RunLaws.{goes-append}
 use Rattle.var_functions.proofs.CameLaws.{refused-first}
 use Rattle.control_machine.proofs.OpenLaws.{goes_as}
 use Rattle.control_machine.proofs.Ways.{later_rounds}
+use Rattle.var_functions.proofs.LaterLaws.{later_same, later_then}
+use Rattle.control_machine.specs.Left.{left_of, state_at}
+use Rattle.control_machine.proofs.CutLaws.{cut_behind}
 use Rattle.control_machine.proofs.machine.Machine.next.Goals as goal
 
 pub turns-init : goal.turns-init
@@ -11,6 +14,7 @@ turns-init g c = record {
   fewer = omega arith;
   thread = (refl, refl);
   goes = λ units. goes_as _ _ _ refl;
+  later = later_same c.args.state.now.fns;
 }
 
 pub turn-requires : goal.turn-requires
@@ -29,6 +33,7 @@ turns-preserved g c =
       fewer = omega (arith, i.fewer, r);
       thread = (t.thread.0 ∙ i.thread.0, t.thread.1 ∙ i.thread.1);
       goes = λ units. goes-append (i.goes units) (rw c.in-Ok-On.field-0-is at (t.came units));
+      later = later_then c.args.state.now.fns c.turns.state.fns c.turn.new.state.fns i.later t.later;
     }
 
 pub returns-in-Ok-To-clause-came : goal.returns-in-Ok-To-clause-came
@@ -49,3 +54,14 @@ returns-in-Err-clause-came g c = λ units. refused-first (c.turns.invariant.goes
 
 pub returns-in-Err-clause-thread : goal.returns-in-Err-clause-thread
 returns-in-Err-clause-thread g c = let i = c.turns.invariant.thread in let t = c.in-Err.ensures.thread in (t.0 ∙ i.0, t.1 ∙ i.1)
+
+pub returns-in-Ok-To-clause-later : goal.returns-in-Ok-To-clause-later
+returns-in-Ok-To-clause-later g c = later_then c.args.state.now.fns c.turns.state.fns c.turn.new.state.fns c.turns.invariant.later c.in-Ok-To.ensures.later
+
+pub returns-in-Err-clause-later : goal.returns-in-Err-clause-later
+returns-in-Err-clause-later g c = later_then c.args.state.now.fns c.turns.state.fns c.turn.new.state.fns c.turns.invariant.later c.in-Err.ensures.later
+
+pub returns-in-Err-clause-cut : goal.returns-in-Err-clause-cut
+returns-in-Err-clause-cut g c =
+    cut_behind c.args.plan.now (λ units. left_of c.args.plan.now c.args.self.now (state_at c.args.self.now units c.args.state.now)) (λ units. left_of c.args.plan.now c.turns.self (state_at c.turns.self units c.turns.state)) c.turn.new.state
+    c.turns.invariant.goes c.in-Err.ensures.cut

@@ -1,9 +1,13 @@
-use Rattle.std.proofs.Common.{◌∙◌, ◌-◌, arith}
+use Rattle.std.proofs.Common.{refl, ◌∙◌, ◌-◌, arith}
 use Rattle.jm_meaning.specs.Meaning.{meaning}
-use Rattle.control_machine.specs.Left.{here_in, own_at}
+use Rattle.control_machine.specs.Left.{here_in, left_behind, own_at, state_at}
 use Rattle.control_machine.proofs.Opening.{nests_at}
 use Rattle.control_machine.proofs.Turning.{open_nothing, open_sampler, open_frame, open_refused, own_is}
 use Rattle.control_machine.proofs.Standing.{pushed_stands, pushed_opens, pushed_rounds, pushed_begins}
+use Rattle.control_machine.specs.Moves.{past}
+use Rattle.control_machine.specs.Turns.{went}
+use Rattle.control_machine.specs.Cut.{before_element}
+use Rattle.control_machine.proofs.CutLaws.{cut_at, cut_here}
 use Rattle.control_machine.proofs.machine.Machine.open.Goals as goal
 
 pub push-requires : goal.push-requires
@@ -58,3 +62,15 @@ returns-in-Err-clause-came g c = λ units.
     let n = nests_at c.args.plan.now.elements c.args.depth c.args.child c.requires.nests in
     open_refused c.args.plan.now c.args.self.now c.args.child c.args.round c.args.depth n.element c.args.state.now c.enter.new.state (own_at c.args.self.now units) (own_at (record c.args.self.now { places = c.enter.new.places }) units) _ _ n.some n.there c.in-Err.error
     (c.in-Err.ensures.came n.element c.args.self.now.at_failure (meaning (here_in c.args.plan.now c.args.self.now) (c.args.depth - 1)) c.args.round (own_at c.args.self.now units) n.there)
+
+pub returns-in-Ok-Open-clause-cut : goal.returns-in-Ok-Open-clause-cut
+returns-in-Ok-Open-clause-cut g c =
+    cut_here (g.O.Outside.account c.args.outside.now) (g.O.Outside.account c.enter.new.outside) c.args.plan.now c.args.self.now (before_element c.args.depth c.args.child c.args.round) c.args.state.now c.enter.new.state
+    (λ units. went c.args.plan.now c.push.new.self (state_at c.push.new.self units c.enter.new.state)) (λ units. past (state_at c.push.new.self units c.enter.new.state)) c.push.result
+    (returns-in-Ok-Open-clause-came g c) c.in-Ok-Open.ensures.stands
+
+pub returns-in-Err-clause-cut : goal.returns-in-Err-clause-cut
+returns-in-Err-clause-cut g c =
+    cut_at c.args.plan.now (λ units. left_behind c.args.plan.now c.args.self.now (meaning (here_in c.args.plan.now c.args.self.now) c.args.depth c.args.child c.args.round (state_at c.args.self.now units c.args.state.now)))
+    c.args.self.now (before_element c.args.depth c.args.child c.args.round) c.args.state.now c.enter.new.state
+    (λ units. past (state_at (record c.args.self.now { places = c.enter.new.places }) units c.enter.new.state)) c.in-Err.error (λ units. refl) (returns-in-Err-clause-came g c) c.in-Err.ensures.stands

@@ -1,3 +1,4 @@
+use Rattle.var_functions.proofs.LaterLaws.{later_same}
 use Rattle.control_machine.proofs.OpenLaws.{goes_as}
 use Rattle.control_machine.proofs.Ways.{not_normal}
 use Rattle.control_machine.proofs.machine.Machine.turn.Goals as goal
@@ -15,4 +16,6 @@ returns-in-NextLoop g c =
       rounds = l.rounds;
       index = l.index;
       thread = l.thread;
+      later = later_same c.args.state.now.fns;
+      cut = tt;
     }

@@ -1,0 +1,46 @@
+-- What stands where a machine was refused on its way.
+use Rattle.std.specs.Prelude.{◌≡◌, ℕ, List, []}
+use Rattle.jm_base.specs.Run.{Run}
+use Rattle.jm_base.specs.Outside.{Account, Goes}
+use Rattle.element_tree.specs.declared.kinds.Element.{Element}
+use Rattle.element_tree.specs.Tree.{Tree}
+use Rattle.var_functions.specs.declared.state.UserState.{UserState}
+use Rattle.var_functions.specs.Came.{LeftOf}
+use Rattle.jm_meaning.specs.State.{State, Own, Ending, state_of}
+use Rattle.jm_meaning.specs.Children.{Below}
+use Rattle.jm_meaning.specs.Meaning.{meaning}
+use Rattle.jm_meaning.specs.Cut.{StandsLater}
+use Rattle.control_machine.specs.declared.cursor.Cursor.{Cursor}
+use Rattle.control_machine.specs.declared.machine.Machine.{Machine}
+use Rattle.control_machine.specs.Cursors.{cursor_left, tally_in}
+use Rattle.control_machine.specs.Left.{left_of, left_behind, here_in, state_at}
+
+-- where a thread stands in its run: between two turns, or before an element is entered at which elements nest that deep
+pub data Place : Type 0 where
+  between_turns : Place
+  before_element : (depth number round : ℕ) → Place
+
+abbrev pub left_at : Tree → Machine → Place → State → Run Ending
+left_at plan m between_turns s = left_of plan m s
+left_at plan m (before_element depth number round) s = left_behind plan m (meaning (here_in plan m) depth number round s)
+
+-- The steps that are done have come to a place of the thread's run. Since then the variables are as they were, functions
+-- stand at a later moment, and the outside has been asked for what is left at this place alone.
+pub record IsCut (plan : Tree) (before : Account) (run : ℕ → Run Ending) (after : Account) (new : UserState) : Type 0 where
+  pub machine : Machine
+  pub place : Place
+  pub between : UserState
+  pub moment : Account
+  pub goes : (units : ℕ) → Goes before (run units) [] (left_at plan machine place (state_at machine units between)) moment
+  pub stands : StandsLater between new
+  pub rest : (units : ℕ) → LeftOf moment (left_at plan machine place (state_at machine units between)) after
+
+-- An open element was refused on its way: it has opened the round that began last or not, and the variables are as that
+-- has left them.
+pub record IsCutIn (e : Element) (old : Cursor) (before new : UserState) : Type 0 where
+  pub cursor : Cursor
+  pub between : UserState
+  pub tally : tally_in cursor ≡ tally_in old
+  pub same : (below : Below) (round : ℕ) (children : List ℕ) (own : Own)
+      → cursor_left below round children e old (state_of before own) ≡ cursor_left below round children e cursor (state_of between own)
+  pub stands : StandsLater between new
