@@ -90,7 +90,7 @@ pub conditions-over : {a b : Account} {p0 p : Progress} (below : Below) (round :
     → OnWay a p0 (if_each below round cs attempt) (if_each below round (drop i cs) attempt) p b → length cs ≤ i → Plays a p0 (if_each below round cs attempt) Normal p b
 conditions-over {p = p} below round cs attempt i way past = way-over Normal way (ap (λ l. if_each below round l attempt (state_in p)) (drop_all i cs past))
 
--- what an If does behind the text of its condition, with this child in front of others
+-- what an If does after the text of its condition, with this child before others
 abbrev pub where_true : Below → ℕ → Try (List ℕ) → ℕ → List ℕ → List ℕ → Part
 where_true below round attempt c cs x s = if is_true x then and_then (below c round s) (if_each below round cs attempt) else over (normal s)
 

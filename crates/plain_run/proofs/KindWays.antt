@@ -1,31 +1,32 @@
 -- How a thread comes through an element by its kind.
-use Rattle.std.proofs.Common.{◌≡◌, ℕ, Bool, List, [], Some, None, refl, sym, ap, ◌∙◌, subst}
+use Rattle.std.proofs.Common.{◌≡◌, ◌⊎◌, inl, inr, ℕ, Bool, List, [], Some, None, refl, sym, ap, ◌∙◌, subst}
 use Rattle.jm_base.specs.declared.types.End.TheVariants.{ValueLimit as PastValueLimit}
 use Rattle.jm_base.specs.Run.{over}
 use Rattle.jm_base.specs.Outside.{Account, Goes}
 use Rattle.template_text.specs.Pieces.{Pieces}
 use Rattle.element_tree.specs.declared.kinds.Element.{Element}
-use Rattle.element_tree.specs.declared.kinds.Kind.TheVariants.{OnceOnly, Loop, While, ForEach}
+use Rattle.element_tree.specs.declared.kinds.Kind.{Kind}
+use Rattle.element_tree.specs.declared.kinds.Kind.TheVariants.{Loop, While, ForEach}
 use Rattle.element_tree.specs.declared.kinds.Loops.{Loops}
 use Rattle.logic_controllers.specs.LoopController.{loops_of}
 use Rattle.jm_meaning.specs.declared.signal.Signal.{Signal}
 use Rattle.jm_meaning.specs.declared.signal.Signal.TheVariants.{Stop}
-use Rattle.jm_meaning.specs.State.{State, Part, normal, tried, text}
+use Rattle.jm_meaning.specs.State.{Part, tried, text}
 use Rattle.jm_meaning.specs.Beginning.{max_rounds}
 use Rattle.jm_meaning.specs.Rounds.{rounds, loop_turns, while_turns, each_turns}
 use Rattle.jm_meaning.specs.Children.{Below, in_order}
 use Rattle.jm_meaning.specs.Meaning.{Here, kind_meaning, children_in}
 use Rattle.plain_run.specs.declared.progress.Progress.{Progress}
-use Rattle.plain_run.specs.Plays.{state_in, Plays}
+use Rattle.plain_run.specs.Plays.{state_in, Plays, IsLooping}
 use Rattle.plain_run.proofs.Ways.{OnWay, way-start, way-as, way-end, way-tried, way-past}
-use Rattle.plain_run.proofs.ElementLaws.{plays-as, not-zero, if-not}
+use Rattle.plain_run.proofs.ElementLaws.{plays-as}
 
--- a Once Only in a later round
-pub once-later : (here : Here) (below : Below) (number : ℕ) (e : Element) (round : ℕ) (s : State) → e.kind ≡ OnceOnly → (round ≡ 0 → ⊥)
-    → kind_meaning here below number e e.kind round s ≡ over (normal s)
-once-later here below number e round s kind later =
-    ap (λ k. kind_meaning here below number e k round s) kind
-    ∙ if-not _ (in_order below round (children_in here e) s) (over (normal s)) (not-zero round later)
+-- each of these kinds has rounds
+pub is-looping : (k : Kind) → (((l : Pieces) × (k ≡ Loop l)) ⊎ (((c : Pieces) × (k ≡ While c))
+    ⊎ ((end : ℕ) × (i : List ℕ) × (o : List ℕ) × (sep : Bool) × (start : ℕ) × (k ≡ ForEach end i o sep start)))) → IsLooping k
+is-looping k (inl h) = rw h.1 tt
+is-looping k (inr (inl h)) = rw h.1 tt
+is-looping k (inr (inr h)) = rw h.5 tt
 
 -- the rounds of a Loop by its text
 abbrev pub loop_rounds : Here → Below → Element → List ℕ → Part

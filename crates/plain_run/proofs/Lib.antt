@@ -1,4 +1,3 @@
-mod Numerals
 mod ShowsLaws
 mod TellsLaws
 mod Ways

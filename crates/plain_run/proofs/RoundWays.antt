@@ -21,12 +21,12 @@ pub record Rounding {X : Type 0} (a : Account) (p0 : Progress) (turns : Turns X)
 pub rounds-start : {X : Type 0} (a : Account) (p : Progress) (turns : Turns X) (body : ℕ → Part) → p.rounds ≤ max_rounds → Rounding a p turns body 0 p a
 rounds-start a p turns body few = record { way = way-start a p (rounds max_rounds turns body 0); count = omega arith }
 
--- a round that is taken in front of one part and another
+-- a round that is taken before one part and another
 pub split : (n : ℕ) (s : State) (f g : Part) → taking_round n s (λ s. and_then (f s) g) ≡ and_then (taking_round n s f) g
 split zero s f g = refl
 split (suc n) s f g = refl
 
--- behind the children of a round
+-- after the children of a round
 abbrev pub rest_of_rounds : {X : Type 0} → Turns X → (ℕ → Part) → ℕ → Part
 rest_of_rounds turns body i = rounds (max_rounds - (i + 1)) turns body (i + 1)
 

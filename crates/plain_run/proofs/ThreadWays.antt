@@ -80,7 +80,7 @@ pub thread-stops : {a b : Account} {p q : Progress} {signal : Signal} (plan : Tr
 thread-stops {a} {p = p} plan group plays other =
     way-stop (set_first plan.elements) (group_part (here_at plan group) (slice_get plan.elements group)) (way-start a p (thread_part plan group)) refl plays other
 
--- behind its pause, its first variables and the rounds of its group the thread ends
+-- after its pause, its first variables and the rounds of its group the thread ends
 pub thread-shows : (plan : Tree) (thread group ms : ℕ) (options : Options) (a b d : Account) (xs : List Item) (p q : Progress) (signal : Signal) (end : End)
     → xs ≡ [] → group ≡ group_of plan thread → ms ≡ pause_of plan thread → state_in p ≡ first_of plan thread options
     → ((run : Run (Unit {0})) → Shows a xs (behind_pause ms run) run p.items.items b)

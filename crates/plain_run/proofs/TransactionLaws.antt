@@ -8,7 +8,7 @@ use Rattle.jm_meaning.specs.declared.transaction.Tally.{Tally}
 use Rattle.jm_meaning.specs.Sampling.{capped}
 use Rattle.jm_meaning.specs.Transactions.{failure_count, tally_of, with_sample, counting, counted}
 
--- the tally of two parts, the second behind the first
+-- the tally of two parts, the second after the first
 abbrev pub joined : Tally → Tally → Tally
 joined first second = record {
   stamp = if first.samples == 0 && nat_lt 0 second.samples then second.stamp else first.stamp;
@@ -77,7 +77,7 @@ joined-none t fits =
       capped-none t.bytes fits.bytes,
     ) refl
 
--- what is counted from nothing on, behind what was counted before
+-- what is counted from nothing on, after what was counted before
 pub joined-counts : (t u : Tally) (events : List Event) → Fits t → u ≡ counted (tally_of []) events → joined t u ≡ counted t events
 joined-counts t u events fits is =
     ap (λ v. joined t v) is ∙ joined-all t (tally_of []) events ∙ ap (λ v. counted v events) (joined-none t fits)

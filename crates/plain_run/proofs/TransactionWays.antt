@@ -17,7 +17,7 @@ use Rattle.plain_run.specs.declared.progress.Progress.{Progress}
 use Rattle.plain_run.specs.Plays.{state_in, ended, Plays}
 use Rattle.plain_run.proofs.Ways.{OnWay, way-start, way-move, way-give, way-end, way-over}
 
--- what is left of a transaction behind its children, by what it has counted and the signal
+-- what is left of a transaction after its children, by what it has counted and the signal
 abbrev pub sum_behind : ℕ → Tally → Signal → Part
 sum_behind label tally signal s = summed label tally (record { state = s; signal = signal })
 

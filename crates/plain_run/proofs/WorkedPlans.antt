@@ -24,7 +24,7 @@ use Rattle.jm_meaning.specs.Rounds.{rounds}
 use Rattle.jm_meaning.specs.Sampling.{sampled, pipeline}
 use Rattle.jm_meaning.specs.Transactions.{heard}
 
--- a reply after so many milliseconds, whose body is the text of the request
+-- a reply after that many milliseconds, whose body is the text of the request
 reply : ℕ → List ℕ → ℕ → ScriptReply
 reply code message ms =
     record { code = code; message = message; headers = []; body = []; ms = ms; null = false; fault = false; echo = true }
@@ -55,7 +55,7 @@ a_replies = reply 200 (codes "OK") 5 ∷ []
 b_replies : List ScriptReply
 b_replies = reply 200 (codes "OK") 2 ∷ []
 
--- two rounds of a group over two rounds of a loop, in which A stands below a Once Only in front of B
+-- two rounds of a group over two rounds of a loop, in which A stands below a Once Only before B
 once : Tree
 once = record {
   version = 1;

@@ -2,6 +2,8 @@
 use Rattle.std.specs.Prelude.{◌≡◌, ◌≤◌, List}
 use Rattle.jm_base.specs.Run.{Run, over}
 use Rattle.jm_base.specs.Outside.{Account}
+use Rattle.element_tree.specs.declared.kinds.Kind.{Kind}
+use Rattle.element_tree.specs.declared.kinds.Kind.TheVariants.{Loop, While, ForEach}
 use Rattle.element_tree.specs.Tree.{Tree}
 use Rattle.jm_meaning.specs.declared.item.Item.{Item}
 use Rattle.jm_meaning.specs.declared.signal.Signal.{Signal}
@@ -37,8 +39,15 @@ pub record Plays (before : Account) (old : Progress) (part : Part) (signal : Sig
 abbrev pub here_of : Tree → Signal → Here
 here_of plan at_failure = record { plan = plan; at_failure = at_failure }
 
--- the signal behind a round of a thread group: there NextLoop ends the round alone
+-- the signal after a round of a thread group: there NextLoop ends the round alone
 abbrev pub caught_signal : Signal → Signal
 caught_signal Normal = Normal
 caught_signal NextLoop = Normal
 caught_signal (Stop end) = Stop end
+
+-- the kinds that have rounds
+abbrev pub IsLooping : Kind → Type 0
+IsLooping (Loop loops) = Unit {0}
+IsLooping (While condition) = Unit {0}
+IsLooping (ForEach end input output separator start) = Unit {0}
+IsLooping kind = ⊥

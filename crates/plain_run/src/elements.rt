@@ -1,29 +1,29 @@
 // The elements below a thread group, each by its kind.
 
-ghost use Rattle.std.specs.Prelude.{◌≡◌, ◌≤◌, IfOk, length, slice_get, Some};
+ghost use Rattle.std.specs.Prelude.{◌≡◌, ◌≤◌, ℕ, IfOk, length, slice_get, Some};
 ghost use Rattle.element_tree.specs.declared.kinds.Element.{Element};
 ghost use Rattle.choice_controllers.specs.SwitchController.{run_names};
 ghost use Rattle.jm_meaning.specs.State.{text};
 ghost use Rattle.jm_meaning.specs.Beginning.{max_rounds};
 ghost use Rattle.jm_meaning.specs.Rounds.{rounds, loop_turns, while_turns, each_turns};
-ghost use Rattle.jm_meaning.specs.Children.{in_order, if_once, if_each};
+ghost use Rattle.jm_meaning.specs.Children.{children_of, in_order, once_only, if_part, if_once, if_each};
 ghost use Rattle.jm_meaning.specs.Choices.{chosen, interleave, random, random_order, switch};
 ghost use Rattle.jm_meaning.specs.Transactions.{transaction};
 ghost use Rattle.jm_meaning.specs.Meaning.{meaning, kind_meaning};
-ghost use Rattle.plain_run.specs.Plays.{Plays, here_of};
+ghost use Rattle.plain_run.specs.Plays.{Plays, here_of, IsLooping};
 
-use crate::choices::{picks, random_place, shuffled};
+use crate::children::{children_of, shuffled};
 use crate::progress::Progress;
-use crate::rules::{
-    Span, children_of, goes_on, is_true, last_ok, loops_of, round_begins, value_at,
-};
 use crate::transaction::{give_sum, joined};
+use choice_controllers::{picks, random_place};
 use element_tree::{Element, Kind, Loops, Plan};
 use jm_base::{End, M, Outside, Text};
 use jm_meaning::{Signal, Tally};
+use logic_controllers::{Span, goes_on, is_true, last_ok, loops_of, round_begins, value_at};
 use template_text::Template;
 
-// Runs an element, at which and below which elements nest at most so deep, in a round of its nearest looping ancestor.
+// Runs an element, at which and below which elements nest at most that deep, in a round of its nearest looping
+// ancestor.
 #[cycle(elements)]
 fn run_element<O: Outside>(
     plan: &Plan,
@@ -56,7 +56,7 @@ fn run_element<O: Outside>(
     }
 }
 
-// Runs an element by its kind, over its children, at which elements nest at most so deep.
+// Runs an element by its kind, over its children, at which elements nest at most that deep.
 #[cycle(elements)]
 fn run_kind<O: Outside>(
     plan: &Plan,
@@ -76,27 +76,112 @@ fn run_kind<O: Outside>(
 {
     let children = children_of(progress.alloc, plan, element)?;
     let children = children.as_slice();
-    let name = element.name.bytes();
     match &element.kind {
         Kind::Simple => run_children(plan, at_failure, depth, children, round, progress, outside),
-        Kind::OnceOnly => {
-            if round == 0 {
-                run_children(plan, at_failure, depth, children, round, progress, outside)
-            } else {
-                Ok(Signal::Normal)
-            }
+        Kind::OnceOnly => run_once(plan, at_failure, depth, children, round, progress, outside),
+        Kind::If { all, condition } => run_if(
+            plan, at_failure, depth, *all, condition, children, round, progress, outside,
+        ),
+        Kind::Loop { .. } | Kind::While { .. } | Kind::ForEach { .. } => run_looping(
+            plan, at_failure, depth, element, children, progress, outside,
+        ),
+        Kind::Switch { value } => run_switch(
+            plan, at_failure, depth, element, value, children, round, progress, outside,
+        ),
+        Kind::Interleave => run_interleave(
+            plan, at_failure, depth, number, children, round, progress, outside,
+        ),
+        Kind::Random => run_random(plan, at_failure, depth, children, round, progress, outside),
+        Kind::RandomOrder => run_order(plan, at_failure, depth, children, round, progress, outside),
+        Kind::Transaction => run_transaction(
+            plan,
+            at_failure,
+            depth,
+            plan.label_of(number),
+            children,
+            round,
+            progress,
+            outside,
+        ),
+        Kind::Script { request, .. } => {
+            progress.sample(plan.label_of(number), number, request, at_failure, outside)
         }
-        Kind::If { all, condition } => {
-            if *all {
-                run_if_each(
-                    plan, at_failure, depth, condition, children, round, progress, outside,
-                )
-            } else {
-                run_if_once(
-                    plan, at_failure, depth, condition, children, round, progress, outside,
-                )
-            }
-        }
+        _ => Ok(Signal::Normal),
+    }
+}
+
+// Runs the children in the first round alone.
+#[cycle(elements)]
+fn run_once<O: Outside>(
+    plan: &Plan,
+    at_failure: Signal,
+    depth: u8,
+    children: &[u16],
+    round: u32,
+    progress: &mut Progress,
+    outside: &mut O,
+) -> M<Signal>
+    requires { progress.old.rounds ≤ max_rounds }
+    ensures { IfOk result (λ signal. Plays (O.account outside.old) progress.old
+        (once_only (meaning (here_of plan.now at_failure) depth) round children.now)
+        signal progress.new (O.account outside.new)) }
+{
+    if round == 0 {
+        run_children(plan, at_failure, depth, children, round, progress, outside)
+    } else {
+        Ok(Signal::Normal)
+    }
+}
+
+// An If, which evaluates its condition before each child or once.
+#[cycle(elements)]
+fn run_if<O: Outside>(
+    plan: &Plan,
+    at_failure: Signal,
+    depth: u8,
+    all: bool,
+    condition: &Template,
+    children: &[u16],
+    round: u32,
+    progress: &mut Progress,
+    outside: &mut O,
+) -> M<Signal>
+    requires { progress.old.rounds ≤ max_rounds }
+    ensures { IfOk result (λ signal. Plays (O.account outside.old) progress.old
+        (if_part all (meaning (here_of plan.now at_failure) depth) round children.now (text condition.now))
+        signal progress.new (O.account outside.new)) }
+{
+    if all {
+        run_if_each(
+            plan, at_failure, depth, condition, children, round, progress, outside,
+        )
+    } else {
+        run_if_once(
+            plan, at_failure, depth, condition, children, round, progress, outside,
+        )
+    }
+}
+
+// Runs the rounds of a Loop, a While or a ForEach over its children.
+#[cycle(elements)]
+fn run_looping<O: Outside>(
+    plan: &Plan,
+    at_failure: Signal,
+    depth: u8,
+    element: &Element,
+    children: &[u16],
+    progress: &mut Progress,
+    outside: &mut O,
+) -> M<Signal>
+    requires rounds { progress.old.rounds ≤ max_rounds }
+    requires looping { IsLooping element.now.kind }
+    requires children { children.now ≡ children_of plan.now.elements element.now }
+    ensures { (number round : ℕ) → IfOk result (λ signal. Plays (O.account outside.old) progress.old
+        (kind_meaning (here_of plan.now at_failure) (meaning (here_of plan.now at_failure) depth) number element.now element.now.kind round)
+        signal progress.new (O.account outside.new)) }
+{
+    let name = element.name.bytes();
+    match &element.kind {
         Kind::Loop { loops } => match progress.text(loops, outside)? {
             Some(text) => {
                 let loops = loops_of(text.bytes());
@@ -125,28 +210,7 @@ fn run_kind<O: Outside>(
                 plan, at_failure, depth, name, input, span, output, children, progress, outside,
             )
         }
-        Kind::Switch { value } => run_switch(
-            plan, at_failure, depth, element, value, children, round, progress, outside,
-        ),
-        Kind::Interleave => run_interleave(
-            plan, at_failure, depth, number, children, round, progress, outside,
-        ),
-        Kind::Random => run_random(plan, at_failure, depth, children, round, progress, outside),
-        Kind::RandomOrder => run_order(plan, at_failure, depth, children, round, progress, outside),
-        Kind::Transaction => run_transaction(
-            plan,
-            at_failure,
-            depth,
-            plan.label_of(number),
-            children,
-            round,
-            progress,
-            outside,
-        ),
-        Kind::Script { request, .. } => {
-            progress.sample(plan.label_of(number), number, request, at_failure, outside)
-        }
-        _ => Ok(Signal::Normal),
+        _ => unreachable!(),
     }
 }
 
@@ -491,7 +555,7 @@ fn run_each<O: Outside>(
     'rounds: while let Some(value) = value_at(
         progress.alloc,
         &progress.user.vars,
-        input.bytes(),
+        input,
         span,
         round,
     )? {

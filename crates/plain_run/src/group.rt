@@ -7,12 +7,13 @@ ghost use Rattle.jm_meaning.specs.Children.{in_order};
 ghost use Rattle.jm_meaning.specs.Meaning.{meaning, group_part, here_at, thread_part};
 ghost use Rattle.plain_run.specs.Plays.{Plays, here_of, caught_signal};
 
+use crate::children::children_of;
 use crate::elements::run_children;
 use crate::progress::Progress;
-use crate::rules::{children_of, round_begins};
 use element_tree::{Kind, Loops, Plan};
 use jm_base::{M, Outside};
 use jm_meaning::{Signal, signal_of};
+use logic_controllers::round_begins;
 
 /// Sets the first variables, and runs the rounds of the group at this element.
 pub fn run_thread<O: Outside>(
@@ -97,7 +98,7 @@ fn run_rounds<O: Outside>(
     Ok(Signal::Normal)
 }
 
-// The signal behind a round of a group: NextLoop ends the round alone.
+// The signal after a round of a group: NextLoop ends the round alone.
 fn caught(signal: Signal) -> Signal
     ensures { result ≡ caught_signal signal }
 {

@@ -2,11 +2,10 @@
 //! shows is the meaning of its plan.
 #![tactic(auto)]
 
-mod choices;
+mod children;
 mod elements;
 mod group;
 mod progress;
-mod rules;
 mod transaction;
 
 ghost use Rattle.std.specs.Prelude.{length, ◌<◌, ◌≡◌, [], ℕ, IfOk, OnOk};
@@ -71,7 +70,7 @@ fn first_user(alloc: Global, plan: &Plan, thread: u16, seed: u64, props: &Props)
     })
 }
 
-// A pause of so many milliseconds, if it is any.
+// A pause of that many milliseconds, where there is one.
 fn pause<O: Outside>(ms: u32, outside: &mut O, items: &mut Vec<Item>) -> M<()>
     ensures { OnOk result ((run : Run Unit) → Shows (O.account outside.old) items.old.items
         (behind_pause ms run) run items.new.items (O.account outside.new)) }

@@ -12,10 +12,10 @@ ghost use Rattle.jm_meaning.specs.Beginning.{set_first};
 ghost use Rattle.jm_meaning.specs.Sampling.{sampling, after_sample};
 ghost use Rattle.plain_run.specs.Plays.{state_in, Plays};
 
-use crate::rules::{decimal_text, index_name};
 use element_tree::Plan;
 use jm_base::{End, M, NoMemory, Outside, Text};
 use jm_meaning::{Item, Places, Signal, Tally, put_copy, run_sampler, set_first};
+use logic_controllers::{decimal_text, index_name};
 use std::alloc::Global;
 use template_text::Template;
 use var_functions::{UserState, VarError, expand};
@@ -48,7 +48,7 @@ fn refused(error: VarError) -> M<Signal>
     }
 }
 
-// The signal behind a sample.
+// The signal after a sample.
 fn after_sample(ok: bool, at_failure: Signal) -> Signal
     ensures { result ≡ after_sample ok at_failure }
 {
@@ -117,7 +117,7 @@ impl Progress {
         }
     }
 
-    /// Begins a round of a ForEach: behind the index variable the value goes to the output.
+    /// Begins a round of a ForEach: after the index variable the value goes to the output.
     pub fn open_each_round(
         &mut self,
         name: &[u8],
@@ -138,7 +138,8 @@ impl Progress {
         }
     }
 
-    /// The Interleave Controller of this number moves on to the next of so many children, from the place that is answered.
+    /// The Interleave Controller of this number moves on to the next of that many children, from the place that is
+    /// answered.
     pub fn move_on(&mut self, number: u16, children: u16) -> u16
         requires { 1 ≤ children }
         ensures place { result ≡ place_of self.old.places number % children }

@@ -10,7 +10,7 @@ use crate::progress::Progress;
 use jm_base::{End, M};
 use jm_meaning::{Item, Signal, Tally};
 
-/// What is counted over two parts of a run, the second behind the first.
+/// What is counted over two parts of a run, the second after the first.
 pub fn joined(first: Tally, second: Tally) -> Tally
     ensures { (events : List Event) → second ≡ counted (tally_of []) events → result ≡ counted first events }
 {
@@ -34,7 +34,7 @@ fn first_stamp(first: Tally, second: Tally) -> u64
     }
 }
 
-// Whether a transaction that has counted so much gives its sample behind this signal.
+// Whether a transaction that has counted this gives its sample after this signal.
 fn gives_sample(signal: Signal, tally: Tally) -> bool
     ensures { result ≡ (Rattle.jm_meaning.specs.Transactions.gives_sample signal && nat_lt 0 tally.samples) }
 {
@@ -45,7 +45,7 @@ fn gives_sample(signal: Signal, tally: Tally) -> bool
     }
 }
 
-/// Gives the sample of a transaction of this label that has counted so much and has ended so, where it gives one and a
+/// Gives the sample of a transaction of this label that has counted this and has ended so, where it gives one and a
 /// unit is left. It is no sampler's, and is not counted.
 pub fn give_sum(progress: &mut Progress, label: u16, tally: Tally, signal: Signal) -> M<Signal>
     ensures { IfOk result (λ ended. (a : Account) → Plays a progress.old

@@ -6,7 +6,8 @@ use Rattle.logic_controllers.specs.IfController.{is_true}
 use Rattle.logic_controllers.specs.LoopController.{loops_of}
 use Rattle.logic_controllers.specs.ForEachController.{Row}
 use Rattle.choice_controllers.specs.SwitchController.{run_names, picks}
-use Rattle.jm_meaning.specs.State.{Part, text}
+use Rattle.jm_base.specs.Run.{over}
+use Rattle.jm_meaning.specs.State.{Part, normal, text}
 use Rattle.jm_meaning.specs.Rounds.{Turns, loop_turns, while_turns, each_turns}
 use Rattle.jm_meaning.specs.Children.{Below, in_order}
 use Rattle.jm_meaning.specs.Meaning.{Here, meaning, kind_meaning}
@@ -14,8 +15,8 @@ use Rattle.plain_run.specs.Plays.{state_in, here_of}
 use Rattle.plain_run.proofs.Ways.{way-start, way-then, way-stop}
 use Rattle.plain_run.proofs.RoundWays.{rounds-start, no-round, round-past, not-opened, last-round, round-done}
 use Rattle.plain_run.proofs.TurnLaws.{loop-begins, loop-over, each-begins, while-past, while-begins, while-over, goes-so}
-use Rattle.plain_run.proofs.ElementLaws.{plays-as, plays-nothing, is-none, meaning-at, meaning-none, meaning-flat, kind-other, next-child, children-over, conditions-over, condition-past, condition-false, child-done, child-last, once-past, once-false, once-true}
-use Rattle.plain_run.proofs.KindWays.{once-later, loop-past, loop-runs, while-runs, each-runs}
+use Rattle.plain_run.proofs.ElementLaws.{plays-as, plays-nothing, if-not, not-zero, is-none, meaning-at, meaning-none, meaning-flat, kind-other, next-child, children-over, conditions-over, condition-past, condition-false, child-done, child-last, once-past, once-false, once-true}
+use Rattle.plain_run.proofs.KindWays.{loop-past, is-looping, loop-runs, while-runs, each-runs}
 use Rattle.plain_run.proofs.ChoiceWays.{few-children, chosen-none, chosen-past, interleave-none, interleave-plays, random-plays, order-plays, switch-past, switch-runs}
 use Rattle.plain_run.proofs.TransactionWays.{transaction-plays}
 use Rattle.plain_run.proofs.elements.+elements.Goals as goal
@@ -206,7 +207,7 @@ run_each-returns g t c =
     let row : Row = record { input = c.args.input.now; separator = c.args.span.separator; start = c.args.span.start; end = c.args.span.end } in
     let turns : Turns (List ℕ) = each_turns c.args.name.now row c.args.output.now in
     no-round (g.O.Outside.account c.args.outside.now) (g.O.Outside.account c.rounds.outside) (g.O.Outside.account c.rounds.outside) c.args.progress.now c.rounds.progress c.rounds.progress turns body c.rounds.round c.rounds.invariant refl
-    (each-begins (g.O.Outside.account c.rounds.outside) row c.rounds.round c.rounds.progress.user None (sym (is-none c.in_ok-value.field-0 c.in_default.not-Some) ∙ rw c.bytes.ensures at c.in_ok-value.ensures))
+    (each-begins (g.O.Outside.account c.rounds.outside) row c.rounds.round c.rounds.progress.user None (sym (is-none c.in_ok-value.field-0 c.in_default.not-Some) ∙ c.in_ok-value.ensures.value))
 
 pub run_each-returns-in_default-2 : goal.run_each-returns-in_default-2
 run_each-returns-in_default-2 g t c =
@@ -215,7 +216,7 @@ run_each-returns-in_default-2 g t c =
     let row : Row = record { input = c.args.input.now; separator = c.args.span.separator; start = c.args.span.start; end = c.args.span.end } in
     let turns : Turns (List ℕ) = each_turns c.args.name.now row c.args.output.now in
     not-opened (g.O.Outside.account c.args.outside.now) (g.O.Outside.account c.rounds.outside) (g.O.Outside.account c.rounds.outside) c.args.progress.now c.rounds.progress c.rounds.progress turns body c.rounds.round c.rounds.invariant refl
-    c.in-Some.value (each-begins (g.O.Outside.account c.rounds.outside) row c.rounds.round c.rounds.progress.user (Some c.in-Some.value) (sym c.in-Some.is ∙ rw c.bytes.ensures at c.in_ok-value.ensures)) (g.O.Outside.account c.rounds.outside) c.open_each_round.new.self c.in_ok-other.other (rw (c.bytes-in-Some.ensures, c.bytes-in-Some-2.ensures) at c.in_ok-other.ensures.plays _) c.in_default-2.not-Normal
+    c.in-Some.value (each-begins (g.O.Outside.account c.rounds.outside) row c.rounds.round c.rounds.progress.user (Some c.in-Some.value) (sym c.in-Some.is ∙ c.in_ok-value.ensures.value)) (g.O.Outside.account c.rounds.outside) c.open_each_round.new.self c.in_ok-other.other (rw (c.bytes.ensures, c.bytes-in-Some.ensures) at c.in_ok-other.ensures.plays _) c.in_default-2.not-Normal
 
 pub run_each-returns-in_default-3 : goal.run_each-returns-in_default-3
 run_each-returns-in_default-3 g t c =
@@ -224,8 +225,8 @@ run_each-returns-in_default-3 g t c =
     let row : Row = record { input = c.args.input.now; separator = c.args.span.separator; start = c.args.span.start; end = c.args.span.end } in
     let turns : Turns (List ℕ) = each_turns c.args.name.now row c.args.output.now in
     last-round (g.O.Outside.account c.args.outside.now) (g.O.Outside.account c.rounds.outside) (g.O.Outside.account c.rounds.outside) c.args.progress.now c.rounds.progress c.rounds.progress turns body c.rounds.round c.rounds.invariant refl
-    c.in-Some.value (each-begins (g.O.Outside.account c.rounds.outside) row c.rounds.round c.rounds.progress.user (Some c.in-Some.value) (sym c.in-Some.is ∙ rw c.bytes.ensures at c.in_ok-value.ensures)) (g.O.Outside.account c.rounds.outside) (g.O.Outside.account c.run_children.new.outside) c.open_each_round.new.self c.run_children.new.progress c.in_ok-other.other c.in_ok-other-2.other
-    (rw (c.bytes-in-Some.ensures, c.bytes-in-Some-2.ensures) at c.in_ok-other.ensures.plays _) c.in-Normal.is c.in_ok-other-2.ensures c.in_default-3.not-Normal
+    c.in-Some.value (each-begins (g.O.Outside.account c.rounds.outside) row c.rounds.round c.rounds.progress.user (Some c.in-Some.value) (sym c.in-Some.is ∙ c.in_ok-value.ensures.value)) (g.O.Outside.account c.rounds.outside) (g.O.Outside.account c.run_children.new.outside) c.open_each_round.new.self c.run_children.new.progress c.in_ok-other.other c.in_ok-other-2.other
+    (rw (c.bytes.ensures, c.bytes-in-Some.ensures) at c.in_ok-other.ensures.plays _) c.in-Normal.is c.in_ok-other-2.ensures c.in_default-3.not-Normal
 
 pub run_each-rounds-preserved : goal.run_each-rounds-preserved
 run_each-rounds-preserved g t c =
@@ -234,8 +235,8 @@ run_each-rounds-preserved g t c =
     let row : Row = record { input = c.args.input.now; separator = c.args.span.separator; start = c.args.span.start; end = c.args.span.end } in
     let turns : Turns (List ℕ) = each_turns c.args.name.now row c.args.output.now in
     round-done (g.O.Outside.account c.args.outside.now) (g.O.Outside.account c.rounds.outside) (g.O.Outside.account c.rounds.outside) c.args.progress.now c.rounds.progress c.rounds.progress turns body c.rounds.round c.rounds.invariant refl
-    c.in-Some.value (each-begins (g.O.Outside.account c.rounds.outside) row c.rounds.round c.rounds.progress.user (Some c.in-Some.value) (sym c.in-Some.is ∙ rw c.bytes.ensures at c.in_ok-value.ensures)) (g.O.Outside.account c.rounds.outside) (g.O.Outside.account c.run_children.new.outside) c.open_each_round.new.self c.run_children.new.progress c.in_ok-other.other c.in_ok-other-2.other
-    (rw (c.bytes-in-Some.ensures, c.bytes-in-Some-2.ensures) at c.in_ok-other.ensures.plays _) c.in-Normal.is c.in_ok-other-2.ensures (c.in_ok-other.ensures.taken c.in-Normal.is) c.in-Normal-2.is
+    c.in-Some.value (each-begins (g.O.Outside.account c.rounds.outside) row c.rounds.round c.rounds.progress.user (Some c.in-Some.value) (sym c.in-Some.is ∙ c.in_ok-value.ensures.value)) (g.O.Outside.account c.rounds.outside) (g.O.Outside.account c.run_children.new.outside) c.open_each_round.new.self c.run_children.new.progress c.in_ok-other.other c.in_ok-other-2.other
+    (rw (c.bytes.ensures, c.bytes-in-Some.ensures) at c.in_ok-other.ensures.plays _) c.in-Normal.is c.in_ok-other-2.ensures (c.in_ok-other.ensures.taken c.in-Normal.is) c.in-Normal-2.is
 
 pub run_kind-label_of-requires : goal.run_kind-label_of-requires
 run_kind-label_of-requires g t c = slice_get_within c.args.plan.now.elements c.args.number c.args.element.now c.requires.there
@@ -243,29 +244,29 @@ run_kind-label_of-requires g t c = slice_get_within c.args.plan.now.elements c.a
 pub run_kind-label_of-requires-in-Script : goal.run_kind-label_of-requires-in-Script
 run_kind-label_of-requires-in-Script g t c = slice_get_within c.args.plan.now.elements c.args.number c.args.element.now c.requires.there
 
-pub run_kind-returns-in-OnceOnly : goal.run_kind-returns-in-OnceOnly
-run_kind-returns-in-OnceOnly g t c = plays-nothing _ _ _ (once-later (here_of c.args.plan.now c.args.at_failure) (meaning (here_of c.args.plan.now c.args.at_failure) c.args.depth) c.args.number c.args.element.now c.args.round (state_in c.args.progress.now) c.in-OnceOnly.is c.if-round-eq0.false)
+pub run_once-returns-else-round-eq0 : goal.run_once-returns-else-round-eq0
+run_once-returns-else-round-eq0 g t c = plays-nothing _ _ _ (if-not _ (in_order (meaning (here_of c.args.plan.now c.args.at_failure) c.args.depth) c.args.round c.args.children.now (state_in c.args.progress.now)) (over (normal (state_in c.args.progress.now))) (not-zero c.args.round c.if-round-eq0.false))
 
 pub run_kind-returns : goal.run_kind-returns
 run_kind-returns g t c = plays-nothing _ _ _ (kind-other (here_of c.args.plan.now c.args.at_failure) (meaning (here_of c.args.plan.now c.args.at_failure) c.args.depth) c.args.number c.args.element.now c.args.round (state_in c.args.progress.now) c.args.element.now.kind
     c.in_default.not-Simple c.in_default.not-OnceOnly c.in_default.not-If c.in_default.not-Loop c.in_default.not-While c.in_default.not-ForEach c.in_default.not-Script c.in_default.not-Switch c.in_default.not-Interleave c.in_default.not-Random c.in_default.not-RandomOrder c.in_default.not-Transaction)
 
-pub run_kind-returns-in-Loop : goal.run_kind-returns-in-Loop
-run_kind-returns-in-Loop g t c = loop-past (here_of c.args.plan.now c.args.at_failure) (meaning (here_of c.args.plan.now c.args.at_failure) c.args.depth) c.args.number c.args.element.now c.args.round (g.O.Outside.account c.args.outside.now) (g.O.Outside.account c.text.new.outside) c.args.progress.now c.text.new.self c.in-Loop.loops c.in-Loop.is c.in_ok-text-in-Loop.ensures.same (rw c.in-None.is at c.in_ok-text-in-Loop.ensures.came)
+pub run_looping-returns-in-None : goal.run_looping-returns-in-None
+run_looping-returns-in-None g t c = λ number round. loop-past (here_of c.args.plan.now c.args.at_failure) (meaning (here_of c.args.plan.now c.args.at_failure) c.args.depth) number c.args.element.now round (g.O.Outside.account c.args.outside.now) (g.O.Outside.account c.text.new.outside) c.args.progress.now c.text.new.self c.in-Loop.loops c.in-Loop.is c.in_ok-text-in-Loop.ensures.same (rw c.in-None.is at c.in_ok-text-in-Loop.ensures.came)
 
-pub run_kind-returns-in-Some : goal.run_kind-returns-in-Some
-run_kind-returns-in-Some g t c = IfOk-weaker c.run_loop.result _ _ (λ signal h.
-    loop-runs (here_of c.args.plan.now c.args.at_failure) (meaning (here_of c.args.plan.now c.args.at_failure) c.args.depth) c.args.number c.args.element.now c.args.round (g.O.Outside.account c.args.outside.now) (g.O.Outside.account c.text.new.outside) c.args.progress.now c.text.new.self c.in-Loop.loops c.in-Loop.is c.in_ok-text-in-Loop.ensures.same
-    (g.O.Outside.account c.run_loop.new.outside) c.run_loop.new.progress signal c.in-Some.text c.bytes-name.result.now c.loops_of-loops.result c.as_slice-children.result.now
-    (rw c.in-Some.is at c.in_ok-text-in-Loop.ensures.came) c.bytes-name.ensures (c.loops_of-loops.ensures ∙ ap loops_of c.bytes.ensures) (c.as_slice-children.ensures.value ∙ c.in_ok-children.ensures) h) c.run_loop.ensures
+pub run_looping-returns-in-Some : goal.run_looping-returns-in-Some
+run_looping-returns-in-Some g t c = λ number round. IfOk-weaker c.run_loop.result _ _ (λ signal h.
+    loop-runs (here_of c.args.plan.now c.args.at_failure) (meaning (here_of c.args.plan.now c.args.at_failure) c.args.depth) number c.args.element.now round (g.O.Outside.account c.args.outside.now) (g.O.Outside.account c.text.new.outside) c.args.progress.now c.text.new.self c.in-Loop.loops c.in-Loop.is c.in_ok-text-in-Loop.ensures.same
+    (g.O.Outside.account c.run_loop.new.outside) c.run_loop.new.progress signal c.in-Some.text c.bytes-name.result.now c.loops_of-loops.result c.args.children.now
+    (rw c.in-Some.is at c.in_ok-text-in-Loop.ensures.came) c.bytes-name.ensures (c.loops_of-loops.ensures ∙ ap loops_of c.bytes.ensures) c.requires.children h) c.run_loop.ensures
 
-pub run_kind-returns-in-While : goal.run_kind-returns-in-While
-run_kind-returns-in-While g t c = IfOk-weaker c.run_while.result _ _ (λ signal h.
-    while-runs (here_of c.args.plan.now c.args.at_failure) (meaning (here_of c.args.plan.now c.args.at_failure) c.args.depth) c.args.number c.args.element.now c.args.round (g.O.Outside.account c.args.outside.now) (g.O.Outside.account c.run_while.new.outside) c.args.progress.now c.run_while.new.progress signal c.bytes-name.result.now c.as_slice-children.result.now c.bytes-name.ensures (c.as_slice-children.ensures.value ∙ c.in_ok-children.ensures) c.in-While.condition c.in-While.is h) c.run_while.ensures
+pub run_looping-returns-in-While : goal.run_looping-returns-in-While
+run_looping-returns-in-While g t c = λ number round. IfOk-weaker c.run_while.result _ _ (λ signal h.
+    while-runs (here_of c.args.plan.now c.args.at_failure) (meaning (here_of c.args.plan.now c.args.at_failure) c.args.depth) number c.args.element.now round (g.O.Outside.account c.args.outside.now) (g.O.Outside.account c.run_while.new.outside) c.args.progress.now c.run_while.new.progress signal c.bytes-name.result.now c.args.children.now c.bytes-name.ensures c.requires.children c.in-While.condition c.in-While.is h) c.run_while.ensures
 
-pub run_kind-returns-in-ForEach : goal.run_kind-returns-in-ForEach
-run_kind-returns-in-ForEach g t c = IfOk-weaker c.run_each.result _ _ (λ signal h.
-    each-runs (here_of c.args.plan.now c.args.at_failure) (meaning (here_of c.args.plan.now c.args.at_failure) c.args.depth) c.args.number c.args.element.now c.args.round (g.O.Outside.account c.args.outside.now) (g.O.Outside.account c.run_each.new.outside) c.args.progress.now c.run_each.new.progress signal c.bytes-name.result.now c.as_slice-children.result.now c.bytes-name.ensures (c.as_slice-children.ensures.value ∙ c.in_ok-children.ensures) c.in-ForEach.end c.in-ForEach.input c.in-ForEach.output c.in-ForEach.separator c.in-ForEach.start c.in-ForEach.is h) c.run_each.ensures
+pub run_looping-returns-in-ForEach : goal.run_looping-returns-in-ForEach
+run_looping-returns-in-ForEach g t c = λ number round. IfOk-weaker c.run_each.result _ _ (λ signal h.
+    each-runs (here_of c.args.plan.now c.args.at_failure) (meaning (here_of c.args.plan.now c.args.at_failure) c.args.depth) number c.args.element.now round (g.O.Outside.account c.args.outside.now) (g.O.Outside.account c.run_each.new.outside) c.args.progress.now c.run_each.new.progress signal c.bytes-name.result.now c.args.children.now c.bytes-name.ensures c.requires.children c.in-ForEach.end c.in-ForEach.input c.in-ForEach.output c.in-ForEach.separator c.in-ForEach.start c.in-ForEach.is h) c.run_each.ensures
 
 pub run_chosen-returns-in_default : goal.run_chosen-returns-in_default
 run_chosen-returns-in_default g t c = plays-nothing _ _ _ (chosen-none (meaning (here_of c.args.plan.now c.args.at_failure) c.args.depth) c.args.round c.args.children.now c.args.pick (state_in c.args.progress.now) (is-none c.args.pick c.in_default.not-Some))
@@ -294,7 +295,7 @@ run_switch-returns-in_default g t c = switch-past (meaning (here_of c.args.plan.
 pub run_switch-returns : goal.run_switch-returns
 run_switch-returns g t c = IfOk-weaker c.run_chosen.result _ _ (λ signal h.
     switch-runs (meaning (here_of c.args.plan.now c.args.at_failure) c.args.depth) c.args.round (run_names c.args.plan.now.elements c.args.element.now) c.args.children.now (text c.args.value.now) c.in_ok-text.ensures.same
-    c.in-Some.text c.picks-chosen.result _ _ signal (rw c.in-Some.is at c.in_ok-text.ensures.came) (c.picks-chosen.ensures ∙ ap (λ x. picks x (run_names c.args.plan.now.elements c.args.element.now)) c.bytes.ensures) h) c.run_chosen.ensures
+    c.in-Some.text c.picks-chosen.result _ _ signal (rw c.in-Some.is at c.in_ok-text.ensures.came) (c.picks-chosen.ensures.place ∙ ap (λ x. picks x (run_names c.args.plan.now.elements c.args.element.now)) c.bytes.ensures) h) c.run_chosen.ensures
 
 pub run_transaction-returns : goal.run_transaction-returns
 run_transaction-returns g t c = IfOk-weaker c.give_sum.result _ _ (λ last h.
@@ -306,3 +307,10 @@ run_kind-run_interleave-requires g t c = λ κs outlive. (omega arith, (outlive,
 
 pub run_kind-run_random-requires : goal.run_kind-run_random-requires
 run_kind-run_random-requires g t c = λ κs outlive. (omega arith, (outlive, (c.requires.rounds, few-children c.args.plan.now.elements c.args.element.now c.as_slice-children.result.now (c.as_slice-children.ensures.value ∙ c.in_ok-children.ensures))))
+
+pub run_kind-run_looping-requires : goal.run_kind-run_looping-requires
+run_kind-run_looping-requires g t c = λ κs outlive.
+    (omega arith, (outlive, (c.requires.rounds, (is-looping c.args.element.now.kind c.in-Loop.is, c.as_slice-children.ensures.value ∙ c.in_ok-children.ensures))))
+
+pub run_kind-returns-in-Loop : goal.run_kind-returns-in-Loop
+run_kind-returns-in-Loop g t c = c.run_looping.ensures c.args.number c.args.round

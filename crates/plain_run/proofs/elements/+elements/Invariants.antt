@@ -9,46 +9,55 @@ use Rattle.plain_run.proofs.RoundWays.{Rounding}
 use Rattle.plain_run.proofs.elements.+elements.Given as goal
 
 abbrev pub decreases-run_element : goal.decreases-run_element
-decreases-run_element g l = 4 * l.depth
+decreases-run_element g l = 5 * l.depth
 
 abbrev pub decreases-run_children : goal.decreases-run_children
-decreases-run_children g l = 4 * l.depth + 1
+decreases-run_children g l = 5 * l.depth + 1
 
 abbrev pub decreases-run_if_each : goal.decreases-run_if_each
-decreases-run_if_each g l = 4 * l.depth + 1
+decreases-run_if_each g l = 5 * l.depth + 1
 
 abbrev pub decreases-run_if_once : goal.decreases-run_if_once
-decreases-run_if_once g l = 4 * l.depth + 2
+decreases-run_if_once g l = 5 * l.depth + 2
 
 abbrev pub decreases-run_loop : goal.decreases-run_loop
-decreases-run_loop g l = 4 * l.depth + 2
+decreases-run_loop g l = 5 * l.depth + 2
 
 abbrev pub decreases-run_while : goal.decreases-run_while
-decreases-run_while g l = 4 * l.depth + 2
+decreases-run_while g l = 5 * l.depth + 2
 
 abbrev pub decreases-run_each : goal.decreases-run_each
-decreases-run_each g l = 4 * l.depth + 2
+decreases-run_each g l = 5 * l.depth + 2
 
 abbrev pub decreases-run_chosen : goal.decreases-run_chosen
-decreases-run_chosen g l = 4 * l.depth + 1
+decreases-run_chosen g l = 5 * l.depth + 1
 
 abbrev pub decreases-run_interleave : goal.decreases-run_interleave
-decreases-run_interleave g l = 4 * l.depth + 2
+decreases-run_interleave g l = 5 * l.depth + 2
 
 abbrev pub decreases-run_random : goal.decreases-run_random
-decreases-run_random g l = 4 * l.depth + 2
+decreases-run_random g l = 5 * l.depth + 2
 
 abbrev pub decreases-run_order : goal.decreases-run_order
-decreases-run_order g l = 4 * l.depth + 2
+decreases-run_order g l = 5 * l.depth + 2
 
 abbrev pub decreases-run_switch : goal.decreases-run_switch
-decreases-run_switch g l = 4 * l.depth + 2
+decreases-run_switch g l = 5 * l.depth + 2
 
 abbrev pub decreases-run_transaction : goal.decreases-run_transaction
-decreases-run_transaction g l = 4 * l.depth + 2
+decreases-run_transaction g l = 5 * l.depth + 2
 
 abbrev pub decreases-run_kind : goal.decreases-run_kind
-decreases-run_kind g l = 4 * l.depth + 3
+decreases-run_kind g l = 5 * l.depth + 4
+
+abbrev pub decreases-run_once : goal.decreases-run_once
+decreases-run_once g l = 5 * l.depth + 2
+
+abbrev pub decreases-run_if : goal.decreases-run_if
+decreases-run_if g l = 5 * l.depth + 3
+
+abbrev pub decreases-run_looping : goal.decreases-run_looping
+decreases-run_looping g l = 5 * l.depth + 3
 
 abbrev pub invariant-run_children-loop-child : goal.invariant-run_children-loop-child
 invariant-run_children-loop-child g l =
