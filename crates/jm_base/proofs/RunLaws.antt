@@ -1,4 +1,4 @@
--- How runs go on: one after another, behind events, and over each form of an outside.
+-- How runs go on: one after another, after events, and over each form of an outside.
 use mathlib.Core.Path.{fun_ext}
 use Rattle.std.proofs.lemmas.List.{append-nil}
 use Rattle.std.proofs.Common.{◌≡◌, ℕ, true, List, [], ◌∷◌, ◌++◌, Option, Some, None, refl, sym, ap, ◌∙◌, subst, arith, append_assoc}
@@ -9,7 +9,7 @@ use Rattle.jm_base.specs.declared.types.Request.TheVariants.{Script, Http}
 use Rattle.jm_base.specs.declared.types.Heard.{Heard}
 use Rattle.jm_base.specs.declared.types.Heard.TheVariants.{Reading, Paused, Asked}
 use Rattle.jm_base.specs.Run.{Answers, Event, Run, over, give, read, wait, ask, ◌>>=◌, behind, behind_all, over_value}
-use Rattle.jm_base.specs.Outside.{same_bytes, same_request, list_form, script_form, Scripts, Replays, at_end, by_reading, by_pause, by_asking, Account, Hears, Path, here, giving, reads, waits, asks, Goes, TellsNothing}
+use Rattle.jm_base.specs.Outside.{same_bytes, same_request, list_form, script_form, Scripts, Replays, at_end, by_reading, by_pause, by_asking, fault_count, faults_after, Account, Hears, Path, here, giving, reads, waits, asks, Goes, TellsNothing}
 
 same_bytes-refl : (xs : List ℕ) → same_bytes xs xs ≡ true
 same_bytes-refl [] = refl
@@ -74,12 +74,19 @@ value-append : (a b c : Option Scripts) (xs ys : List Heard)
 value-append None b c xs ys h k = rw h at k
 value-append (Some v) b c xs ys h k = let m = rw h.1 at k in (m.0, m.1, replays-append h.2 m.2)
 
+-- the faults of some calls and of those that come after them
+faults-append : (xs ys : List Heard) (n : ℕ) → faults_after (xs ++ ys) n ≡ faults_after ys (faults_after xs n)
+faults-append [] ys n = refl
+faults-append (Reading t ∷ xs) ys n = faults-append xs ys n
+faults-append (Paused ms ∷ xs) ys n = faults-append xs ys n
+faults-append (Asked s q o ∷ xs) ys n = faults-append xs ys (fault_count n o)
+
 pub hears-nothing : (a : Account) → Hears a [] a
 hears-nothing a = record {
   origin = refl;
   told = no_more a.told;
   value = same_value a.value;
-  faults = omega arith;
+  faults = refl;
 } where
   no_more : (t : Option (List Heard)) → t ≡ option_map (λ t. t ++ []) t
   no_more None = refl
@@ -98,7 +105,7 @@ hears-append {a} {b} {c} {xs} {ys} h k = record {
   origin = k.origin ∙ h.origin;
   told = told-append a.told b.told c.told xs ys h.told k.told;
   value = value-append a.value b.value c.value xs ys h.value k.value;
-  faults = omega arith;
+  faults = k.faults ∙ ap (faults_after ys) h.faults ∙ sym (faults-append xs ys a.faults);
 }
 
 -- a run goes on, and then on
@@ -114,7 +121,7 @@ goes-nothing a r = record { heard = []; hears = hears-nothing a; path = here }
 pub goes-give : {A : Type 0} (a : Account) (e : Event) (r : Run A) → Goes a (give e r) (e ∷ []) r a
 goes-give a e r = record { heard = []; hears = hears-nothing a; path = giving here }
 
--- a call that told nothing was heard by nobody
+-- a call that told nothing changes nothing that was heard
 pub hears-tells_nothing : {a b : Account} → TellsNothing a b → Hears a [] b
 hears-tells_nothing {a} {b} t = record {
   origin = t.origin;
@@ -123,7 +130,7 @@ hears-tells_nothing {a} {b} t = record {
   faults = t.faults;
 }
 
--- a run that has gone on so far is where it was behind a call that told nothing
+-- a run that has gone on so far is where it was, after a call that told nothing
 pub goes-tells_nothing : {A : Type 0} {a b c : Account} {r s : Run A} {e : List Event} → Goes a r e s b → TellsNothing b c → Goes a r e s c
 goes-tells_nothing {a = a} {c = c} {r = r} {s = s} {e = e} g t =
     let g' = goes-append g (record { heard = []; hears = hears-tells_nothing t; path = here }) in

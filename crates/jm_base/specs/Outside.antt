@@ -1,11 +1,11 @@
 -- What an outside gives: over a list of what was heard, and over the replies of a plan's samplers.
-use Rattle.std.specs.Prelude.{◌≡◌, ℕ, ◌+◌, ◌-◌, ◌%◌, ◌^◌, ◌≤◌, Bool, true, false, ◌&&◌, nat_eq, List, [], ◌∷◌, ◌++◌, length, Option, Some, None, MatchOption, if◌then◌else◌, unwrap_or, min, slice_get, slice_set, slice_index}
+use Rattle.std.specs.Prelude.{◌≡◌, ℕ, ◌+◌, ◌-◌, ◌%◌, ◌^◌, Bool, true, false, ◌&&◌, nat_eq, List, [], ◌∷◌, ◌++◌, length, Option, Some, None, MatchOption, if◌then◌else◌, unwrap_or, min, slice_get, slice_set, slice_index}
 use Rattle.std.specs.Option.{option_map}
 use Rattle.jm_base.specs.declared.types.ScriptReply.{ScriptReply}
 use Rattle.jm_base.specs.declared.types.Request.{Request}
 use Rattle.jm_base.specs.declared.types.Request.TheVariants.{Script, Http}
 use Rattle.jm_base.specs.declared.types.Outcome.{Outcome}
-use Rattle.jm_base.specs.declared.types.Outcome.TheVariants.{Reply as Replied, Null, Fault}
+use Rattle.jm_base.specs.declared.types.Outcome.TheVariants.{Reply as Replied, Null, Fault, Broken}
 use Rattle.jm_base.specs.declared.types.Heard.{Heard}
 use Rattle.jm_base.specs.declared.types.Heard.TheVariants.{Reading, Paused, Asked}
 use Rattle.jm_base.specs.Run.{Answers, Event, Run, over, give, read, wait, ask, over_value}
@@ -93,6 +93,20 @@ pub data Replays {V : Type 0} (o : Answers V) : V → List Heard → V → Type 
   by_pause : {v w u : V} {ms : ℕ} {heard : List Heard} → o.pause ms v ≡ Some w → Replays o w heard u → Replays o v (Paused ms ∷ heard) u
   by_asking : {v w u : V} {s : ℕ} {q : Request} {a : Outcome} {heard : List Heard} → o.ask s q v ≡ Some (a, w) → Replays o w heard u → Replays o v (Asked s q a ∷ heard) u
 
+-- an outcome `Fault` is counted, and no other; the count stands still at the end of 64 bits
+abbrev pub fault_count : ℕ → Outcome → ℕ
+fault_count faults (Replied reply) = faults
+fault_count faults Null = faults
+fault_count faults Fault = min (faults + 1) (2 ^ 64 - 1)
+fault_count faults (Broken wire) = faults
+
+-- the count of faults after these calls: no reading and no pause is one
+abbrev pub faults_after : List Heard → ℕ → ℕ
+faults_after [] faults = faults
+faults_after (Reading t ∷ heard) faults = faults_after heard faults
+faults_after (Paused ms ∷ heard) faults = faults_after heard faults
+faults_after (Asked s q o ∷ heard) faults = faults_after heard (fault_count faults o)
+
 -- what is known of an outside: which world opened it for which number, its value and what it was told, where it has them, and its faults
 pub record Account : Type 0 where
   pub origin : Option (ℕ × ℕ)
@@ -105,7 +119,7 @@ pub record Hears (before : Account) (heard : List Heard) (after : Account) : Typ
   pub origin : after.origin ≡ before.origin
   pub told : after.told ≡ option_map (λ t. t ++ heard) before.told
   pub value : MatchOption before.value (after.value ≡ None) (λ v. (w : Scripts) × (after.value ≡ Some w) × Replays script_form v heard w)
-  pub faults : before.faults ≤ after.faults
+  pub faults : after.faults ≡ faults_after heard before.faults
 
 -- Hearing this, the run gives these events and goes on as the rest.
 pub data Path {A : Type 0} : Run A → List Heard → List Event → Run A → Type 0 where
@@ -121,12 +135,12 @@ pub record Goes {A : Type 0} (before : Account) (run : Run A) (events : List Eve
   pub hears : Hears before heard after
   pub path : Path run heard events rest
 
--- A call that failed told nothing, and changed no value.
+-- A call that failed told nothing, changed no value and counted no fault.
 pub record TellsNothing (before after : Account) : Type 0 where
   pub origin : after.origin ≡ before.origin
   pub told : after.told ≡ before.told
   pub value : after.value ≡ before.value
-  pub faults : before.faults ≤ after.faults
+  pub faults : after.faults ≡ before.faults
 
 -- The run gives nothing more over this value: it is over, or waits for an answer that does not come.
 pub data Stays {V A : Type 0} (o : Answers V) : Run A → V → Type 0 where

@@ -1,10 +1,10 @@
-// Want of memory, and a failed call at the edge of the program.
+// Out of memory, and a failed call at the edge of the program.
 
 use std::alloc::{AllocError, AllocFailed};
 use std::error::Error;
 use std::fmt;
 
-/// Memory was wanting: a growth of a list or a text was refused.
+/// Out of memory: a growth of a list or a text was refused.
 #[derive(Clone, Copy, PartialEq, Eq, Debug)]
 pub struct NoMemory;
 
@@ -12,7 +12,7 @@ pub struct NoMemory;
 #[derive(Clone, Copy, PartialEq, Eq, Debug)]
 pub struct Failed;
 
-/// What a call gives that can fail for want of memory alone.
+/// What a call gives that can fail by running out of memory alone.
 pub type M<T> = Result<T, NoMemory>;
 
 impl From<AllocError> for NoMemory {

@@ -1,17 +1,16 @@
 // The outside of a thread: a clock, pauses, and the answers to what its samplers ask.
 
-ghost use Rattle.std.specs.Prelude.{◌≡◌, ◌<◌, IfOk, OnErr, IsOkAnd, [], ◌∷◌};
-ghost use Rattle.jm_base.specs.declared.types.Outcome.TheVariants.{Fault};
-ghost use Rattle.jm_base.specs.Counts.{Rose};
-ghost use Rattle.jm_base.specs.Run.{Run, reading, outcome_of, over, wait};
-ghost use Rattle.jm_base.specs.Outside.{Account, Goes, TellsNothing, SameEvents};
+ghost use Rattle.std.specs.Prelude.{◌≡◌, IfOk, OnErr, []};
+ghost use Rattle.jm_base.specs.Run.{reading, outcome_of, over, wait};
+ghost use Rattle.jm_base.specs.Outside.{Account, Goes, fault_count, TellsNothing, SameEvents};
 
 use crate::errors::M;
 use crate::types::{Outcome, Request};
 
 /// A clock, pauses and answers, which one thread uses.
 pub trait Outside {
-    /// What is known of it: which world opened it for which number, its value and what it was told, where it has them, and its count of faults.
+    /// What is known of it: which world opened it for which number, its value and what it was told, where it has them, and its
+    /// count of faults. The count rises by one where `ask` answers a fault, and at no other call; at the end of 64 bits it stands still.
     ghost account: { Self → Account };
 
     /// A reading of the clock, in milliseconds.
@@ -27,7 +26,7 @@ pub trait Outside {
     /// The outcome of a sampler's request. `sampler` is the number of its element.
     fn ask(&mut self, sampler: u16, request: &Request) -> M<Outcome>
         ensures ok { IfOk result (λ a. Goes (account self.old) (outcome_of sampler request.now) [] (over a) (account self.new)) }
-        ensures fault { IsOkAnd result (λ a. a ≡ Fault) → Rose (account self.old).faults (account self.new).faults }
+        ensures fault { IfOk result (λ a. (account self.new).faults ≡ fault_count (account self.old).faults a) }
         ensures err { OnErr result (TellsNothing (account self.old) (account self.new)) };
 }
 

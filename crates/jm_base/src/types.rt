@@ -71,7 +71,7 @@ pub enum End {
     RoundLimit,
     /// A value or the variables would pass their limit.
     ValueLimit,
-    /// Memory was wanting.
+    /// Out of memory.
     NoMemory,
 }
 
@@ -112,7 +112,7 @@ pub enum Outcome {
     Null,
     /// The call failed.
     Fault,
-    /// What came is no whole response.
+    /// What came is not a whole response.
     Broken(Wire),
 }
 
@@ -130,7 +130,7 @@ pub enum Request {
 pub enum Heard {
     /// A reading of the clock, in milliseconds.
     Reading(u64),
-    /// A pause of so many milliseconds.
+    /// A pause of this many milliseconds.
     Paused(u32),
     /// A sampler's request and its outcome.
     Asked {

@@ -4,32 +4,32 @@ use Rattle.std.specs.Prelude.{slice_get, slice_index, slice_set}
 use Rattle.jm_base.specs.declared.types.ScriptReply.{ScriptReply}
 use Rattle.jm_base.specs.declared.types.Request.{Request}
 use Rattle.jm_base.specs.declared.types.Outcome.{Outcome}
-use Rattle.jm_base.specs.declared.types.Outcome.TheVariants.{Reply, Null, Fault, Broken}
+use Rattle.jm_base.specs.declared.types.Outcome.TheVariants.{Null}
 use Rattle.jm_base.specs.declared.types.Heard.{Heard}
 use Rattle.jm_base.specs.declared.types.Heard.TheVariants.{Reading, Paused, Asked}
 use Rattle.jm_base.specs.Run.{over, reading, wait, outcome_of}
-use Rattle.jm_base.specs.Outside.{Scripts, script_form, scripted_ask, later, replies_of, outcome_of_reply, Replays, at_end, by_reading, by_pause, by_asking, Account, Hears, Goes, here, reads, waits, asks}
-use Rattle.outside_world.specs.Scripted.{scripts, told_after, fault_count}
+use Rattle.jm_base.specs.Outside.{Scripts, script_form, scripted_ask, later, replies_of, outcome_of_reply, Replays, at_end, by_reading, by_pause, by_asking, fault_count, faults_after, Account, Hears, Goes, here, reads, waits, asks}
+use Rattle.outside_world.specs.Scripted.{scripts, told_after}
 
 abbrev at : Scripts → Option (List Heard) → ℕ → Account
 at v told faults = record { origin = None; value = Some v; told = told; faults = faults }
 
-one_heard : (v w : Scripts) (old new : Option (List Heard)) (m n : ℕ) (item : Heard) → Replays script_form v (item ∷ []) w → new ≡ told_after old item → m ≤ n
+one_heard : (v w : Scripts) (old new : Option (List Heard)) (m n : ℕ) (item : Heard) → Replays script_form v (item ∷ []) w → new ≡ told_after old item → n ≡ faults_after (item ∷ []) m
     → Hears (at v old m) (item ∷ []) (at w new n)
 one_heard v w old new m n item replays told faults = record { origin = refl; told = told; value = (w, refl, replays); faults = faults }
 
 pub goes_reading : (v : Scripts) (old new : Option (List Heard)) (n : ℕ) → new ≡ told_after old (Reading v.clock)
     → Goes (at v old n) reading [] (over v.clock) (at v new n)
 goes_reading v old new n told =
-    record { heard = Reading v.clock ∷ []; hears = one_heard v v old new n n _ (by_reading refl at_end) told (omega arith); path = reads here }
+    record { heard = Reading v.clock ∷ []; hears = one_heard v v old new n n _ (by_reading refl at_end) told refl; path = reads here }
 
 pub goes_pause : (v w : Scripts) (old new : Option (List Heard)) (n ms : ℕ) → w ≡ record v { clock = later v.clock ms } → new ≡ told_after old (Paused ms)
     → Goes {A = Unit {0}} (at v old n) (wait ms (over tt)) [] (over tt) (at w new n)
 goes_pause v w old new n ms is told =
-    record { heard = Paused ms ∷ []; hears = one_heard v w old new n n _ (by_pause (ap Some (sym is)) at_end) told (omega arith); path = waits here }
+    record { heard = Paused ms ∷ []; hears = one_heard v w old new n n _ (by_pause (ap Some (sym is)) at_end) told refl; path = waits here }
 
 pub goes_asking : (v w : Scripts) (old new : Option (List Heard)) (m n s : ℕ) (q : Request) (a : Outcome) → (a, w) ≡ scripted_ask s q v
-    → new ≡ told_after old (Asked s q a) → m ≤ n
+    → new ≡ told_after old (Asked s q a) → n ≡ fault_count m a
     → Goes (at v old m) (outcome_of s q) [] (over a) (at w new n)
 goes_asking v w old new m n s q a is told faults =
     record { heard = Asked s q a ∷ []; hears = one_heard v w old new m n _ (by_asking (ap Some (sym is)) at_end) told faults; path = asks here }
@@ -43,9 +43,3 @@ pub asked_some : (v : Scripts) (s clock : ℕ) (places : List ℕ) (q : Request)
     → a ≡ outcome_of_reply q r → clock ≡ later v.clock r.ms → places ≡ slice_set v.places s ((slice_index v.places s + 1) % length (replies_of v s))
     → (a, scripts v.replies clock places) ≡ scripted_ask s q v
 asked_some v s clock places q r a some is clock_is places_are = rw (some, is, clock_is, places_are) refl
-
-pub counted : (faults : ℕ) (a : Outcome) → faults ≤ 18446744073709551615 → faults ≤ fault_count faults a
-counted faults (Reply reply) le = omega arith
-counted faults Null le = omega arith
-counted faults Fault le = grind arith
-counted faults (Broken wire) le = omega arith

@@ -1,10 +1,8 @@
 -- How an outside that answers from a plan's replies stands.
-use Rattle.std.specs.Prelude.{ℕ, ◌+◌, ◌-◌, ◌^◌, min, Bool, true, false, List, [], ◌∷◌, ◌++◌, map, length, replicate, Option, Some, None}
+use Rattle.std.specs.Prelude.{ℕ, Bool, true, false, List, [], ◌∷◌, ◌++◌, map, length, replicate, Option, Some, None}
 use Rattle.std.specs.Option.{option_map}
 use Rattle.jm_base.specs.declared.types.ScriptReply.{ScriptReply}
 use Rattle.jm_base.specs.declared.types.Heard.{Heard}
-use Rattle.jm_base.specs.declared.types.Outcome.{Outcome}
-use Rattle.jm_base.specs.declared.types.Outcome.TheVariants.{Reply, Null, Fault, Broken}
 use Rattle.jm_base.specs.Outside.{Account, Scripts}
 use Rattle.element_tree.specs.Tree.{Tree, replies_of_element}
 
@@ -30,10 +28,3 @@ account_of replies clock places keep heard faults =
 -- an outside of no world before its first call, with this value, which tells where it is to keep its list
 abbrev pub scripted_account : Scripts → Bool → Account
 scripted_account v keep = record { origin = None; value = Some v; told = told_when keep []; faults = 0 }
-
--- a fault is counted, and the count stands still at the end of 64 bits
-abbrev pub fault_count : ℕ → Outcome → ℕ
-fault_count faults (Reply reply) = faults
-fault_count faults Null = faults
-fault_count faults Fault = min (faults + 1) (2 ^ 64 - 1)
-fault_count faults (Broken wire) = faults

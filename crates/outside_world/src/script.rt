@@ -5,8 +5,8 @@ ghost use Rattle.std.specs.Option.{option_copied};
 ghost use Rattle.element_tree.specs.Tree.{replies_of_kind, replies_of_element};
 ghost use Rattle.jm_base.specs.declared.types.Outcome.{Outcome};
 ghost use Rattle.jm_base.specs.declared.types.Outcome.TheVariants.{Fault};
-ghost use Rattle.jm_base.specs.Outside.{later, outcome_of_reply, request_text};
-ghost use Rattle.outside_world.specs.Scripted.{scripted_account, scripts_of, told_when, told_after, fault_count};
+ghost use Rattle.jm_base.specs.Outside.{fault_count, later, outcome_of_reply, request_text};
+ghost use Rattle.outside_world.specs.Scripted.{scripted_account, scripts_of, told_when, told_after};
 
 use crate::copies::{copy_outcome, copy_replies, copy_request};
 use element_tree::{Element, Kind, Plan};

@@ -1,12 +1,12 @@
-use Rattle.std.proofs.Common.{sym, arith, rules}
+use Rattle.std.proofs.Common.{sym, refl}
 use Rattle.outside_world.specs.Scripted.{scripts}
-use Rattle.outside_world.proofs.ScriptLaws.{goes_asking, asked_none, asked_some, counted}
+use Rattle.outside_world.proofs.ScriptLaws.{goes_asking, asked_none, asked_some}
 use Rattle.outside_world.proofs.script.ScriptOutsideOutside.ask.Goals as goal
 
 pub returns-in_default-clause-ok : goal.returns-in_default-clause-ok
 returns-in_default-clause-ok c = rw (← c.self.view_is)
     (goes_asking (scripts c.self.inside.replies c.self.inside.clock c.self.inside.places.items) _ _ _ c.self.inside.faults c.self.inside.faults c.args.sampler c.args.request.now _
-    (asked_none _ c.args.sampler c.args.request.now (rw (← c.replies_at-replies.ensures, ← c.place_of-place.ensures) (sym c.in_default.ensures))) c.in_ok-note_asked.ensures.ok (omega arith))
+    (asked_none _ c.args.sampler c.args.request.now (rw (← c.replies_at-replies.ensures, ← c.place_of-place.ensures) (sym c.in_default.ensures))) c.in_ok-note_asked.ensures.ok refl)
 
 pub returns-clause-ok : goal.returns-clause-ok
 returns-clause-ok c = rw (← c.self.view_is)
@@ -15,4 +15,4 @@ returns-clause-ok c = rw (← c.self.view_is)
     c.in-Some.reply.now c.in_ok-outcome.outcome
     (rw (← c.replies_at-replies.ensures, ← c.place_of-place.ensures) (sym c.in-Some.ensures)) c.in_ok-outcome.ensures c.later-self-inside.ensures
     (rw (← c.replies_at-replies.ensures, ← c.place_of-place.ensures) c.set_place.ensures))
-    c.in_ok-note_asked-2.ensures.ok (rw c.faults_after-self-inside.ensures (counted c.self.inside.faults c.in_ok-outcome.outcome (search rules))))
+    c.in_ok-note_asked-2.ensures.ok c.faults_after-self-inside.ensures)
