@@ -1,7 +1,6 @@
 -- Where a machine was refused on its way.
-use Rattle.std.proofs.Common.{◌≡◌, ℕ, List, [], ◌∷◌, Option, Some, None, refl, sym, ap, ◌∙◌, subst}
+use Rattle.std.proofs.Common.{◌≡◌, inl, inr, ℕ, List, [], ◌∷◌, Some, None, refl, sym, ap, ◌∙◌, subst}
 use Rattle.std.specs.Prelude.{Result, Ok, Err, OnErr, ◌⊎◌, slice_get}
-use Rattle.std.proofs.Common.{inl, inr}
 use Rattle.jm_base.specs.Run.{Run, over}
 use Rattle.jm_base.specs.Outside.{Account, Goes}
 use Rattle.jm_base.proofs.RunLaws.{goes-append, goes-nothing}
@@ -21,7 +20,7 @@ use Rattle.logic_controllers.specs.declared.each_cursor.EachCursor.{EachCursor}
 use Rattle.logic_controllers.specs.Rounds.{opened_vars, opened}
 use Rattle.logic_controllers.specs.WhileController.{WhileKept}
 use Rattle.logic_controllers.specs.ForEachController.{Row, kind_of, output_vars, AllSet, EachKept}
-use Rattle.jm_meaning.specs.State.{State, Own, Ending, Part, state_of, normal, and_then, with_vars}
+use Rattle.jm_meaning.specs.State.{Own, Ending, state_of, normal, and_then, with_vars}
 use Rattle.jm_meaning.specs.Children.{Below}
 use Rattle.jm_meaning.specs.Rounds.{while_turns, each_turns}
 use Rattle.jm_meaning.specs.Meaning.{Here, meaning, children_in}
