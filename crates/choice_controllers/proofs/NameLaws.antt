@@ -5,7 +5,7 @@ use Rattle.std.specs.List.{filter, position_from}
 use Rattle.std.proofs.lemmas.List.{drop_more}
 
 module _ {A : Type 0} (test : A → Bool) (is : ℕ → Bool) (name : ℕ → A) where
-  -- the place of the first one that passes, behind so many of those that count
+  -- the place of the first one that passes, after this many of those that count
   abbrev pub found : ℕ → List ℕ → Option ℕ
   found place numbers = position_from test place (take (65535 - place) (map name (filter is numbers)))
 

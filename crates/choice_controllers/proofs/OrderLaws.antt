@@ -31,12 +31,12 @@ range-more a (suc n) =
 pub places-more : (n : ℕ) → places n ++ n ∷ [] ≡ places (n + 1)
 places-more n = let none : 0 + n ≡ n = omega arith in ap (λ m. places n ++ m ∷ []) (sym none) ∙ range-more 0 n
 
--- each place of an order is one of so many
+-- each place of an order is below the number of children
 pub order-below : (n : ℕ) (order : List ℕ) → IsPermutation (places n) order → All (λ place. place < n) order
 order-below n order h = All-permutation (λ place. place < n) (places n) order h
     (λ k d within. let small : k < n = omega (arith, within, length-range_with_len 0 n) in omega (arith, get_or-range_with_len 0 n k d small))
 
--- what stands in a list where each is one of so many
+-- what stands in a list where each is below a number
 pub get-below : (n i : ℕ) (order : List ℕ) (place : ℕ) → All (λ place. place < n) order → Some place ≡ slice_get order i → place < n
 get-below n i order place all is =
     let within : i < length order = slice_get_within order i place (sym is) in

@@ -7,7 +7,7 @@ use Rattle.choice_controllers.specs.declared.interleave_cursor.InterleaveCursor.
 use Rattle.cursor_steps.specs.Step.{Step, answers}
 use Rattle.choice_controllers.specs.Chosen.{turn_of}
 
--- the place behind a place, among so many children: the first again behind the last
+-- the place after a place, among this many children: the first again after the last
 abbrev pub next_place : ℕ → ℕ → ℕ
 next_place children place = (place + 1) % children
 
@@ -17,7 +17,7 @@ interleaved children c =
     if children == 0 then record c { chosen = None }
     else record c { place = next_place children c.place; chosen = Some (c.place % children) }
 
--- a pass over so many children begins
+-- a pass over this many children begins
 abbrev pub interleave_enters : ℕ → InterleaveCursor → UserState → Run (Step (Unit {0}) InterleaveCursor)
 interleave_enters children c state = answers tt (interleaved children c) state
 

@@ -8,7 +8,7 @@ use Rattle.choice_controllers.specs.declared.random_cursor.RandomCursor.{RandomC
 use Rattle.cursor_steps.specs.Step.{Step, answers}
 use Rattle.choice_controllers.specs.Chosen.{turn_of}
 
--- the place that the next word picks among so many children
+-- the place that the next word picks among this many children
 abbrev pub random_place : ℕ → Functions → Option ℕ
 random_place children fns = if children == 0 then None else Some (drawn fns.random % children)
 
@@ -16,7 +16,7 @@ random_place children fns = if children == 0 then None else Some (drawn fns.rand
 abbrev pub random_fns : ℕ → Functions → Functions
 random_fns children fns = if children == 0 then fns else draw fns
 
--- a pass over so many children begins
+-- a pass over this many children begins
 abbrev pub random_enters : ℕ → RandomCursor → UserState → Run (Step (Unit {0}) RandomCursor)
 random_enters children c state =
     answers tt (record c { chosen = random_place children state.fns }) (record state { fns = random_fns children state.fns })

@@ -14,15 +14,15 @@ abbrev pub shuffled : {A : Type 0} → ℕ → List A → Functions → List A �
 shuffled zero xs fns = (xs, fns)
 shuffled (suc i) xs fns = shuffled i (swap xs (suc i) (drawn fns.random % (suc i + 1))) (draw fns)
 
--- the places of so many children, in order
+-- the places of this many children, in order
 abbrev pub places : ℕ → List ℕ
 places children = range_with_len 0 children
 
--- the order of so many children in a pass, and what functions keep behind its words
+-- the order of this many children in a pass, and what functions keep after its words
 abbrev pub random_order : ℕ → Functions → List ℕ × Functions
 random_order children fns = shuffled (children - 1) (places children) fns
 
--- a pass over so many children begins
+-- a pass over this many children begins
 abbrev pub order_enters : ℕ → OrderCursor → UserState → Run (Step (Unit {0}) OrderCursor)
 order_enters children c state =
     answers tt (record c { order = Some (random_order children state.fns).0; next = 0 }) (record state { fns = (random_order children state.fns).1 })

@@ -37,7 +37,7 @@ is_name false wanted name = pointwise nat_eq name wanted
 abbrev pub place_named : Bool → List ℕ → List (List ℕ) → Option ℕ
 place_named any_case wanted names = position_from (is_name any_case wanted) 0 names
 
--- an index among so many children; one that is out of range is the first child's
+-- an index among this many children; one that is out of range is the first child's
 abbrev pub index_among : ℕ → ℕ → ℕ
 index_among children index = if nat_lt index children then index else 0
 

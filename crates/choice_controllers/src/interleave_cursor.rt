@@ -63,7 +63,7 @@ impl InterleaveCursor {
         Ok(())
     }
 
-    // Chooses among so many children.
+    // Chooses among this many children.
     fn choose(&mut self, children: u16)
         ensures moved { self.new ≡ interleaved children self.old }
         ensures child { IfSome self.new.chosen (λ place. place < children) }

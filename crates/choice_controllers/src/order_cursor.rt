@@ -25,7 +25,7 @@ pub struct OrderCursor {
     pub next: usize,
 }
 
-/// The places of so many children, in order.
+/// The places of this many children, in order.
 fn places(alloc: Global, children: u16) -> M<Vec<u16>>
     ensures { IfOk result (λ v. v.items ≡ places children) }
 {
@@ -76,8 +76,8 @@ impl OrderCursor {
     /// it draws a random word w and exchanges the children at i and at `w mod (i + 1)`. So it draws n - 1 words, and none
     /// where there are no children.
     ///
-    /// The memory for the order is taken before the first word is drawn: a call that refuses, which it does for want of
-    /// memory alone, leaves the cursor and the thread's state as they were.
+    /// The memory for the order is taken before the first word is drawn: a call that refuses, which it does where it runs out
+    /// of memory alone, leaves the cursor and the thread's state as they were.
     pub fn enter<O: Outside>(
         &mut self,
         alloc: Global,
@@ -126,7 +126,7 @@ impl OrderCursor {
         self.next = 0;
     }
 
-    // The place of the next child in the order, where one is left. The cursor then stands behind it.
+    // The place of the next child in the order, where one is left. The cursor then stands after it.
     fn next_place(&mut self) -> Option<u16>
         ensures place { result ≡ slice_get (order_of self.old) self.old.next }
         ensures behind { OnSome result (self.new ≡ record self.old { next = self.old.next + 1 }) }
@@ -138,7 +138,7 @@ impl OrderCursor {
         Some(place)
     }
 
-    /// The next child in the order of the pass, or `Over` behind the last one. It takes no memory.
+    /// The next child in the order of the pass, or `Over` after the last one. It takes no memory.
     pub fn next<O: Outside>(
         &mut self,
         _alloc: Global,

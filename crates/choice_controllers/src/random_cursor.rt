@@ -24,7 +24,7 @@ pub struct RandomCursor {
     pub chosen: Option<u16>,
 }
 
-/// Draws the place of one of so many children. Without children there is none, and nothing is drawn.
+/// Draws the place of one of this many children. Without children there is none, and nothing is drawn.
 pub fn random_place(children: u16, fns: &mut FnState) -> Option<u16>
     ensures place { result ≡ random_place children fns.old }
     ensures fns { fns.new ≡ random_fns children fns.old }

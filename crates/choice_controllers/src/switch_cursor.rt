@@ -26,7 +26,7 @@ pub struct SwitchCursor {
     pub chosen: Option<u16>,
 }
 
-/// Whether a name is the wanted one, capitals of ASCII aside where case does not matter.
+/// Whether a name is the one that is sought, capitals of ASCII aside where case does not matter.
 fn is_name(name: &[u8], wanted: &[u8], any_case: bool) -> bool
     ensures { result ≡ is_name any_case wanted.now name.now }
 {
@@ -46,7 +46,7 @@ fn name_at(plan: &Plan, number: u16) -> &[u8]
     }
 }
 
-/// The place of the first child that has the wanted name, among the children that are run.
+/// The place of the first child that has the name that is sought, among the children that are run.
 fn place_named(plan: &Plan, element: &Element, wanted: &[u8], any_case: bool) -> Option<u16>
     ensures { result ≡ place_named any_case wanted.now (run_names plan.now.elements element.now) }
 {
@@ -66,7 +66,7 @@ fn place_named(plan: &Plan, element: &Element, wanted: &[u8], any_case: bool) ->
     None
 }
 
-/// An index among so many children; one that is out of range is the first child's.
+/// An index among this many children; one that is out of range is the first child's.
 fn index_among(children: u16, index: u32) -> u16
     ensures among { result ≡ index_among children index }
     ensures below { 0 < children → result < children }

@@ -31,7 +31,7 @@ cut-more m v i whole bs within is same =
     ∙ ap (λ d. min (digits_value_after 10 (v * 10 + d) (drop (i + 1) bs)) m) (sym (digit (get_or bs i 0) is))
     ∙ ap (λ ds. min (digits_value_after 10 v ds) m) (sym (drop_more bs i 0 within)) ∙ same
 
--- one more digit, and the digits behind it
+-- one more digit, and the digits after it
 pub digits-more : (i : ℕ) (whole : Bool) (bs : List ℕ) → i < length bs → is_ascii_digit (get_or bs i 0) ≡ true
     → list_all is_ascii_digit (drop i bs) ≡ whole → list_all is_ascii_digit (drop (i + 1) bs) ≡ whole
 digits-more i whole bs within is same =

@@ -55,7 +55,7 @@ puts-came a made cursor old next vars (Err error) put = vars-refused a made curs
 pub goes-same : {A : Type 0} (a : Account) (run rest : Run A) → run ≡ rest → Goes a run [] rest a
 goes-same a run rest is = subst (λ r. Goes a r [] rest a) (sym is) (goes-nothing a rest)
 
--- for want of memory a call may end before it does anything
+-- out of memory, a call may end before it does anything
 pub at-once : {A : Type 0} (a : Account) (run limit : Run A) → Refused a run a limit NoMemory
 at-once a run limit = by_memory (run, goes-nothing a run)
 

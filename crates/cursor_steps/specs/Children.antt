@@ -31,13 +31,13 @@ runs_of elements element = filter (is_run_at elements) element.children
 abbrev pub run_count : List Element → Element → ℕ
 run_count elements element = min (length (runs_of elements element)) 65535
 
--- a child that is run has its place among so many
+-- the place of a child that is run is below the number of children
 abbrev pub IsAmong : ℕ → Turn → Type 0
 IsAmong children (Child place) = place < children
 IsAmong children Round = Unit {0}
 IsAmong children Over = Unit {0}
 
--- ---- a pass over so many children
+-- ---- a pass over this many children
 
 -- before the first of them
 abbrev pub pass_over : ℕ → Pass
@@ -54,7 +54,7 @@ is_left p = nat_lt p.next p.children
 abbrev pub behind_child : Pass → Pass
 behind_child p = record p { next = p.next + 1 }
 
--- the pass of a controller behind its answer: the child that comes next is run, or a pass over all children begins, or it stands
+-- the pass of a controller after its answer: the child that comes next is run, or a pass over all children begins, or it stands
 abbrev pub Passes : Pass → Pass → Turn → Type 0
 Passes old new (Child place) = (place ≡ old.next) × (place < old.children) × (new ≡ behind_child old)
 Passes old new Round = new ≡ pass_over old.children

@@ -39,7 +39,7 @@ abbrev pub expanding : {A C : Type 0} → Pieces → C → UserState → (List �
 expanding template cursor state next = expansion template state.vars state.fns >>= with_text cursor state next
 
 -- Between two moments of the outside the call came to its step: to its answer, with the cursor and the state as they are
--- now; past a limit, with both as they are now; or, for want of memory, to somewhere on its way.
+-- now; past a limit, with both as they are now; or, out of memory, to somewhere on its way.
 abbrev pub StepsTo : {A C : Type 0} → Account → Run (Step A C) → Account → C → UserState → Result A VarError → Type 0
 StepsTo before step after cursor state result =
     CameTo before step after (λ answer. answers answer cursor state) (past_limit cursor state) result

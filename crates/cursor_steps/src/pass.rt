@@ -23,7 +23,7 @@ impl Pass {
         Pass { children, next: 0 }
     }
 
-    /// Behind the last child.
+    /// After the last child.
     pub fn none_left(children: u16) -> Pass
         ensures { result ≡ none_left children }
     {
@@ -33,7 +33,7 @@ impl Pass {
         }
     }
 
-    /// The place of the next child. The pass then stands behind it.
+    /// The place of the next child. The pass then stands after it.
     pub fn take_child(&mut self) -> u16
         requires { self.old.next < self.old.children }
         ensures place { result ≡ self.old.next }
@@ -44,7 +44,7 @@ impl Pass {
         place
     }
 
-    /// The place of the next child, where one is left. The pass then stands behind it.
+    /// The place of the next child, where one is left. The pass then stands after it.
     pub fn next_child(&mut self) -> Option<u16>
         ensures { MatchOption result ((self.old.children ≤ self.old.next) × (self.new ≡ self.old))
             (λ place. (place ≡ self.old.next) × (place < self.old.children) × (self.new ≡ behind_child self.old)) }

@@ -12,7 +12,7 @@ use Rattle.cursor_steps.specs.Step.{Step, answers, with_vars}
 use Rattle.cursor_steps.specs.Children.{is_left, behind_child}
 use Rattle.logic_controllers.specs.Rounds.{before_rounds, round_begun, opened_vars, opened}
 
--- the variables that it reads: the first part of their names, whether `_` stands behind it, the number before the first
+-- the variables that it reads: the first part of their names, whether `_` stands after it, the number before the first
 -- one and the number of the last one
 pub record Row : Type 0 where
   pub input : List ℕ
@@ -41,7 +41,7 @@ abbrev pub each_decides : Option (List ℕ) → EachCursor → UserState → Run
 each_decides None c state = answers Over c state
 each_decides (Some value) c state = answers Round (record c { rounds = round_begun c.rounds; value = Some value }) state
 
--- in a round the next child; behind the last one the next value is read
+-- in a round the next child; after the last one the next value is read
 abbrev pub each_goes : Row → EachCursor → UserState → Run (Step Turn EachCursor)
 each_goes row c state =
     if is_left c.rounds.pass then answers (Child c.rounds.pass.next) (record c { rounds = record c.rounds { pass = behind_child c.rounds.pass } }) state

@@ -29,6 +29,6 @@ abbrev pub if_goes : Bool → Pieces → IfCursor → UserState → Run (Step Tu
 if_goes true condition c state = expanding condition c state (λ text state. if is_true text then if_runs c state else answers Over c state)
 if_goes false condition c state = if_runs c state
 
--- nothing is evaluated behind the last child
+-- nothing is evaluated after the last child
 abbrev pub if_next : Bool → Pieces → IfCursor → UserState → Run (Step Turn IfCursor)
 if_next all condition c state = if is_left c.pass then if_goes all condition c state else answers Over c state

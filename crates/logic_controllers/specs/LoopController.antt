@@ -15,7 +15,7 @@ use Rattle.cursor_steps.specs.Children.{is_left, behind_child}
 use Rattle.cursor_steps.specs.Numeral.{is_decimal}
 use Rattle.logic_controllers.specs.Rounds.{before_rounds, round_begun, opened_vars, opened}
 
--- The rounds that a text asks for: `-1` for ever, a decimal number so many, any other text none. No thread comes to
+-- The rounds that a text asks for: `-1` for ever, a decimal number that many, any other text none. No thread comes to
 -- more than 16,777,216 rounds, so that a number past 32 bits asks for as many as the greatest of 32 bits.
 abbrev pub loops_of : List ℕ → Loops
 loops_of text =
@@ -32,7 +32,7 @@ abbrev pub loop_enters : Pieces → ℕ → LoopCursor → UserState → Run (St
 loop_enters loops children c state =
     expanding loops c state (λ text state. answers tt (record c { loops = loops_of text; rounds = before_rounds children }) state)
 
--- in a round the next child; behind the last one the next round, where one is left
+-- in a round the next child; after the last one the next round, where one is left
 abbrev pub loop_goes : LoopCursor → UserState → Run (Step Turn LoopCursor)
 loop_goes c state =
     if is_left c.rounds.pass then answers (Child c.rounds.pass.next) (record c { rounds = record c.rounds { pass = behind_child c.rounds.pass } }) state

@@ -8,11 +8,11 @@ use Rattle.logic_controllers.specs.declared.once_cursor.OnceCursor.{OnceCursor}
 use Rattle.cursor_steps.specs.Step.{Step, answers}
 use Rattle.cursor_steps.specs.Children.{pass_over, is_left, behind_child}
 
--- a pass over so many children begins
+-- a pass over this many children begins
 abbrev pub once_enters : ℕ → OnceCursor → UserState → Run (Step (Unit {0}) OnceCursor)
 once_enters children c state = answers tt (record c { pass = pass_over children }) state
 
--- In round 0 the next child; the pass is over behind the last one, and in every other round.
+-- In round 0 the next child; the pass is over after the last one, and in every other round.
 abbrev pub once_next : ℕ → OnceCursor → UserState → Run (Step Turn OnceCursor)
 once_next round c state =
     if round == 0 && is_left c.pass then answers (Child c.pass.next) (record c { pass = behind_child c.pass }) state

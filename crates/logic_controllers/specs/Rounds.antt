@@ -6,7 +6,7 @@ use Rattle.var_functions.specs.Vars.{Variables, put_var}
 use Rattle.logic_controllers.specs.declared.rounds.Rounds.{Rounds}
 use Rattle.cursor_steps.specs.Children.{none_left, pass_over}
 
--- a thread begins at most so many rounds
+-- a thread begins at most this many rounds
 abbrev pub most_rounds : ℕ
 most_rounds = 16777216
 

@@ -8,7 +8,7 @@ use Rattle.logic_controllers.specs.declared.simple_cursor.SimpleCursor.{SimpleCu
 use Rattle.cursor_steps.specs.Step.{Step, answers}
 use Rattle.cursor_steps.specs.Children.{pass_over, is_left, behind_child}
 
--- a pass over so many children begins
+-- a pass over this many children begins
 abbrev pub simple_enters : ℕ → SimpleCursor → UserState → Run (Step (Unit {0}) SimpleCursor)
 simple_enters children c state = answers tt (record c { pass = pass_over children }) state
 

@@ -45,7 +45,7 @@ while_decides condition c state =
     expanding condition c state (λ text state. if goes_on text c.rounds.begun (last_ok state.vars)
     then answers Round (record c { rounds = round_begun c.rounds }) state else answers Over c state)
 
--- in a round the next child; behind the last one it is decided whether a further round begins
+-- in a round the next child; after the last one it is decided whether a further round begins
 abbrev pub while_goes : Pieces → WhileCursor → UserState → Run (Step Turn WhileCursor)
 while_goes condition c state =
     if is_left c.rounds.pass then answers (Child c.rounds.pass.next) (record c { rounds = record c.rounds { pass = behind_child c.rounds.pass } }) state

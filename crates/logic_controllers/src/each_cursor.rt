@@ -56,7 +56,7 @@ fn copied_value(alloc: Global, vars: &Vars, name: &Text) -> M<Option<Text>>
     }
 }
 
-/// Which variables of a row are read: whether `_` stands in front of their numbers, the number before the first one and
+/// Which variables of a row are read: whether `_` stands before their numbers, the number before the first one and
 /// the number of the last one.
 #[derive(Clone, Copy)]
 pub struct Span {
@@ -117,7 +117,7 @@ impl EachCursor {
     }
 
     /// Opens the round that began last, where that is still to come: sets `__jm__NAME__idx` to the round's index, from
-    /// 0, and then the output to its value. Then it is the next child, or behind the last one, and before the first
+    /// 0, and then the output to its value. Then it is the next child, or after the last one, and before the first
     /// round, the next variable is read: it is `Round` where it is defined and not past the end, and else `Over`.
     ///
     /// `ValueLimit` comes where a variable that is set would be past a limit.
@@ -230,7 +230,7 @@ impl EachCursor {
         }
     }
 
-    // What comes next in a round that is open, or behind it.
+    // What comes next in a round that is open, or after it.
     fn go_on(
         &mut self,
         alloc: Global,

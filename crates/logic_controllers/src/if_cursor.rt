@@ -86,7 +86,7 @@ impl IfCursor {
         )
     }
 
-    // Evaluates the condition where it is not to be before each child, with so many children to run.
+    // Evaluates the condition where it is not to be before each child, with this many children to run.
     fn begin<O: Outside>(
         &mut self,
         alloc: Global,
@@ -116,7 +116,7 @@ impl IfCursor {
         }
     }
 
-    /// The next child, or `Over` behind the last one. With `all` the condition is expanded before each child, and it is
+    /// The next child, or `Over` after the last one. With `all` the condition is expanded before each child, and it is
     /// `Over` where it isn't true.
     ///
     /// `ValueLimit` comes where the expansion would be past its limit. A call that refuses leaves the cursor as it was.

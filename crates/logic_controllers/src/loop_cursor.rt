@@ -61,7 +61,7 @@ impl LoopCursor {
         }
     }
 
-    /// Expands `loops`: decimal digits ask for so many rounds, `-1` for rounds without end, any other text for none.
+    /// Expands `loops`: decimal digits ask for that many rounds, `-1` for rounds without end, any other text for none.
     ///
     /// `ValueLimit` comes where the expansion would be past its limit. A call that refuses leaves the cursor as it was.
     pub fn enter<O: Outside>(
@@ -90,7 +90,7 @@ impl LoopCursor {
         self.begin(alloc, loops, run_count(plan, element), state, outside)
     }
 
-    // Expands the text of `loops`, with so many children to run in each round.
+    // Expands the text of `loops`, with this many children to run in each round.
     fn begin<O: Outside>(
         &mut self,
         alloc: Global,
@@ -117,7 +117,7 @@ impl LoopCursor {
     }
 
     /// Opens the round that began last, where that is still to come: sets `__jm__NAME__idx` to the round's index, from
-    /// 0. Then it is the next child, or behind the last one `Round` where a further round begins, or `Over`.
+    /// 0. Then it is the next child, or after the last one `Round` where a further round begins, or `Over`.
     ///
     /// `ValueLimit` comes where the variable would be past a limit. A call that refuses leaves all as it was.
     pub fn next<O: Outside>(

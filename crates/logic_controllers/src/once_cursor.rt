@@ -56,7 +56,7 @@ impl OnceCursor {
         Ok(())
     }
 
-    /// The next child where `round` is 0, and `Over` in every other round and behind the last child. `round` counts,
+    /// The next child where `round` is 0, and `Over` in every other round and after the last child. `round` counts,
     /// from 0, the rounds of the nearest looping element around. It takes no memory.
     pub fn next<O: Outside>(
         &mut self,

@@ -39,7 +39,7 @@ pub fn index_name(alloc: Global, name: &[u8]) -> M<Text>
     Ok(Text::of(text))
 }
 
-/// Sets a variable whose name and value may have wanted memory.
+/// Sets a variable, where there was memory for its name and its value.
 pub(crate) fn put_text(vars: &mut Vars, name: M<Text>, value: M<Text>) -> Result<(), VarError>
     ensures { (n v : List ℕ) → IfOk name (λ t. t ≡ n) → IfOk value (λ t. t ≡ v) → Puts (put_var n v vars.old) vars.old vars.new result }
 {

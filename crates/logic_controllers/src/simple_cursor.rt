@@ -55,7 +55,7 @@ impl SimpleCursor {
         Ok(())
     }
 
-    /// The next child, or `Over` behind the last one. It takes no memory.
+    /// The next child, or `Over` after the last one. It takes no memory.
     pub fn next<O: Outside>(
         &mut self,
         _alloc: Global,

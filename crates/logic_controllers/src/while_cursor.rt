@@ -92,7 +92,7 @@ impl WhileCursor {
     }
 
     /// Opens the round that began last, where that is still to come: sets `__jm__NAME__idx` to the round's index, from
-    /// 0. Then it is the next child, or behind the last one, and before the first round, the condition is expanded: it
+    /// 0. Then it is the next child, or after the last one, and before the first round, the condition is expanded: it
     /// is `Round` where a further round begins, and else `Over`.
     ///
     /// `ValueLimit` comes where the variable or the expansion would be past a limit. In the first case all is left as it
@@ -152,7 +152,7 @@ impl WhileCursor {
         }
     }
 
-    // What comes next in a round that is open, or behind it.
+    // What comes next in a round that is open, or after it.
     fn go_on<O: Outside>(
         &mut self,
         alloc: Global,

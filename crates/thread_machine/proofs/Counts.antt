@@ -1,4 +1,4 @@
--- How many samples a trace has, behind a step and behind a sample that is noted.
+-- How many samples a trace has, after a step and after a sample that is noted.
 use Rattle.std.proofs.Common.{◌≡◌, ℕ, ◌+◌, ◌≤◌, ◌<◌, List, [], ◌∷◌, ◌++◌, None, ap, ◌∙◌, inl, inr, arith}
 use Rattle.std.proofs.lemmas.List.Sums.{sum_by_push}
 use Rattle.jm_base.specs.declared.types.Entry.{Entry}
@@ -19,7 +19,7 @@ use Rattle.thread_machine.specs.Stepped.{Begins, IsOver, Ends, Steps}
 one_more : (old new : List TraceItem) (item : TraceItem) → new ≡ old ++ item ∷ [] → samples_in new ≡ samples_in old + one_if_sample item
 one_more old new item is = ap samples_in is ∙ sum_by_push one_if_sample old item
 
--- the samples of the trace and the units that are left are at most so many
+-- the samples of the trace and the units that are left are at most this many
 abbrev pub Fits : ℕ → Standing → Type 0
 Fits most w = samples_in w.trace + w.units ≤ most
 

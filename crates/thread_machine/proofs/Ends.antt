@@ -165,7 +165,7 @@ pub noted_is : (interval : ℕ) (old new : Standing) (sample : Sample) → old.o
     → new ≡ record old { owed = None; trace = old.trace ++ TracedSample sample interval ∷ [] }
 noted_is interval old new sample owed h = rw owed at h
 
--- until it has ended, what a thread shows is a front of its events over what was told
+-- until it has ended, what a thread shows is a prefix of its events over what was told
 pub shows_a_front : ShowsAFront
 shows_a_front start now options w stands nothing =
     let run : Run (Unit {0}) = events w.plan w.thread options in

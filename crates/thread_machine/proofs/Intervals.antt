@@ -1,4 +1,4 @@
--- In which interval the samples of a trace are counted, behind a step and behind a sample that is noted.
+-- In which interval the samples of a trace are counted, after a step and after a sample that is noted.
 use Rattle.std.proofs.Common.{◌≡◌, ℕ, List, [], ◌∷◌, ◌++◌, None, refl, ap, inl, inr}
 use Rattle.std.specs.Prelude.{All}
 use Rattle.std.proofs.lemmas.List.Elements.{All-push}

@@ -60,7 +60,7 @@ module _ (here : Here) (number : ℕ) (s : State) (e : Element) (q : Pieces) whe
       → sampler_part here number (slice_get here.plan.elements number) s ≡ with_unit s (sampling label_in number q here.at_failure)
   sampler-is there is = ap (λ o. sampler_part here number o s) there ∙ by_kind e.kind is
 
--- a sampler's event, and the machine behind it
+-- a sampler's event, and the machine after it
 abbrev event_of : ℕ → Option Sample → Event
 event_of number None = Nothing number
 event_of number (Some sample) = Sampled Sampler sample

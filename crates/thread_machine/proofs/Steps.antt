@@ -37,7 +37,7 @@ use Rattle.thread_machine.specs.Inside.{standing_of}
 use Rattle.thread_machine.specs.Ran.{is_end, left_to, IsTaken, IsSameThread, IsRefusedAt, IsBegun, IsCutAt, IsCutBehind}
 use Rattle.thread_machine.proofs.FirstLaws.{first_alike}
 
--- behind the pause, and behind the first variables
+-- after the pause, and after the first variables
 pub rest_on : (w : Runner) → w.pause ≡ 0 → rest (standing_of w false) ≡ and_end (left_to w)
 rest_on w paused = ap (λ n. behind_pause n (and_end (left_to w))) paused
 
@@ -55,7 +55,7 @@ left_first w begun =
 
 -- ---- from move to move
 
--- behind the begin of a round nothing is given
+-- after the begin of a round nothing is given
 pub round_goes : (a b : Account) (plan : Tree) (m : Machine) (s : State) (run : Run Ending) (move : Move) (index : ℕ) → move ≡ Iteration index
     → Goes a run [] (moved plan m s move) b → Goes a run [] (left_of plan m s) b
 round_goes a b plan m s run move index is g = subst (λ k. Goes a run [] (moved plan m s k) b) is g
@@ -101,7 +101,7 @@ finish_goes a b run s RoundLimit is g = end_goes a b run s RoundLimit g
 finish_goes a b run s PastValueLimit is g = absurd is
 finish_goes a b run s EndNoMemory is g = absurd is
 
--- an end that a machine finishes with is no want of memory and no stop
+-- an end that a machine finishes with is neither out of memory nor a stop
 ends : (a b : Account) (run : Run (Unit {0})) (old new : Standing) (end : End) → IsFinish end → IsOver a b run old new end → Ends a b run old new end
 ends a b run old new Completed is h = h
 ends a b run old new StopThread is h = h
@@ -143,7 +143,7 @@ finished a b w mid new s end move step move_is is goes mid_is new_is items step_
     subst (λ k. Gives a b (and_end (left_to w)) (standing_of w false) (standing_of new (is_end k)) k) (sym step_is)
     (ends a b (and_end (left_to w)) (standing_of w false) (standing_of new true) end is done)
 
--- ---- a step behind what came before it
+-- ---- a step after what came before it
 
 ends_behind : (a m b : Account) (run run' : Run (Unit {0})) (w : Standing) (begun : Bool) (user : UserState) (machine : Machine) (new : Standing) (end : End) → Goes a run [] run' m
     → Ends m b run' (record w { begun = begun; user = user; machine = machine }) new end → Ends a b run w new end
@@ -235,7 +235,7 @@ past_the_limit a b w mid new error step paused is r new_is items step_is =
       owed = same.owed ∙ r.same.owed;
     }) (items ∙ ap (λ t. t.items ++ EndedItem PastValueLimit ∷ []) r.trace))
 
--- for want of memory it is cut
+-- out of memory, it is cut
 pub cut_there : (a b : Account) (w mid : Runner) (error : VarError) → w.pause ≡ 0 → error ≡ NoMemory → IsRefusedAt a (left_to w) b w mid error → IsCutAt a b w mid
 cut_there a b w mid error paused is r =
     let h : (left : Run Ending) × Goes a (left_to w) [] left b = memory_of a b (left_to w) (past r.state) error is r.refused in
@@ -277,7 +277,7 @@ cut_at_once a w new same items = record {
   cut = record { left = rest (standing_of w false); goes = goes-nothing a (rest (standing_of w false)); same = same; items = items };
 }
 
--- a thread that was cut has ended for want of memory
+-- a thread that was cut has ended out of memory
 pub cut_ended : (a b : Account) (w new : Runner) (t : Recorded) → IsCutBehind a b w new → t.items ≡ new.trace.items ++ EndedItem EndNoMemory ∷ []
     → Steps a b (standing_of w false) (standing_of (record new { trace = t }) true) (EndedStep EndNoMemory)
 cut_ended a b w new t h items = record {

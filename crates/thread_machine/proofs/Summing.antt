@@ -95,7 +95,7 @@ module _ (w : Runner) (number : ℕ) (tally : Tally) (r : IsTransaction w.plan.n
         subst (λ k. Gives a a (and_end sum_run) (standing_of w false) (standing_of new (is_end k)) k) (sym step_is)
         (subst (λ k. GivesSample a a (and_end sum_run) (standing_of w false) (standing_of k false) (entry_of sample)) (sym new_is) g)
 
-  -- memory is wanting
+  -- out of memory
   pub sum_wanting : (a : Account) → IsRefusedAt a sum_run a w w NoMemory
   sum_wanting a = record {
     state = before;

@@ -27,7 +27,7 @@ IsCountedIn k (EnteredItem lock place) = Unit {0}
 IsCountedIn k (LeftItem lock) = Unit {0}
 IsCountedIn k (EndedItem end) = Unit {0}
 
--- a sample's label is one of so many labels
+-- a sample's label is one of this many labels
 abbrev pub IsLabelled : ℕ → TraceItem → Type 0
 IsLabelled labels (PausedItem ms) = Unit {0}
 IsLabelled labels (SampledItem sample interval) = sample.label < labels

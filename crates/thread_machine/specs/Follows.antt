@@ -30,7 +30,7 @@ pub record Follows (start now : Account) (plan : Tree) (thread : ℕ) (options :
   pub told : start.told ≡ Some [] → (told : List Heard) × (now.told ≡ Some told) × FollowsWhole plan thread options told trace
   pub scripted : (v : Scripts) → start.value ≡ Some v → IsScripted plan thread options v trace
 
--- how the trace of a thread with this end stands; of one that was cut for want of memory nothing but its end is said
+-- how the trace of a thread with this end stands; of one that was cut, out of memory, nothing but its end is said
 abbrev pub HasRun : Account → Account → Tree → ℕ → Options → List TraceItem → End → Type 0
 HasRun start now plan thread options trace Completed = Follows start now plan thread options trace Completed
 HasRun start now plan thread options trace StopThread = Follows start now plan thread options trace StopThread

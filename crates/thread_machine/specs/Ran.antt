@@ -52,7 +52,7 @@ pub record IsSameThread (old new : Runner) : Type 0 where
   pub pause : new.pause ≡ old.pause
   pub owed : new.owed ≡ old.owed
 
--- The run was refused on its way: past a limit, or cut for want of memory. The trace stays, and what is owed to it.
+-- The run was refused on its way: past a limit, or cut, out of memory. The trace stays, and what is owed to it.
 pub record IsRefusedAt (before : Account) (run : Run Ending) (after : Account) (old new : Runner) (error : VarError) : Type 0 where
   pub state : State
   pub refused : Refused before run after (past state) error
@@ -71,7 +71,7 @@ pub record IsBegun (before after : Account) (old new : Runner) : Type 0 where
   pub begins : Begins before after (standing_of old false) (standing_of new false)
   pub kept : new ≡ record old { pause = 0; trace = new.trace }
 
--- the run was cut before the pause or behind it
+-- the run was cut before the pause or after it
 pub record IsCutBehind (before after : Account) (old new : Runner) : Type 0 where
   pub begun : Account
   pub between : Runner

@@ -1,4 +1,4 @@
--- How a thread's trace stands behind a step.
+-- How a thread's trace stands after a step.
 use Rattle.std.specs.Prelude.{◌≡◌, List, [], ◌++◌, map, Some}
 use Rattle.jm_base.specs.declared.types.Heard.{Heard}
 use Rattle.jm_base.specs.Run.{over_value}
@@ -26,7 +26,7 @@ pub record IsFront (told : List Heard) (options : Options) (w : Standing) : Type
   pub more : List Item
   pub items : map shown (over_value list_form (events w.plan w.thread options) told).events ≡ (bare w.trace ++ owed_items w.owed) ++ more
 
--- A thread that stands shows a front of its events over what was told.
+-- A thread that stands shows a prefix of its events over what was told.
 abbrev pub ShowsAFront : Type 0
 ShowsAFront = (start now : Account) (options : Options) (w : Standing) → Stands start now options w → start.told ≡ Some []
     → (told : List Heard) × (now.told ≡ Some told) × IsFront told options w

@@ -73,7 +73,7 @@ pub record IsOver (before after : Account) (run : Run (Unit {0})) (old new : Sta
   pub goes : Goes before run (Ended end ∷ []) (over tt) after
   pub new_is : new ≡ record old { begun = new.begun; user = new.user; units = new.units; machine = new.machine; trace = old.trace ++ EndedItem end ∷ []; ended = true }
 
--- memory was wanting: the run has given nothing more, was cut somewhere on its way, and the trace says so
+-- out of memory: the run has given nothing more, was cut somewhere on its way, and the trace says so
 pub record IsCut (before after : Account) (run : Run (Unit {0})) (old new : Standing) : Type 0 where
   pub left : Run (Unit {0})
   pub goes : Goes before run [] left after
@@ -89,7 +89,7 @@ Ends before after run old new RoundLimit = IsOver before after run old new Round
 Ends before after run old new ValueLimit = IsOver before after run old new ValueLimit
 Ends before after run old new NoMemory = IsCut before after run old new
 
--- what a step that answers so has done of this run, which was left behind the pause
+-- what a step that answers so has done of this run, which was left after the pause
 abbrev pub Gives : Account → Account → Run (Unit {0}) → Standing → Standing → Step → Type 0
 Gives before after run old new (SampledStep entry) = GivesSample before after run old new entry
 Gives before after run old new NullStep = GivesNone before after run old new

@@ -74,7 +74,7 @@ impl<'p> Runner<'p> {
         })
     }
 
-    /// A step. Where memory is wanting the thread stays as it was cut, with room for its end.
+    /// A step. Out of memory, the thread stays as it was cut, with room for its end.
     pub fn try_step<O: Outside>(&mut self, outside: &mut O) -> M<Step>
         requires owed { self.old.owed ≡ None }
         requires on { GoesOn self.old }
@@ -106,7 +106,7 @@ impl<'p> Runner<'p> {
         Ok(())
     }
 
-    // What comes next behind the pause: a sampler runs, or the thread ends. A limit ends it.
+    // What comes next after the pause: a sampler runs, or the thread ends. A limit ends it.
     fn go_on<O: Outside>(&mut self, outside: &mut O) -> M<Step>
         requires owed { self.old.owed ≡ None }
         requires pause { self.old.pause ≡ 0 }

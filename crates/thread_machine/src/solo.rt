@@ -1,4 +1,4 @@
-// One thread of a plan from its start to its end, with nobody who counts its samples.
+// One thread of a plan from its start to its end, where no one counts its samples.
 
 ghost use Rattle.std.specs.Prelude.{◌≡◌, ◌<◌, ◌≤◌, ◌+◌, All, length, IfOk, false, None};
 ghost use Rattle.element_tree.specs.Tree.{threads_of};

@@ -9,7 +9,7 @@ use std::marker::Model;
 /// One item of a thread's trace.
 #[derive(Drop)]
 pub enum TraceItem {
-    /// A pause of so many milliseconds.
+    /// A pause of this many milliseconds.
     Paused(u32),
     /// A sample, and the interval in which it was counted.
     Sampled { sample: Sample, interval: u64 },
@@ -48,7 +48,7 @@ impl Trace {
         Ok(Trace { items })
     }
 
-    /// Takes room for three items: a pause, what comes behind it, and the thread's end.
+    /// Takes room for three items: a pause, what comes after it, and the thread's end.
     pub fn make_room(&mut self) -> M<()>
         ensures ok { OnOk result (3 ≤ self.new.room) }
         ensures kept { self.old.room ≤ self.new.room }

@@ -71,7 +71,7 @@ impl<'p> Worker<'p> {
     ///
     /// A step that comes to a sampler with no unit left ends the thread with `End::SampleLimit`, one that comes to a round
     /// with none left with `End::RoundLimit`, and a text, a value or variables past their limit with `End::ValueLimit`.
-    /// Where memory is wanting the thread ends with `End::NoMemory`.
+    /// Out of memory, the thread ends with `End::NoMemory`.
     pub fn step<O: Outside>(&mut self, outside: &mut O) -> Step
         requires owed { self.old.owed ≡ None }
         requires going { self.old.ended ≡ false }
@@ -123,7 +123,7 @@ impl<'p> Worker<'p> {
     }
 }
 
-/// The law of a thread that has not ended: its trace, and the sample that is owed to it, show a front of the thread's events
+/// The law of a thread that has not ended: its trace, and the sample that is owed to it, show a prefix of the thread's events
 /// over what its outside was told since it began.
 pub fn a_trace_is_a_front()
     ensures { ShowsAFront }
