@@ -1,5 +1,5 @@
--- A reading refuses nothing in the name of the maker of patterns, so a refusal of the maker's has its cause there.
-use Rattle.std.proofs.Common.{◌≡◌, ℕ, ◌<◌, ◌≤◌, Bool, true, false, ◌||◌, List, [], ◌∷◌, ◌++◌, Option, Some, None, Result, Ok, Err, IfOk, refl, sym, ap, ◌∙◌, true≢false, if◌then◌else◌, cond, codes, option_and_then, inl, inr, arith}
+-- A reading refuses nothing by a pattern's size, so such a refusal has its cause in the maker of patterns.
+use Rattle.std.proofs.Common.{◌≡◌, ℕ, ◌<◌, ◌≤◌, Bool, true, false, ◌||◌, List, [], ◌∷◌, ◌++◌, Option, Some, None, Result, Ok, Err, IfOk, refl, sym, ap, ◌∙◌, IsSome, true≢false, if◌then◌else◌, cond, codes, option_and_then, inl, inr, arith}
 use Rattle.jm_base.specs.Counts.{Rose}
 use Rattle.serde_json.specs.Data.{Data, Members}
 use Rattle.serde_json.specs.Find.{get_member, as_str, as_array}
@@ -12,7 +12,7 @@ use Rattle.element_props.specs.declared.prop.Prop.TheVariants as props
 use Rattle.element_props.specs.Rows.{Form, Row}
 use Rattle.element_props.specs.Patterns.{Asked, Asks, reading_of}
 use Rattle.element_props.specs.Answers.{is_of_maker, IsByPlan, Answered}
-use Rattle.element_props.specs.Reads.{Reads, over, refuse, ask, ◌>>=◌, refuse_if, or_refuse, outcome, Path, here, asked, Goes, Ends, refused, unread, too_large, Stops, Gives}
+use Rattle.element_props.specs.Reads.{Reads, over, refuse, ask, ◌>>=◌, refuse_if, or_refuse, outcome, judged_at, judged, Path, here, asked, Goes, Ends, refused, unread, too_large, Stops, Gives}
 use Rattle.element_props.specs.Conditions.{bad_condition}
 use Rattle.element_props.specs.Forms.{is_too_long, value_of, finished, bad_pair, pattern_asked, pattern_checked, around, around_asked, one_asked, each_asked, is_test, whole_of, regexes_checked, tests_checked, tests_given, few_of, is_pattern, is_test_patterns, has_reference, given}
 use Rattle.element_props.specs.Props.{prop_at, property_of, property, properties, unknown, missing, own_properties, no_name}
@@ -117,33 +117,49 @@ own_all places ms rows =
 
 own_path : {A : Type 0} {r s : Reads A} {ts : List (List ℕ)} → Path r ts s → Own r → Own s
 own_path here h = h
-own_path (asked q) h = own_path q h
+own_path (asked some q) h = own_path q h
+
+judged_some : {A R : Type 0} (p : Place) (o : Option R) (rest : Result A BuildError) → IsSome o → judged_at p o rest ≡ rest
+judged_some p None rest some = cc
+judged_some p (Some re) rest some = refl
+
+judged_none : {A R : Type 0} (p : Place) (o : Option R) (rest : Result A BuildError) → o ≡ None → judged_at p o rest ≡ Err (errors.BadPattern p Syntax)
+judged_none p o rest none = rw none refl
+
+path_judged : {A : Type 0} {r s : Reads A} {ts : List (List ℕ)} → Path r ts s → judged r ≡ judged s
+path_judged here = refl
+path_judged (asked {p} {t} {r} some q) = judged_some p (reading_of t) (judged r) some ∙ path_judged q
+
+-- what was read is what the plan says, each pattern judged by the grammar
+pub goes_judged : {A : Type 0} {a b : Asked} {r : Reads A} {x : A} → Goes a r (over x) b → judged r ≡ Ok x
+goes_judged g = path_judged g.path
+
+ends_judged : {A : Type 0} {m n : ℕ} {e : BuildError} {r : Reads A} {last : List (List ℕ)} → is_of_maker e ≡ false → Ends m n e r last → judged r ≡ Err e
+ends_judged h refused = refl
+ends_judged h (unread {p} {t} {r} none) = judged_none p (reading_of t) (judged r) none
+ends_judged h (too_large k) = absurd (true≢false h)
+
+-- a refusal, but one by a pattern's size, is the first one
+pub stops_judged : {A : Type 0} {a b : Asked} {r : Reads A} {e : BuildError} → is_of_maker e ≡ false → Stops a r e b → judged r ≡ Err e
+stops_judged h s = path_judged s.path ∙ ends_judged h s.ends
 
 path_outcome : {A : Type 0} {r s : Reads A} {ts : List (List ℕ)} → Path r ts s → outcome r ≡ outcome s
 path_outcome here = refl
-path_outcome (asked q) = path_outcome q
+path_outcome (asked some q) = path_outcome q
 
--- what was read is what the plan says, with every pattern taken as good
+-- the same with every pattern taken as good
 pub goes_outcome : {A : Type 0} {a b : Asked} {r : Reads A} {x : A} → Goes a r (over x) b → outcome r ≡ Ok x
 goes_outcome g = path_outcome g.path
 
-ends_outcome : {A : Type 0} {m n : ℕ} {e : BuildError} {r : Reads A} {last : List (List ℕ)} → is_of_maker e ≡ false → Ends m n e r last → outcome r ≡ Err e
-ends_outcome h refused = refl
-ends_outcome h (unread k) = absurd (true≢false h)
-ends_outcome h (too_large k) = absurd (true≢false h)
+some_judged : {A R : Type 0} (p : Place) (o : Option R) (rest : Result A BuildError) (x : A) → judged_at p o rest ≡ Ok x → rest ≡ Ok x
+some_judged p None rest x h = cc
+some_judged p (Some re) rest x h = h
 
--- a refusal that is not the maker's is the first one
-pub stops_outcome : {A : Type 0} {a b : Asked} {r : Reads A} {e : BuildError} → is_of_maker e ≡ false → Stops a r e b → outcome r ≡ Err e
-stops_outcome h s = path_outcome s.path ∙ ends_outcome h s.ends
-
-no_reading : {A : Type 0} {m n : ℕ} {p : Place} {e : BuildError} {r : Reads A} {last : List (List ℕ)} → e ≡ errors.BadPattern p Syntax → Own r → Ends m n e r last → (t : List ℕ) × (reading_of t ≡ None)
-no_reading {e} same own refused = absurd (true≢false (sym (ap is_of_maker same) ∙ own))
-no_reading same own (unread {t} none) = (t, none)
-no_reading same own (too_large k) = cc
-
--- the maker refuses by its grammar a text alone that has no reading
-pub stops_syntax : {A : Type 0} {a b : Asked} {r : Reads A} (p : Place) → Own r → Stops a r (errors.BadPattern p Syntax) b → (t : List ℕ) × (reading_of t ≡ None)
-stops_syntax p own s = no_reading refl (own_path s.path own) s.ends
+-- what is read with each pattern judged is read with every pattern taken as good
+pub judged_outcome : {A : Type 0} (r : Reads A) (x : A) → judged r ≡ Ok x → outcome r ≡ Ok x
+judged_outcome (over y) x h = h
+judged_outcome (refuse e) x h = h
+judged_outcome (ask p t r) x h = judged_outcome r x (some_judged p (reading_of t) (judged r) x h)
 
 has_risen : {A : Type 0} {m n : ℕ} {p : Place} {e : BuildError} {r : Reads A} {last : List (List ℕ)} → e ≡ errors.BadPattern p Size → Own r → Ends m n e r last → Rose m n
 has_risen same own refused = absurd (true≢false (sym (ap is_of_maker same) ∙ own))
@@ -154,17 +170,13 @@ has_risen same own (too_large k) = k
 pub stops_size : {A : Type 0} {a b : Asked} {r : Reads A} (p : Place) → Own r → Stops a r (errors.BadPattern p Size) b → Rose a.oversize b.oversize
 stops_size p own s = has_risen refl (own_path s.path own) s.ends
 
-pub gives_read : {X A : Type 0} (seen : X → A) (a b : Asked) (r : Reads A) (res : Result X BuildError) → Gives seen a r res b → IfOk res (λ x. outcome r ≡ Ok (seen x))
-gives_read seen a b r (Ok x) g = goes_outcome g
-gives_read seen a b r (Err e) g = tt
+pub gives_judged : {X A : Type 0} (seen : X → A) (a b : Asked) (r : Reads A) (res : Result X BuildError) → Gives seen a r res b → IfOk res (λ x. judged r ≡ Ok (seen x))
+gives_judged seen a b r (Ok x) g = goes_judged g
+gives_judged seen a b r (Err e) g = tt
 
-pub gives_refused : {X A : Type 0} (seen : X → A) (a b : Asked) (r : Reads A) (res : Result X BuildError) (e : BuildError) → Gives seen a r res b → res ≡ Err e → IsByPlan e → outcome r ≡ Err e
+pub gives_refused : {X A : Type 0} (seen : X → A) (a b : Asked) (r : Reads A) (res : Result X BuildError) (e : BuildError) → Gives seen a r res b → res ≡ Err e → IsByPlan e → judged r ≡ Err e
 gives_refused seen a b r (Ok x) e g is h = cc
-gives_refused seen a b r (Err f) e g is h = let same : f ≡ e = cc in stops_outcome (ap is_of_maker same ∙ h.0) (g (λ none. h.1 (sym same ∙ none))) ∙ ap Err same
-
-pub gives_syntax : {X A : Type 0} (seen : X → A) (a b : Asked) (r : Reads A) (res : Result X BuildError) (p : Place) → Own r → Gives seen a r res b → res ≡ Err (errors.BadPattern p Syntax) → (t : List ℕ) × (reading_of t ≡ None)
-gives_syntax seen a b r (Ok x) p own g is = cc
-gives_syntax seen a b r (Err f) p own g is = let same : f ≡ errors.BadPattern p Syntax = cc in let s = g (λ none. cc) in no_reading same (own_path s.path own) s.ends
+gives_refused seen a b r (Err f) e g is h = let same : f ≡ e = cc in stops_judged (ap is_of_maker same ∙ h.0) (g (λ none. h.1 (sym same ∙ none))) ∙ ap Err same
 
 pub gives_size : {X A : Type 0} (seen : X → A) (a b : Asked) (r : Reads A) (res : Result X BuildError) (p : Place) → Own r → Gives seen a r res b → res ≡ Err (errors.BadPattern p Size) → Rose a.oversize b.oversize
 gives_size seen a b r (Ok x) p own g is = cc

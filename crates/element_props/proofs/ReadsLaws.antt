@@ -8,7 +8,7 @@ use Rattle.plan_json.specs.Place.{Place}
 use Rattle.element_props.specs.declared.error.BuildError.{BuildError}
 use Rattle.element_props.specs.declared.error.BuildError.TheVariants as errors
 use Rattle.element_props.specs.declared.error.PatternFault.TheVariants.{Reference, Syntax, Size}
-use Rattle.element_props.specs.Patterns.{Asked, Asks, reading_of}
+use Rattle.element_props.specs.Patterns.{Asked, Asks, reading_of, HasReading}
 use Rattle.serde_json.specs.Data.{Data, Members}
 use Rattle.serde_json.specs.Find.{as_str, as_array}
 use Rattle.element_props.specs.declared.error.What.TheVariants as what
@@ -34,11 +34,11 @@ asks_append {a} {b} {c} {xs} {ys} h k = record { told = told_append a.told b.tol
 
 pub path_append : {A : Type 0} {r s t : Reads A} {xs ys : List (List ℕ)} → Path r xs s → Path s ys t → Path r (xs ++ ys) t
 path_append here q = q
-path_append (asked p) q = asked (path_append p q)
+path_append (asked some p) q = asked some (path_append p q)
 
 pub path_bind : {A B : Type 0} {r s : Reads A} {xs : List (List ℕ)} (f : A → Reads B) → Path r xs s → Path (r >>= f) xs (s >>= f)
 path_bind f here = here
-path_bind f (asked p) = asked (path_bind f p)
+path_bind f (asked some p) = asked some (path_bind f p)
 
 pub goes_nothing : {A : Type 0} (a : Asked) (r : Reads A) → Goes a r r a
 goes_nothing a r = record { texts = []; asks = asks_nothing a; path = here }
@@ -89,8 +89,8 @@ gives_bind seen f a b c r x (Err e) g h = λ other. stops_after (goes_bind f g) 
 
 -- ---- a pattern
 
-pub asked_made : (a b : Asked) (p : Place) (s : List ℕ) → Asks a (s ∷ []) b → Goes a (ask p s (over s)) (over s) b
-asked_made a b p s k = record { texts = s ∷ []; asks = k; path = asked here }
+pub asked_made : (a b : Asked) (p : Place) (s : List ℕ) → Asks a (s ∷ []) b → HasReading s → Goes a (ask p s (over s)) (over s) b
+asked_made a b p s k some = record { texts = s ∷ []; asks = k; path = asked some here }
 
 pub asked_unread : (a b : Asked) (p : Place) (s : List ℕ) → Asks a (s ∷ []) b → reading_of s ≡ None → Stops a (ask p s (over s)) (errors.BadPattern p Syntax) b
 asked_unread a b p s k none = record { texts = []; last = s ∷ []; rest = ask p s (over s); asks = k; path = here; ends = unread none }

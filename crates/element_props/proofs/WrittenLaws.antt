@@ -1,13 +1,17 @@
 -- Values that are written one after another.
-use Rattle.std.proofs.Common.{◌≡◌, ℕ, suc, ◌+◌, ◌<◌, ◌≤◌, List, [], ◌∷◌, ◌++◌, length, get_or, drop, false, refl, sym, ap, ◌∙◌, add-one, drop-cons, nat_eq, arith, String, Global, string_bytes, string_cmp}
+use Rattle.std.proofs.Common.{◌≡◌, ℕ, zero, suc, min, map, ◌+◌, ◌<◌, ◌≤◌, List, [], ◌∷◌, ◌++◌, length, get_or, drop, false, refl, sym, ap, ◌∙◌, add-one, drop-cons, nat_eq, arith, String, Global, string_bytes, string_cmp}
 use Rattle.std.proofs.lemmas.List.{drop_all}
 use Rattle.std.specs.BTreeMap.{insert_entry}
-use Rattle.serde_json.specs.Data.{Data, Items, no_items, item, put}
+use Rattle.serde_json.specs.Data.{Data, Items, no_items, item, no_members, put}
 use Rattle.serde_json.specs.View.{view, items_view, members_view}
 use Rattle.serde_json.specs.declared.value.Value.{Value}
 use Rattle.serde_json.proofs.Views.{Entry, members_view-insert_entry}
 use Rattle.element_props.specs.declared.prop.Pair.{Pair}
-use Rattle.element_props.specs.Written.{items_by, no_pair}
+use Rattle.element_props.specs.Written.{items_by, no_pair, written}
+use Rattle.element_props.specs.declared.rows.Row.{Row}
+use Rattle.element_props.specs.declared.written.Shown.{Shown}
+use Rattle.element_props.specs.Seen.{row_seen}
+use Rattle.element_props.specs.Shown.{shown_seen}
 
 -- one list after another
 abbrev pub joined : Items → Items → Items
@@ -39,3 +43,10 @@ not_zero n = grind arith
 pub no_pair_empty : (ps : List Pair) → nat_eq (length ps) 0 ≡ no_pair ps
 no_pair_empty [] = refl
 no_pair_empty (p ∷ ps) = not_zero (length ps)
+
+-- where one of the lists has come to its end, there is nothing to write
+pub written_none : (rows : List Row) (vs : List Shown) (n : ℕ) → n ≡ min (length rows) (length vs) → written (map row_seen (drop n rows)) (map shown_seen (drop n vs)) ≡ no_members
+written_none [] vs n is = let over : drop n [] ≡ [] = drop_all {X = Row} n [] (omega arith) in ap (λ (rs : List Row). written (map row_seen rs) (map shown_seen (drop n vs))) over
+written_none (r ∷ rows) [] n is = let none : n ≡ 0 = omega (arith, is) in rw none refl
+written_none (r ∷ rows) (v ∷ vs) zero is = absurd (omega (arith, is))
+written_none (r ∷ rows) (v ∷ vs) (suc n) is = written_none rows vs n (omega (arith, is))

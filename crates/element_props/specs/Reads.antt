@@ -5,7 +5,7 @@ use Rattle.plan_json.specs.Place.{Place}
 use Rattle.element_props.specs.declared.error.BuildError.{BuildError}
 use Rattle.element_props.specs.declared.error.BuildError.TheVariants as errors
 use Rattle.element_props.specs.declared.error.PatternFault.TheVariants.{Reference, Syntax, Size}
-use Rattle.element_props.specs.Patterns.{Asked, Asks, reading_of}
+use Rattle.element_props.specs.Patterns.{Asked, Asks, reading_of, HasReading}
 
 pub data Reads (A : Type 0) : Type 0 where
   over : A → Reads A
@@ -33,10 +33,21 @@ outcome (over x) = Ok x
 outcome (refuse e) = Err e
 outcome (ask p t r) = outcome r
 
--- These texts were asked in order and made, and this is left.
+-- a text with no reading as a pattern is refused at its place
+abbrev pub judged_at : {A R : Type 0} → Place → Option R → Result A BuildError → Result A BuildError
+judged_at p None rest = Err (errors.BadPattern p Syntax)
+judged_at p (Some re) rest = rest
+
+-- with each pattern judged by the grammar of regular expressions: the value, or the first refusal
+abbrev pub judged : {A : Type 0} → Reads A → Result A BuildError
+judged (over x) = Ok x
+judged (refuse e) = Err e
+judged (ask p t r) = judged_at p (reading_of t) (judged r)
+
+-- These texts were asked in order and made, each of which has a reading as a pattern, and this is left.
 pub data Path {A : Type 0} : Reads A → List (List ℕ) → Reads A → Type 0 where
   here : {r : Reads A} → Path r [] r
-  asked : {p : Place} {t : List ℕ} {r s : Reads A} {texts : List (List ℕ)} → Path r texts s → Path (ask p t r) (t ∷ texts) s
+  asked : {p : Place} {t : List ℕ} {r s : Reads A} {texts : List (List ℕ)} → HasReading t → Path r texts s → Path (ask p t r) (t ∷ texts) s
 
 -- Between two moments of the maker of patterns the reading has come so far.
 pub record Goes {A : Type 0} (before : Asked) (reading rest : Reads A) (after : Asked) : Type 0 where

@@ -439,9 +439,12 @@ fn path_text(alloc: Global, value: &Value) -> M<Option<Text>>
 pub fn has_reference(text: &[u8]) -> bool
     ensures { result ≡ has_reference text.now }
 {
-    match text {
-        [] => false,
-        [b'$', b'{', ..] => true,
-        [_, rest @ ..] => has_reference(rest),
+    let mut after_dollar = false;
+    for byte in text {
+        if after_dollar && *byte == b'{' {
+            return true;
+        }
+        after_dollar = *byte == b'$';
     }
+    false
 }

@@ -1,9 +1,9 @@
 // Patterns, each with what was made of it.
 
-ghost use Rattle.std.specs.Prelude.{◌≡◌, ◌≤◌, ◌∷◌, [], Err, None, IfOk};
+ghost use Rattle.std.specs.Prelude.{◌≡◌, ◌≤◌, ◌∷◌, ◌⊎◌, [], Err, None, IfOk, OnOk};
 ghost use Rattle.jm_base.specs.Counts.{Rose};
 ghost use Rattle.regex.specs.Strings.{regex_source};
-ghost use Rattle.element_props.specs.Patterns.{Asked, Asks, IsKept, reading_of};
+ghost use Rattle.element_props.specs.Patterns.{Asked, Asks, HasReading, IsKept, reading_of};
 
 use jm_base::Text;
 use regex::Regex;
@@ -43,10 +43,13 @@ pub trait Patterns {
 
     /// The regular expression that a text is.
     fn make(&mut self, alloc: Global, text: &str) -> Result<Regex, MakeError>
-        // It has been given this text, and nothing else.
+        // It has been given this text and nothing else; where memory ran out, maybe not even this text.
         ensures asks { (result ≡ Err MakeError.NoMemory → ⊥) → Asks (account self.old) (text.now ∷ []) (account self.new) }
+        ensures memory { result ≡ Err MakeError.NoMemory → Asks (account self.old) [] (account self.new) ⊎ Asks (account self.old) (text.now ∷ []) (account self.new) }
         ensures count { (account self.old).oversize ≤ (account self.new).oversize }
         ensures ok { IfOk result (λ r. (regex_source r ≡ text.now) × IsKept r) }
+        // A text of which something was made is a regular expression, and one that is refused by its syntax is not.
+        ensures read { OnOk result (HasReading text.now) }
         ensures syntax { result ≡ Err MakeError.Syntax → reading_of text.now ≡ None }
         ensures size { result ≡ Err MakeError.Size → Rose (account self.old).oversize (account self.new).oversize };
 }

@@ -6,10 +6,9 @@ ghost use Rattle.serde_json.specs.Find.{as_str, get_member};
 ghost use Rattle.plan_json.specs.Shape.{members_in};
 ghost use Rattle.element_props.specs.Conditions.{bad_condition, plain_bytes};
 ghost use Rattle.element_props.specs.Rows.{is_short, are_short};
-ghost use Rattle.element_props.specs.Reads.{Gives, Answers, or_refuse, outcome};
+ghost use Rattle.element_props.specs.Reads.{Gives, Answers, or_refuse, judged};
 ghost use Rattle.element_props.specs.Answers.{Answered, IsByPlan};
-ghost use Rattle.element_props.specs.declared.error.PatternFault.TheVariants.{Syntax, Size};
-ghost use Rattle.element_props.specs.Patterns.{reading_of};
+ghost use Rattle.element_props.specs.declared.error.PatternFault.TheVariants.{Size};
 ghost use Rattle.element_props.specs.declared.error.BuildError.{BuildError};
 ghost use Rattle.plan_json.specs.Place.{Place};
 ghost use Rattle.jm_base.specs.Counts.{Rose};
@@ -53,16 +52,13 @@ fn bad_pair(alloc: Global, pairs: &[Pair]) -> M<Option<u32>>
     requires { AreShort pairs.now }
     ensures { IfOk result (λ o. o ≡ bad_pair pairs.now) }
 {
-    match pairs {
-        [] => Ok(None),
-        [pair, rest @ ..] => {
-            let found = bad_condition(alloc, &pair.value)?;
-            if found.is_some() {
-                return Ok(found);
-            }
-            bad_pair(alloc, rest)
+    for pair in pairs {
+        let found = bad_condition(alloc, &pair.value)?;
+        if found.is_some() {
+            return Ok(found);
         }
     }
+    Ok(None)
 }
 
 fn pairs_prop(
@@ -268,25 +264,24 @@ fn unknown<'a>(rows: &[Row], props: &'a Value) -> Option<&'a str>
 fn has_row(rows: &[Row], name: &str) -> bool
     ensures { result ≡ has_row name.now (map row_seen rows.now) }
 {
-    match rows {
-        [] => false,
-        [row, rest @ ..] => name == row.name || has_row(rest, name),
+    for row in rows {
+        if name == row.name {
+            return true;
+        }
     }
+    false
 }
 
 /// The first required property, in byte order, that is absent.
 fn missing(rows: &[Row], props: &Value) -> Option<&'static str>
     ensures { option_map (λ s. s.now) result ≡ missing (members_in (view props.now)) (map row_seen rows.now) }
 {
-    match rows {
-        [] => None,
-        [row, rest @ ..] => {
-            if is_required(row.presence) && props.get(row.name).is_none() {
-                return Some(row.name);
-            }
-            missing(rest, props)
+    for row in rows {
+        if is_required(row.presence) && props.get(row.name).is_none() {
+            return Some(row.name);
         }
     }
+    None
 }
 
 fn is_required(presence: Presence) -> bool
@@ -340,15 +335,14 @@ pub fn own_properties<G: Patterns>(
     requires { are_short (map row_seen rows.now) ≡ true }
     // The whole answer: how far the reading came, and which patterns were asked for on the way.
     ensures gives { Gives (λ v. v.items) (G.account patterns.old) (own_properties places.now (members_in (view props.now)) (map row_seen rows.now)) result (G.account patterns.new) }
-    // With every pattern taken as good, this is what the properties are, or the first refusal.
-    ensures read { IfOk result (λ v. outcome (own_properties places.now (members_in (view props.now)) (map row_seen rows.now)) ≡ Ok v.items) }
-    ensures refused { (e : BuildError) → result ≡ Err e → IsByPlan e → outcome (own_properties places.now (members_in (view props.now)) (map row_seen rows.now)) ≡ Err e }
+    // With each pattern judged by the grammar of regular expressions, this is what the properties are, or the first refusal.
+    ensures read { IfOk result (λ v. judged (own_properties places.now (members_in (view props.now)) (map row_seen rows.now)) ≡ Ok v.items) }
+    ensures refused { (e : BuildError) → result ≡ Err e → IsByPlan e → judged (own_properties places.now (members_in (view props.now)) (map row_seen rows.now)) ≡ Err e }
     // A property without a row comes before one that is missing, and both before every other fault.
     ensures without_row { (name : List ℕ) → unknown (map row_seen rows.now) (members_in (view props.now)) ≡ Some name → Answered result (BuildError.BadProp (prop_at places.now name)) }
     ensures absent { (name : List ℕ) → unknown (map row_seen rows.now) (members_in (view props.now)) ≡ None → missing (members_in (view props.now)) (map row_seen rows.now) ≡ Some name
         → Answered result (BuildError.MissingProp (prop_at places.now name)) }
-    // What the maker of patterns refuses has its cause in a text, or in its count.
-    ensures syntax { (p : Place) → result ≡ Err (BuildError.BadPattern p Syntax) → (t : List ℕ) × (reading_of t ≡ None) }
+    // The maker of patterns finds one too large only where it counts it.
     ensures size { (p : Place) → result ≡ Err (BuildError.BadPattern p Size) → Rose (G.account patterns.old).oversize (G.account patterns.new).oversize }
 {
     read_own(alloc, rows, places, props, patterns)

@@ -1,9 +1,9 @@
 // A maker of patterns over the regular expressions of `regex`.
 
-ghost use Rattle.std.specs.Prelude.{◌≡◌, ◌≤◌, ◌∷◌, [], ◌↔◌, Err, None, IfOk, OnOk, IsTrue, Contains};
+ghost use Rattle.std.specs.Prelude.{◌≡◌, ◌≤◌, ◌∷◌, [], ◌↔◌, ◌⊎◌, Err, None, IfOk, OnOk, IsTrue, Contains};
 ghost use Rattle.jm_base.specs.Counts.{Rose};
 ghost use Rattle.regex.specs.Strings.{regex_source};
-ghost use Rattle.element_props.specs.Patterns.{Asks, IsKept, reading_of};
+ghost use Rattle.element_props.specs.Patterns.{Asks, HasReading, IsKept, reading_of};
 ghost use Rattle.element_props.specs.Makers.{Maker, new_maker, after_call, after_too_large, asked_of, one_more};
 
 use crate::patterns::{MakeError, Patterns};
@@ -12,7 +12,7 @@ use std::alloc::Global;
 use std::marker::Model;
 
 /// Compiles each text with `regex`, and answers that it is too large in the calls that it was told to, besides where
-/// `regex` does. It doesn't tell which texts it was given.
+/// `regex` does. It doesn't tell which texts it was given. Which regular expressions `regex` finds too large is its own matter.
 #[derive(Drop)]
 pub struct RegexPatterns {
     failing: Vec<u32>,
@@ -61,7 +61,9 @@ fn next_count(count: u64) -> u64
 /// The regular expression that a text is.
 fn compiled(alloc: Global, text: &str) -> Result<Regex, MakeError>
     ensures ok { IfOk result (λ r. (regex_source r ≡ text.now) × IsKept r) }
+    ensures read { OnOk result (HasReading text.now) }
     ensures syntax { result ≡ Err MakeError.Syntax → reading_of text.now ≡ None }
+    ensures size { result ≡ Err MakeError.Size → HasReading text.now }
 {
     match Regex::new(alloc, text) {
         Ok(regex) => Ok(regex),
@@ -77,16 +79,19 @@ impl Patterns for RegexPatterns {
 
     fn make(&mut self, alloc: Global, text: &str) -> Result<Regex, MakeError>
         ensures asks { (result ≡ Err MakeError.NoMemory → ⊥) → Asks (asked_of self.old) (text.now ∷ []) (asked_of self.new) }
+        ensures memory { result ≡ Err MakeError.NoMemory → Asks (asked_of self.old) [] (asked_of self.new) ⊎ Asks (asked_of self.old) (text.now ∷ []) (asked_of self.new) }
         ensures count { self.old.oversize ≤ self.new.oversize }
         ensures ok { IfOk result (λ r. (regex_source r ≡ text.now) × IsKept r) }
+        ensures read { OnOk result (HasReading text.now) }
         ensures syntax { result ≡ Err MakeError.Syntax → reading_of text.now ≡ None }
         ensures size { result ≡ Err MakeError.Size → Rose self.old.oversize self.new.oversize }
 
-        // The calls that it was told to refuse are refused.
+        // The calls that it was told to refuse are refused; in any other call only a regular expression is too large.
         ensures listed { Contains self.old.failing self.old.calls → result ≡ Err MakeError.Size }
+        ensures unlisted { (Contains self.old.failing self.old.calls → ⊥) → result ≡ Err MakeError.Size → HasReading text.now }
 
         // Each call counts, and each text that was too large.
-        ensures made { OnOk result (self.new ≡ after_call self.old) }
+        ensures made { (result ≡ Err MakeError.Size → ⊥) → self.new ≡ after_call self.old }
         ensures too_large { result ≡ Err MakeError.Size → self.new ≡ after_too_large self.old }
     {
         let listed = is_listed(&self.failing, self.calls);

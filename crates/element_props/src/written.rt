@@ -349,15 +349,11 @@ fn put_prop(alloc: Global, map: &mut Map<String, Value>, row: &Row, value: &Show
 pub fn written_members(alloc: Global, rows: &[Row], values: &[Shown<'_>]) -> M<Map<String, Value>>
     ensures { IfOk result (λ m. members_view m.entries ≡ written (map row_seen rows.now) (map shown_seen values.now)) }
 {
-    match rows {
-        [] => Ok(Map::new(alloc)),
-        [row, rest @ ..] => match values {
-            [] => Ok(Map::new(alloc)),
-            [value, more @ ..] => {
-                let mut map = written_members(alloc, rest, more)?;
-                put_prop(alloc, &mut map, row, value)?;
-                Ok(map)
-            }
-        },
+    let mut map = Map::new(alloc);
+    let mut left = rows.len().min(values.len());
+    while left > 0 {
+        left -= 1;
+        put_prop(alloc, &mut map, &rows[left], &values[left])?;
     }
+    Ok(map)
 }
