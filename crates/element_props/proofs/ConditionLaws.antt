@@ -1,11 +1,11 @@
 -- The pieces of a template, one after another.
-use Rattle.std.proofs.Common.{◌≡◌, ℕ, zero, suc, ◌+◌, ◌<◌, ◌≤◌, Vec, Global, List, [], ◌∷◌, Bool, true, false, length, get_or, drop, arith, Option, Some, None, option_and_then, refl, sym, ap, ◌∙◌, cond, add-one, drop-cons, subst, nat_eq}
+use Rattle.std.proofs.Common.{◌≡◌, ℕ, zero, suc, ◌+◌, ◌<◌, ◌≤◌, List, [], ◌∷◌, false, length, get_or, drop, arith, option_and_then, refl, sym, ap, ◌∙◌, add-one, drop-cons, nat_eq}
 use Rattle.template_text.specs.declared.template.Piece.{Piece}
 use Rattle.template_text.specs.declared.template.Piece.TheVariants.{Text, Var, Call}
 use Rattle.template_text.specs.View.{pieces_of, arguments_of, reference_of, weight}
-use Rattle.template_text.specs.Pieces.{Pieces, no_more, text, reference, Arguments, argument}
-use Rattle.element_props.specs.Conditions.{first_of, bad_condition, bad_reference, bad_argument, is_end, single_text, only_text, condition_of, plain_bytes, arguments_bytes}
-use Rattle.element_props.specs.PieceViews.{text_in, bytes_in, piece_weight}
+use Rattle.template_text.specs.Pieces.{Pieces, no_more, text, reference}
+use Rattle.element_props.specs.Conditions.{first_of, bad_condition, bad_reference, bad_argument, is_end, plain_bytes, arguments_bytes}
+use Rattle.element_props.specs.PieceViews.{bytes_in, piece_weight}
 
 pub bad_step : (p : Piece) (ps : List Piece) → bad_condition (pieces_of (p ∷ ps)) ≡ first_of (option_and_then bad_reference (reference_of p)) (bad_condition (pieces_of ps))
 bad_step (Text t) ps = refl

@@ -1,27 +1,27 @@
 -- A value that was read under a form is written so that it is read again under it.
-use Rattle.std.proofs.Common.{◌≡◌, ℕ, zero, suc, ◌+◌, ◌<◌, ◌≤◌, ◌^◌, ℤ, pos, negsuc, Bool, true, false, not, ◌||◌, ◌&&◌, List, [], ◌∷◌, ◌++◌, length, Option, Some, None, option_map, option_and_then, refl, sym, ap, ap₂, ◌∙◌, cond, if◌then◌else◌, codes, bytes_eq, nat_lt, nat_le, int_le, arith, decimal, unwrap_or, true≢false, IsUtf8, w64, FitsSigned}
+use Rattle.std.proofs.Common.{◌≡◌, ℕ, zero, suc, ◌+◌, ◌<◌, ◌≤◌, ◌^◌, ℤ, pos, negsuc, Bool, true, false, not, ◌||◌, ◌&&◌, List, [], ◌∷◌, length, Option, Some, None, option_map, option_and_then, refl, sym, ap, ◌∙◌, cond, if◌then◌else◌, bytes_eq, nat_lt, nat_le, int_le, arith, decimal, unwrap_or, true≢false, IsUtf8}
 use Rattle.std.specs.Prelude.{slice_get, slice_index}
 use Rattle.std.specs.Str.Lossy.{utf8_lossy}
-use Rattle.std.specs.List.{position, prefix_len}
+use Rattle.std.specs.List.{prefix_len}
 use Rattle.std.specs.Fmt.{signed_decimal}
 use Rattle.std.proofs.lemmas.Str.{utf8_lossy-IsUtf8, IsUtf8-append, IsUtf8-from_ascii}
 use Rattle.std.proofs.lemmas.Fmt.{IsAscii-decimal}
 use Rattle.std.proofs.lemmas.Slice.Eq.{bytes_eq-Decides}
 use Rattle.std.proofs.lemmas.Bool.Decides.{nat_tests}
-use Rattle.serde_json.specs.Data.{Num, unsigned, negative, float, Data, null, boolean, number, string, array, object, Items, no_items, item, Members}
+use Rattle.serde_json.specs.Data.{Num, unsigned, negative, float, Data, null, boolean, number, string, array, object, Items, no_items, item}
 use Rattle.serde_json.specs.Events.{items_len}
 use Rattle.serde_json.specs.Find.{as_str, as_bool, as_array, as_number, as_i64, of_integer}
-use Rattle.template_text.specs.Pieces.{Pieces, spelling}
+use Rattle.template_text.specs.Pieces.{spelling}
 use Rattle.template_text.specs.Scan.{reading}
 use Rattle.template_text.proofs.Readings.{reading_is}
 use Rattle.element_props.specs.declared.prop.Prop.{Prop}
 use Rattle.element_props.specs.declared.prop.Prop.TheVariants as props
 use Rattle.element_props.specs.declared.prop.Pair.{Pair}
 use Rattle.element_props.specs.Conditions.{bad_condition}
-use Rattle.element_props.specs.Forms.{has_long, items_have_long, number_text, template_text, filled_text, within, whole_within, place_in, pair_from, pair_with, pair_items, pair_in, all_of, few_of, path_text, table_text, bad_pair}
+use Rattle.element_props.specs.Forms.{has_long, items_have_long, number_text, template_text, filled_text, within, whole_within, place_in, pair_from, pair_in, all_of, few_of, path_text, table_text, bad_pair}
 use Rattle.element_props.specs.Written.{text_data, pair_data, items_by, value_data}
 use Rattle.element_props.specs.Rows.{Form, largest}
-use Rattle.element_props.specs.Again.{HasWidth, IsJson, AreJson, HoldJson}
+use Rattle.element_props.specs.Again.{HasWidth, IsJson, AreJson}
 use Rattle.element_props.proofs.FormLaws.{short_decimal, short_signed}
 use Rattle.element_props.proofs.TakenLaws.{no_fault, checked}
 

@@ -1,20 +1,20 @@
 -- A reading refuses nothing by a pattern's size, so such a refusal has its cause in the maker of patterns.
-use Rattle.std.proofs.Common.{◌≡◌, ℕ, ◌<◌, ◌≤◌, Bool, true, false, ◌||◌, List, [], ◌∷◌, ◌++◌, Option, Some, None, Result, Ok, Err, IfOk, refl, sym, ap, ◌∙◌, IsSome, true≢false, if◌then◌else◌, cond, codes, option_and_then, inl, inr, arith}
+use Rattle.std.proofs.Common.{◌≡◌, ℕ, Bool, true, false, ◌||◌, List, [], ◌∷◌, Option, Some, None, Result, Ok, Err, IfOk, refl, sym, ap, ◌∙◌, IsSome, true≢false, if◌then◌else◌, codes, option_and_then}
 use Rattle.jm_base.specs.Counts.{Rose}
 use Rattle.serde_json.specs.Data.{Data, Members}
 use Rattle.serde_json.specs.Find.{get_member, as_str, as_array}
 use Rattle.plan_json.specs.Place.{Place}
 use Rattle.element_props.specs.declared.error.BuildError.{BuildError}
 use Rattle.element_props.specs.declared.error.BuildError.TheVariants as errors
-use Rattle.element_props.specs.declared.error.PatternFault.TheVariants.{Reference, Syntax, Size}
+use Rattle.element_props.specs.declared.error.PatternFault.TheVariants.{Syntax, Size}
 use Rattle.element_props.specs.declared.prop.Prop.{Prop}
 use Rattle.element_props.specs.declared.prop.Prop.TheVariants as props
 use Rattle.element_props.specs.Rows.{Form, Row}
-use Rattle.element_props.specs.Patterns.{Asked, Asks, reading_of}
+use Rattle.element_props.specs.Patterns.{Asked, reading_of}
 use Rattle.element_props.specs.Answers.{is_of_maker, IsByPlan, Answered}
 use Rattle.element_props.specs.Reads.{Reads, over, refuse, ask, ◌>>=◌, refuse_if, or_refuse, outcome, judged_at, judged, Path, here, asked, Goes, Ends, refused, unread, too_large, Stops, Gives}
 use Rattle.element_props.specs.Conditions.{bad_condition}
-use Rattle.element_props.specs.Forms.{is_too_long, value_of, finished, bad_pair, pattern_asked, pattern_checked, around, around_asked, one_asked, each_asked, is_test, whole_of, regexes_checked, tests_checked, tests_given, few_of, is_pattern, is_test_patterns, has_reference, given}
+use Rattle.element_props.specs.Forms.{is_too_long, value_of, finished, bad_pair, pattern_asked, pattern_checked, around_asked, one_asked, each_asked, is_test, regexes_checked, tests_checked, tests_given, few_of, is_pattern, is_test_patterns, has_reference, given}
 use Rattle.element_props.specs.Props.{prop_at, property_of, property, properties, unknown, missing, own_properties, no_name}
 
 abbrev pub Own : {A : Type 0} → Reads A → Type 0

@@ -1,18 +1,17 @@
 -- A reply that was read is written so that it is read again.
-use Rattle.std.proofs.Common.{◌≡◌, ℕ, zero, suc, ◌<◌, ◌≤◌, Bool, true, false, not, ◌&&◌, List, [], ◌∷◌, length, Option, Some, None, refl, sym, ap, ◌∙◌, if◌then◌else◌, codes, bytes_eq, nat_lt, nat_le, nat_eq, arith, IsUtf8}
+use Rattle.std.proofs.Common.{◌≡◌, ℕ, zero, suc, ◌<◌, Bool, true, false, not, List, [], ◌∷◌, length, Option, Some, None, refl, sym, ap, ◌∙◌, if◌then◌else◌, codes, bytes_eq, nat_lt, nat_le, nat_eq, arith, IsUtf8}
 use Rattle.std.specs.Prelude.{slice_index}
 use Rattle.std.specs.Option.{option_map_or}
-use Rattle.std.specs.Str.Lossy.{utf8_lossy}
 use Rattle.std.proofs.lemmas.Str.{utf8_lossy-IsUtf8, IsUtf8-from_ascii}
 use Rattle.std.proofs.lemmas.Slice.Eq.{bytes_eq-Decides}
 use Rattle.std.proofs.lemmas.Bool.Decides.{nat_tests}
 use Rattle.jm_base.specs.declared.types.ScriptReply.{ScriptReply}
-use Rattle.serde_json.specs.Data.{Num, unsigned, negative, float, Data, null, boolean, number, string, array, object, Items, Members, no_members}
-use Rattle.serde_json.specs.Find.{get_member, as_str, as_bool, as_number, as_u64, as_object}
+use Rattle.serde_json.specs.Data.{unsigned, negative, float, Data, null, boolean, number, string, array, object, Members}
+use Rattle.serde_json.specs.Find.{get_member, as_str, as_bool}
 use Rattle.element_props.specs.Forms.{has_long, members_have_long}
-use Rattle.element_props.specs.Replies.{has_only, object_of, at_key, natural_within, reply_keys, reply_in, ◌>>=◌}
-use Rattle.element_props.specs.Written.{text_data, unless, with_entry, reply_members, reply_data}
-use Rattle.element_props.specs.Again.{IsJson, HoldJson}
+use Rattle.element_props.specs.Replies.{has_only, at_key, natural_within, reply_keys, reply_in, ◌>>=◌}
+use Rattle.element_props.specs.Written.{text_data, unless, reply_members, reply_data}
+use Rattle.element_props.specs.Again.{HoldJson}
 use Rattle.element_props.proofs.FormsAgain.{ReadsBack, IsTemplateText, short_text, not_long, where_some}
 use Rattle.element_props.proofs.EntriesAgain.{Named, find, found_entry, is_short_entry, short_entries, only_entries, IsFit, got_fit}
 

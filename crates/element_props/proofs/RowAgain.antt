@@ -1,7 +1,5 @@
 -- A property that was read is written, or left out, so that it is read again.
-use Rattle.std.proofs.Common.{◌≡◌, ℕ, ◌≤◌, ℤ, pos, negsuc, Bool, true, false, not, ◌||◌, ◌&&◌, List, [], ◌∷◌, length, Option, Some, None, option_map, option_and_then, refl, sym, ap, ◌∙◌, subst, cond, if◌then◌else◌, codes, bytes_eq, nat_lt, nat_le, nat_eq, int_le, arith, unwrap_or, is_some}
-use Rattle.std.specs.Prelude.{slice_get}
-use Rattle.std.specs.Option.{option_map_or}
+use Rattle.std.proofs.Common.{◌≡◌, ℕ, ◌≤◌, ℤ, pos, negsuc, Bool, true, false, ◌||◌, List, [], length, Option, Some, None, option_map, option_and_then, refl, sym, ap, ◌∙◌, subst, if◌then◌else◌, codes, int_le, arith, unwrap_or, is_some}
 use Rattle.std.proofs.lemmas.Slice.Eq.{bytes_eq-Decides}
 use Rattle.std.proofs.lemmas.Bool.Decides.{nat_tests}
 use Rattle.serde_json.specs.Data.{Data, number, string, array, Items, Members}
@@ -15,11 +13,11 @@ use Rattle.element_props.specs.declared.prop.Pair.{Pair}
 use Rattle.element_props.specs.Forms.{has_long, items_have_long, is_too_long, template_text, filled_text, whole_within, place_in, pair_in, all_of, few_of, path_text, table_text, has_reference, up_to_bound, list_len, is_test, whole_of}
 use Rattle.element_props.specs.Replies.{reply_in}
 use Rattle.element_props.specs.Props.{absent_value, is_template, is_required}
-use Rattle.element_props.specs.Written.{text_data, pair_data, reply_data, items_by, value_data, unless, int_eq, same_truth, no_pair, is_default}
+use Rattle.element_props.specs.Written.{text_data, pair_data, reply_data, items_by, value_data, unless, int_eq, same_truth, is_default}
 use Rattle.element_props.specs.Rows.{Row, Form, template, plain, filled, lock, whole, up_to, flag, choice, pattern, test_patterns, pairs, replies, texts, csv, json_path, Presence, required, optional, text_default, number_default, truth_default, first_choice, no_pairs, largest}
 use Rattle.element_props.specs.Again.{IsJson, Stands}
 use Rattle.element_props.proofs.TakenLaws.{checked, pattern_taken, any_reference, tests_taken, formed, taken, value_from}
-use Rattle.element_props.proofs.FormsAgain.{and_then_some, unless_some, checked_of, checked_to, plain_kept, passed_kept, text_kept, filled_same, path_same, table_same, IsTemplateText, template_fits, respelled, reread, not_long, whole_again, whole_inside, bound_small, place_again, string_is, truth_is, array_is, list_again, few_again, texts_back, pairs_back}
+use Rattle.element_props.proofs.FormsAgain.{and_then_some, unless_some, checked_of, checked_to, plain_kept, passed_kept, text_kept, filled_same, path_same, table_same, template_fits, respelled, reread, not_long, whole_again, whole_inside, bound_small, place_again, string_is, truth_is, array_is, list_again, few_again, texts_back, pairs_back}
 use Rattle.element_props.proofs.RepliesAgain.{replies_back}
 
 -- what a form looks at in other properties is the same in both

@@ -1,5 +1,5 @@
 -- The properties that are written of an element are read again.
-use Rattle.std.proofs.Common.{◌≡◌, ℕ, zero, suc, ℤ, pos, Bool, true, false, not, ◌||◌, ◌&&◌, List, [], ◌∷◌, length, Option, Some, None, Ok, Ordering, Less, Equal, Greater, option_map, option_and_then, refl, sym, ap, ◌∙◌, if◌then◌else◌, codes, bytes_eq, nat_le, unwrap_or, is_some, true≢false, ◌⊎◌, inl, inr, subst}
+use Rattle.std.proofs.Common.{◌≡◌, ℕ, suc, ℤ, pos, Bool, true, false, not, ◌||◌, ◌&&◌, List, [], ◌∷◌, length, Option, Some, None, Ordering, Less, Equal, Greater, option_map, option_and_then, refl, sym, ap, ◌∙◌, if◌then◌else◌, codes, bytes_eq, nat_le, unwrap_or, is_some, true≢false, ◌⊎◌, inl, inr, subst}
 use Rattle.std.specs.Prelude.{slice_get}
 use Rattle.std.specs.Option.{option_map_or}
 use Rattle.std.specs.List.{AllByRecursion}
@@ -11,13 +11,13 @@ use Rattle.serde_json.specs.Events.{items_len}
 use Rattle.serde_json.specs.Find.{get_member, as_str, as_array}
 use Rattle.element_props.specs.declared.prop.Prop.{Prop}
 use Rattle.element_props.specs.declared.prop.Prop.TheVariants as props
-use Rattle.element_props.specs.Forms.{has_long, whole_within, place_in, all_of, few_of, up_to_bound, list_len, is_test}
+use Rattle.element_props.specs.Forms.{has_long, whole_within, place_in, all_of, few_of}
 use Rattle.element_props.specs.Props.{is_required, has_row, unknown, missing}
 use Rattle.element_props.specs.Written.{unless, is_default, value_data, entry, with_entry, written}
-use Rattle.element_props.specs.Rows.{Row, Form, template, plain, filled, lock, whole, up_to, flag, choice, pattern, test_patterns, pairs, replies, texts, csv, json_path, Presence, required, optional, text_default, number_default, truth_default, first_choice, no_pairs, largest, tests, ◌is◌otherwise◌}
-use Rattle.element_props.specs.Again.{IsJson, HoldJson, are_apart, row_named, Stands, AreRows, ReadsAgain}
-use Rattle.element_props.proofs.TakenLaws.{formed, taken, value_from, value_here, values, Taken, taken_from, taken_to}
-use Rattle.element_props.proofs.FormsAgain.{and_then_some, unless_some, where_some, or_false, checked_of, place_again, array_is, map_some}
+use Rattle.element_props.specs.Rows.{Row, Form, whole, up_to, choice, test_patterns, texts, csv, Presence, required, number_default, largest, tests, ◌is◌otherwise◌}
+use Rattle.element_props.specs.Again.{HoldJson, are_apart, row_named, Stands, ReadsAgain}
+use Rattle.element_props.proofs.TakenLaws.{formed, value_from, value_here, values, taken_from, taken_to}
+use Rattle.element_props.proofs.FormsAgain.{and_then_some, unless_some, where_some, or_false, checked_of, place_again, map_some}
 use Rattle.element_props.proofs.EntriesAgain.{Named, entries_of, find, has_name, names_apart, found_entry, got_json}
 use Rattle.element_props.proofs.RowAgain.{Same, row_again}
 

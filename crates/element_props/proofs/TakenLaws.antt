@@ -1,11 +1,10 @@
 -- What a reading gives where every pattern is taken as good.
-use Rattle.std.proofs.Common.{◌≡◌, ℕ, Bool, true, false, ◌||◌, List, [], ◌∷◌, Option, Some, None, Ok, option_map, option_and_then, refl, sym, ap, ◌∙◌, cond, if◌then◌else◌, codes}
+use Rattle.std.proofs.Common.{◌≡◌, ℕ, Bool, true, false, ◌||◌, List, [], ◌∷◌, Option, Some, None, Ok, option_and_then, refl, sym, ◌∙◌, if◌then◌else◌, codes}
 use Rattle.serde_json.specs.Data.{Data, Members}
 use Rattle.serde_json.specs.Find.{get_member, as_str, as_array}
 use Rattle.plan_json.specs.Place.{Place}
 use Rattle.element_props.specs.declared.error.BuildError.{BuildError}
 use Rattle.element_props.specs.declared.error.BuildError.TheVariants as errors
-use Rattle.element_props.specs.declared.error.What.TheVariants as what
 use Rattle.element_props.specs.declared.prop.Prop.{Prop}
 use Rattle.element_props.specs.declared.prop.Prop.TheVariants as props
 use Rattle.element_props.specs.declared.prop.Pair.{Pair}

@@ -1,9 +1,9 @@
 -- What a JSON value is under the form of a property, and what of it must be refused.
-use Rattle.std.specs.Prelude.{◌≡◌, ℕ, ◌≤◌, ◌+◌, ◌-◌, ◌^◌, ◌==◌, ℤ, pos, Bool, true, false, not, ◌&&◌, ◌||◌, List, [], ◌∷◌, ◌++◌, map, Option, Some, None, if◌then◌else◌, nat_lt, nat_le, length, unwrap_or, option_map, option_and_then, codes, decimal, bytes_eq, is_some, int_le, position}
+use Rattle.std.specs.Prelude.{ℕ, ◌≤◌, ◌==◌, ℤ, pos, Bool, true, false, ◌&&◌, ◌||◌, List, [], ◌∷◌, ◌++◌, map, Option, Some, None, if◌then◌else◌, nat_lt, nat_le, length, unwrap_or, option_map, option_and_then, codes, decimal, bytes_eq, int_le, position}
 use Rattle.std.specs.Fmt.{signed_decimal}
 use Rattle.std.specs.Option.{option_map_or}
 use Rattle.serde_json.specs.Data.{Num, unsigned, negative, float, Data, null, boolean, number, string, array, object, Items, no_items, item, Members, no_members, member}
-use Rattle.serde_json.specs.Find.{at, get_member, as_str, as_bool, as_array, as_object, as_number, as_i64, as_integer}
+use Rattle.serde_json.specs.Find.{get_member, as_str, as_bool, as_array, as_number, as_i64}
 use Rattle.template_text.specs.Pieces.{Pieces}
 use Rattle.template_text.specs.Scan.{reading}
 use Rattle.element_props.specs.Conditions.{first_of, bad_condition, plain_bytes}
@@ -13,7 +13,6 @@ use Rattle.std.specs.Result.{is_ok}
 use Rattle.element_props.specs.Replies.{reply_in}
 use Rattle.element_props.specs.Tables.{is_table, rows_of}
 use Rattle.plan_json.specs.Place.{Place}
-use Rattle.element_props.specs.declared.error.BuildError.{BuildError}
 use Rattle.element_props.specs.declared.error.BuildError.TheVariants.{BadProp, TooMany, BadPattern, BadCond}
 use Rattle.element_props.specs.declared.error.PatternFault.TheVariants.{Reference}
 use Rattle.element_props.specs.declared.error.What.TheVariants as what

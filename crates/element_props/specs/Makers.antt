@@ -1,5 +1,5 @@
 -- A maker of patterns that compiles each text, and refuses the calls that it was told to.
-use Rattle.std.specs.Prelude.{ℕ, ◌+◌, ◌-◌, ◌^◌, List, min, None, Contains}
+use Rattle.std.specs.Prelude.{ℕ, ◌+◌, ◌-◌, ◌^◌, List, min, None}
 use Rattle.element_props.specs.Patterns.{Asked}
 
 -- a count of 64 bits, one higher: at the end of 64 bits it stands still

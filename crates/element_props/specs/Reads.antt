@@ -1,10 +1,10 @@
 -- A reading of a plan asks for patterns on its way, and ends with a value or a refusal.
-use Rattle.std.specs.Prelude.{◌≡◌, ℕ, ◌<◌, Bool, List, [], ◌∷◌, ◌++◌, Option, Some, None, Result, Ok, Err, if◌then◌else◌}
+use Rattle.std.specs.Prelude.{◌≡◌, ℕ, Bool, List, [], ◌∷◌, ◌++◌, Option, Some, None, Result, Ok, Err, if◌then◌else◌}
 use Rattle.jm_base.specs.Counts.{Rose}
 use Rattle.plan_json.specs.Place.{Place}
 use Rattle.element_props.specs.declared.error.BuildError.{BuildError}
 use Rattle.element_props.specs.declared.error.BuildError.TheVariants as errors
-use Rattle.element_props.specs.declared.error.PatternFault.TheVariants.{Reference, Syntax, Size}
+use Rattle.element_props.specs.declared.error.PatternFault.TheVariants.{Syntax, Size}
 use Rattle.element_props.specs.Patterns.{Asked, Asks, reading_of, HasReading}
 
 pub data Reads (A : Type 0) : Type 0 where

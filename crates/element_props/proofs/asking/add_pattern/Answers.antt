@@ -1,4 +1,4 @@
-use Rattle.std.proofs.Common.{◌≡◌, ap, ◌∙◌, ◌++◌, ◌∷◌, []}
+use Rattle.std.proofs.Common.{ap, ◌∙◌, ◌++◌, ◌∷◌, []}
 use Rattle.element_props.proofs.ReadsLaws.{one_made, one_fails, on_ok}
 use Rattle.element_props.proofs.asking.add_pattern.Goals as goal
 

@@ -1,4 +1,4 @@
-use Rattle.std.proofs.Common.{◌≡◌, ap, ◌∙◌, ◌++◌, ◌∷◌, []}
+use Rattle.std.proofs.Common.{ap, ◌∙◌, ◌++◌, ◌∷◌, []}
 use Rattle.element_props.proofs.ReadsLaws.{around_none, around_made, around_fails}
 use Rattle.element_props.proofs.asking.add_whole.Goals as goal
 

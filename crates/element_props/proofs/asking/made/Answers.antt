@@ -1,4 +1,4 @@
-use Rattle.std.proofs.Common.{◌≡◌, sym, ap, ◌∙◌, Err}
+use Rattle.std.proofs.Common.{ap, Err}
 use Rattle.element_props.proofs.ReadsLaws.{asked_made, asked_unread, asked_large}
 use Rattle.element_props.proofs.asking.made.Goals as goal
 

@@ -1,4 +1,4 @@
-use Rattle.std.proofs.Common.{◌≡◌, sym, ap, ◌∙◌}
+use Rattle.std.proofs.Common.{sym, ap, ◌∙◌}
 use Rattle.element_props.specs.Forms.{has_reference}
 use Rattle.element_props.proofs.ReadsLaws.{pattern_refers, pattern_gives}
 use Rattle.element_props.proofs.asking.pattern.Goals as goal

@@ -1,4 +1,4 @@
-use Rattle.std.proofs.Common.{◌≡◌, ◌∙◌, refl, arith}
+use Rattle.std.proofs.Common.{◌∙◌, refl, arith}
 use Rattle.element_props.proofs.ReadsLaws.{goes_nothing, asked_step, asked_stops, regexes_done, regexes_fail, whole_none, own_more, around_more}
 use Rattle.element_props.proofs.asking.regexes_prop.Goals as goal
 

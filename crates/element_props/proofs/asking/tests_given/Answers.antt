@@ -1,4 +1,4 @@
-use Rattle.std.proofs.Common.{◌≡◌, sym, ap, ◌∙◌, option_map, map, Vec, Bor, List, ℕ, Global}
+use Rattle.std.proofs.Common.{sym, ap, ◌∙◌, option_map, map, Vec, Bor, List, ℕ, Global}
 use Rattle.element_props.proofs.ReadsLaws.{no_tests, some_tests}
 use Rattle.element_props.proofs.asking.tests_given.Goals as goal
 

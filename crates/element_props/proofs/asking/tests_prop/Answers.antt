@@ -1,4 +1,4 @@
-use Rattle.std.proofs.Common.{◌≡◌, sym, ◌∙◌}
+use Rattle.std.proofs.Common.{sym, ◌∙◌}
 use Rattle.element_props.proofs.ReadsLaws.{tests_regex, tests_plain}
 use Rattle.element_props.proofs.asking.tests_prop.Goals as goal
 

@@ -1,5 +1,5 @@
 -- What stands in a template weighs less than it.
-use Rattle.std.proofs.Common.{◌≡◌, ◌≤◌, ◌+◌, get_or, arith, sym, ◌∙◌, ap, length, drop}
+use Rattle.std.proofs.Common.{◌≡◌, ◌≤◌, get_or, arith, ap}
 use Rattle.template_text.specs.View.{pieces_of, arguments_of, weight, arguments_weight}
 use Rattle.template_text.proofs.Written.{argument_weight}
 use Rattle.element_props.specs.PieceViews.{piece_weight}

@@ -1,4 +1,4 @@
-use Rattle.std.proofs.Common.{◌≡◌, ◌∙◌, nat_eq, length}
+use Rattle.std.proofs.Common.{◌∙◌}
 use Rattle.element_props.proofs.ConditionLaws.{is_end_empty}
 use Rattle.element_props.proofs.conditions.is_end.Goals as goal
 

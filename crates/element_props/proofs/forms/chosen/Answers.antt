@@ -1,4 +1,4 @@
-use Rattle.std.proofs.Common.{◌≡◌, sym, ap, ◌∙◌, option_and_then}
+use Rattle.std.proofs.Common.{ap, ◌∙◌, option_and_then}
 use Rattle.element_props.specs.Forms.{place_in}
 use Rattle.element_props.specs.Seen.{words_seen}
 use Rattle.element_props.proofs.PropLaws.{place_seen}

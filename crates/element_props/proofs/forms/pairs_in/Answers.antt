@@ -1,8 +1,6 @@
-use Rattle.std.proofs.Common.{◌≡◌, sym, ap, ◌∙◌}
+use Rattle.std.proofs.Common.{sym, ◌∙◌}
 use Rattle.element_props.specs.Forms.{pair_in}
-use Rattle.element_props.specs.Conditions.{plain_bytes}
-use Rattle.element_props.specs.declared.prop.Pair.{Pair}
-use Rattle.element_props.proofs.PropLaws.{all_done, not_all, short_left}
+use Rattle.element_props.proofs.PropLaws.{all_done, short_left}
 use Rattle.element_props.proofs.FormLaws.{short_pairs}
 use Rattle.element_props.proofs.forms.pairs_in.Goals as goal
 

@@ -1,4 +1,4 @@
-use Rattle.std.proofs.Common.{◌≡◌, sym, ap, ◌∙◌, refl, true, false, arith}
+use Rattle.std.proofs.Common.{sym, ◌∙◌}
 use Rattle.element_props.proofs.ReadsLaws.{given_long, given_no_text, given_pattern, given_tests, given_none, given_value}
 use Rattle.element_props.proofs.props.given.Goals as goal
 

@@ -1,4 +1,4 @@
-use Rattle.std.proofs.Common.{◌≡◌, ap}
+use Rattle.std.proofs.Common.{ap}
 use Rattle.element_props.specs.Reads.{outcome}
 use Rattle.element_props.proofs.OwnLaws.{gives_judged, gives_refused, gives_size, gives_refusal, own_all, unknown_refused, missing_refused}
 use Rattle.element_props.proofs.props.own_properties.Goals as goal

@@ -1,4 +1,4 @@
-use Rattle.std.proofs.Common.{◌≡◌, sym, ap, ◌∙◌, refl, arith, map}
+use Rattle.std.proofs.Common.{arith}
 use Rattle.std.proofs.lemmas.Result.{err_from_is_err_and}
 use Rattle.element_props.proofs.PropsLoop.{rows_start, row_done, row_fails, rows_end, same_row, short_at}
 use Rattle.element_props.proofs.props.properties.Goals as goal

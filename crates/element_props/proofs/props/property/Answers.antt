@@ -1,4 +1,4 @@
-use Rattle.std.proofs.Common.{◌≡◌, sym, ap, ◌∙◌, refl, arith, map}
+use Rattle.std.proofs.Common.{sym, ◌∙◌}
 use Rattle.element_props.proofs.PropsLoop.{property_absent, property_given, get_in}
 use Rattle.serde_json.specs.View.{view}
 use Rattle.element_props.proofs.props.property.Goals as goal

@@ -1,4 +1,4 @@
-use Rattle.std.proofs.Common.{◌≡◌, sym, ap, ◌∙◌, refl, arith, map}
+use Rattle.std.proofs.Common.{sym}
 use Rattle.element_props.proofs.PropsLoop.{unknown_fails, missing_fails, own_gives}
 use Rattle.element_props.proofs.props.read_own.Goals as goal
 

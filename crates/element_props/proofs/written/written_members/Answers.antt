@@ -1,4 +1,4 @@
-use Rattle.std.proofs.Common.{◌≡◌, ◌∙◌, sym, ap, arith}
+use Rattle.std.proofs.Common.{◌∙◌, sym, ap, arith}
 use Rattle.serde_json.specs.View.{members_view}
 use Rattle.element_props.proofs.WrittenLaws.{written_none}
 use Rattle.element_props.proofs.written.written_members.Goals as goal
