@@ -265,7 +265,7 @@ module _ {A : Type 0} (read : Data → Option A) (write : A → Data) (back : Re
       let b = map_some (λ xs. a.0 ∷ xs) (all_of read ds) xs a.2 in
       list_step d ds a.0 b.0 xs b.2 j.0 s.0 a.1 (list_again ds b.0 j.1 s.1 b.1)
 
-  -- 1 to so many of them
+  -- 1 to that many of them
   pub few_again : (most : ℕ) (d : Data) (xs : List A) → IsJson d → has_long 65536 d ≡ false → option_and_then (few_of most read) (as_array d) ≡ Some xs
       → (few_of most read (items_by write xs) ≡ Some xs) × (items_have_long 65536 (items_by write xs) ≡ false)
   few_again most d xs j short h =

@@ -38,7 +38,7 @@ pub all_end : {A : Type 0} (read : Data → Option A) (front : List A) (vs : Lis
     → before front (all_of read (items_view (drop i vs))) ≡ all_of read (items_view vs) → all_of read (items_view vs) ≡ Some front
 all_end read front vs i h kept = sym kept ∙ ap (λ (ws : List Value). before front (all_of read (items_view ws))) (drop_all i vs h) ∙ ap Some (append-nil front)
 
--- a list of 1 to so many values
+-- a list of 1 to that many values
 pub few_are : {A : Type 0} (most : ℕ) (read : Data → Option A) (vs : List Value) → (nat_le 1 (length vs) && nat_le (length vs) most) ≡ true → few_of most read (items_view vs) ≡ all_of read (items_view vs)
 few_are most read vs h = rw (items_len-items_view vs, h) refl
 

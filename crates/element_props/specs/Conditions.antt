@@ -8,7 +8,7 @@ abbrev pub first_of : {A : Type 0} → Option A → Option A → Option A
 first_of None later = later
 first_of (Some n) later = Some n
 
--- where a text is no condition: the first byte that can't stand there
+-- where a text is not a condition: the first byte that can't stand there
 abbrev pub fault_of : {A : Type 0} → Result A ℕ → Option ℕ
 fault_of (Ok r) = None
 fault_of (Err at) = Some at

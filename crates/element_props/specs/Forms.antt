@@ -93,7 +93,7 @@ abbrev pub all_of : {A : Type 0} → (Data → Option A) → Items → Option (L
 all_of read no_items = Some []
 all_of read (item d ds) = option_and_then (λ x. option_map (λ xs. x ∷ xs) (all_of read ds)) (read d)
 
--- the same of 1 to so many values
+-- the same of 1 to that many values
 abbrev pub few_of : {A : Type 0} → ℕ → (Data → Option A) → Items → Option (List A)
 few_of most read ds = if nat_le 1 (items_len ds) && nat_le (items_len ds) most then all_of read ds else None
 
@@ -168,7 +168,7 @@ pattern_asked place s false = ask place s (over s)
 unfoldable pub pattern_checked : Place → List ℕ → Bool → Reads Prop
 pattern_checked place s refers = pattern_asked place s refers >>= (λ t. over (props.Pattern t))
 
--- `\A(?:` before a pattern and `)\z` behind it: what a whole text must match
+-- `\A(?:` before a pattern and `)\z` after it: what a whole text must match
 abbrev pub around : List ℕ → List ℕ
 around s = (92 ∷ 65 ∷ 40 ∷ 63 ∷ 58 ∷ []) ++ s ++ (41 ∷ 92 ∷ 122 ∷ [])
 

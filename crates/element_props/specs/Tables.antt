@@ -7,6 +7,6 @@ use Rattle.csv.specs.Reading.{default_config, records, strip_bom}
 abbrev pub rows_of : List ℕ → List (List (List ℕ))
 rows_of text = records default_config (strip_bom text)
 
--- there is a row, and each row has so many fields
+-- there is a row, and each row has that many fields
 abbrev pub is_table : ℕ → List (List (List ℕ)) → Bool
 is_table width rows = nat_lt 0 (length rows) && list_all (λ row. length row == width) rows

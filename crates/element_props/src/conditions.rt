@@ -137,7 +137,7 @@ fn plain_text(piece: &Piece) -> Option<&Text>
     }
 }
 
-/// Where a text is no condition.
+/// Where a text is not a condition.
 fn fault_in(alloc: Global, text: &[u8]) -> M<Option<u32>>
     requires { length text.now ≤ 65536 }
     ensures { IfOk result (λ o. o ≡ fault_in text.now) }

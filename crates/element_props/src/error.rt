@@ -1,10 +1,9 @@
-// Why a tree of elements is no plan.
+// Why a tree of elements is not a plan.
 
 use jm_base::NoMemory;
 use plan_json::Path;
 use std::alloc::{AllocError, AllocFailed};
-use std::error::Error;
-use std::fmt;
+use thiserror::Error;
 
 /// What there is too much of.
 #[derive(Clone, Copy, PartialEq, Eq, Debug)]
@@ -30,36 +29,47 @@ pub enum What {
 pub enum PatternFault {
     /// It holds `${`.
     Reference,
-    /// It is no regular expression, or nests too deep for one.
+    /// It is not a regular expression, or nests too deep for one.
     Syntax,
     /// It is too large once compiled.
     Size,
 }
 
 /// The first fault of a tree.
-#[derive(Debug, Drop)]
+#[derive(Debug, Drop, Error)]
 pub enum BuildError {
     /// The element at this path has a type that isn't known.
+    #[error("{path}: unknown type")]
     UnknownType { path: Path },
     /// A required property is absent.
+    #[error("{path}: missing property")]
     MissingProp { path: Path },
-    /// A property that the type doesn't have, or whose value hasn't its form.
+    /// A property that the type doesn't have, or whose value doesn't have its form.
+    #[error("{path}: bad property")]
     BadProp { path: Path },
     /// There is too much of something.
+    #[error("{path}: too many or too long")]
     TooMany { path: Path, what: What },
     /// The element is more than 32 deep, the root being 1.
+    #[error("{path}: too deep")]
     TooDeep { path: Path },
     /// The element may not stand where it does.
+    #[error("{path}: wrong place")]
     WrongPlace { path: Path },
     /// A pattern is refused.
+    #[error("{path}: bad pattern")]
     BadPattern { path: Path, why: PatternFault },
     /// A template has a condition that can't be read, `at` being the first byte of the condition that can't stand there.
+    #[error("{path}: bad condition at byte {at}")]
     BadCond { path: Path, at: u32 },
     /// An HTTP sampler has no replies, and none is asked elsewhere.
+    #[error("{path}: no replies")]
     NoReplies { path: Path },
     /// The plan has no thread of the number asked for.
+    #[error("no such thread")]
     NoThread,
-    /// Memory was wanting.
+    /// Out of memory.
+    #[error("out of memory")]
     NoMemory,
 }
 
@@ -95,23 +105,3 @@ impl<T: Drop> From<AllocFailed<T>> for BuildError {
         BuildError::NoMemory
     }
 }
-
-impl fmt::Display for BuildError {
-    fn fmt<W: fmt::Write>(&self, f: &mut fmt::Formatter<W>) -> fmt::Result {
-        match self {
-            BuildError::UnknownType { path } => write!(f, "{path}: unknown type"),
-            BuildError::MissingProp { path } => write!(f, "{path}: missing property"),
-            BuildError::BadProp { path } => write!(f, "{path}: bad property"),
-            BuildError::TooMany { path, .. } => write!(f, "{path}: too many or too long"),
-            BuildError::TooDeep { path } => write!(f, "{path}: too deep"),
-            BuildError::WrongPlace { path } => write!(f, "{path}: wrong place"),
-            BuildError::BadPattern { path, .. } => write!(f, "{path}: bad pattern"),
-            BuildError::BadCond { path, at } => write!(f, "{path}: bad condition at byte {at}"),
-            BuildError::NoReplies { path } => write!(f, "{path}: no replies"),
-            BuildError::NoThread => write!(f, "no such thread"),
-            BuildError::NoMemory => write!(f, "out of memory"),
-        }
-    }
-}
-
-impl Error for BuildError {}

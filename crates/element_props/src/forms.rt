@@ -23,10 +23,10 @@ use serde_json::Value;
 use std::alloc::Global;
 use template_text::{Template, parse_template};
 
-/// A text of a property has at most so many bytes.
+/// A text of a property has at most this many bytes.
 const TEXT_LIMIT: usize = 65_536;
 
-/// The name of a lock has at most so many bytes.
+/// The name of a lock has at most this many bytes.
 const LOCK_LIMIT: usize = 256;
 
 /// Whether a text of the value, at any depth, is longer than this. Names of members don't count.
@@ -399,7 +399,7 @@ fn list_len(props: &Value, name: &str) -> Option<usize>
     Some(items.len())
 }
 
-/// A text whose rows have so many fields.
+/// A text whose rows have that many fields.
 fn table_text(alloc: Global, width: Option<usize>, value: &Value) -> M<Option<Text>>
     ensures { IfOk result (λ o. o ≡ option_and_then (table_text width) (as_str (view value.now))) }
 {

@@ -8,33 +8,22 @@ ghost use Rattle.element_props.specs.Patterns.{Asked, Asks, HasReading, IsKept, 
 use jm_base::Text;
 use regex::Regex;
 use std::alloc::Global;
-use std::error::Error;
-use std::fmt;
 use std::marker::Model;
+use thiserror::Error;
 
 /// Why no pattern was made of a text.
-#[derive(Clone, Copy, PartialEq, Eq, Debug)]
+#[derive(Clone, Copy, PartialEq, Eq, Debug, Error)]
 pub enum MakeError {
-    /// The text is no regular expression, or nests too deep for one.
+    /// The text is not a regular expression, or nests too deep for one.
+    #[error("not a regular expression")]
     Syntax,
     /// The expression is too large once compiled.
+    #[error("too large a regular expression")]
     Size,
-    /// Memory was wanting.
+    /// Out of memory.
+    #[error("out of memory")]
     NoMemory,
 }
-
-impl fmt::Display for MakeError {
-    fn fmt<W: fmt::Write>(&self, f: &mut fmt::Formatter<W>) -> fmt::Result {
-        let text = match self {
-            MakeError::Syntax => "not a regular expression",
-            MakeError::Size => "too large a regular expression",
-            MakeError::NoMemory => "out of memory",
-        };
-        write!(f, "{text}")
-    }
-}
-
-impl Error for MakeError {}
 
 /// Makes regular expressions of texts. It counts those that were too large, and may tell which texts it was given.
 pub trait Patterns {

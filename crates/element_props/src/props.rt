@@ -323,8 +323,8 @@ fn read_own<G: Patterns>(
 /// The properties of an element, under the rows of its type, which stand in byte order of their names: a value for each row, in
 /// the same order. The first of these faults is the answer, each with the path of its property: `BadProp` of the least property
 /// that has no row; `MissingProp` of the least required one that is absent; and then, property by property, `TooMany` where a
-/// text of the value, at any depth, has more than 65,536 bytes, or a lock more than 256, `BadProp` where the value hasn't the
-/// form of its row, `BadPattern` where a pattern holds `${` or is not made, and `BadCond` where a condition can't be read.
+/// text of the value, at any depth, has more than 65,536 bytes, or a lock more than 256, `BadProp` where the value doesn't have
+/// the form of its row, `BadPattern` where a pattern holds `${` or is not made, and `BadCond` where a condition can't be read.
 pub fn own_properties<G: Patterns>(
     alloc: Global,
     rows: &[Row],

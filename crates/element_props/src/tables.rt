@@ -36,14 +36,14 @@ fn rows(alloc: Global, text: &[u8]) -> M<Vec<ByteRecord>>
     }
 }
 
-/// Whether there is a row, and each row has so many fields.
+/// Whether there is a row, and each row has that many fields.
 fn fits(rows: &[ByteRecord], width: usize) -> bool
     ensures { result ≡ is_table width (map fields_of rows.now) }
 {
     !rows.is_empty() && rows.iter().all(|row| row.len() == width)
 }
 
-/// Whether the text has a row, and each row so many fields.
+/// Whether the text has a row, and each row that many fields.
 pub fn is_table(alloc: Global, text: &[u8], width: usize) -> M<bool>
     ensures { IfOk result (λ b. b ≡ is_table width (rows_of text.now)) }
 {
