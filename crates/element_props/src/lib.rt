@@ -27,6 +27,3 @@ pub use props::own_properties;
 pub use regex_patterns::RegexPatterns;
 pub use rows::{Form, Presence, Row, Words, texts};
 pub use written::{Shown, written_members};
-
-#[cfg(test)]
-mod tests;
