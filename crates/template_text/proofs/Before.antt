@@ -1,4 +1,4 @@
--- Spellings with a text behind them, which compute byte by byte.
+-- Spellings with a text after them, which compute byte by byte.
 use Rattle.std.proofs.Common.{◌≡◌, ℕ, List, [], ◌∷◌, ◌++◌, ◌==◌, if◌then◌else◌, refl, sym, ◌∙◌, ap, append_assoc, Bool, true, false}
 use Rattle.template_text.specs.Pieces.{Reference, variable, call, Pieces, no_more, text, reference, Arguments, no_arguments, argument, escaped, reference_spelling, arguments_spelling, argument_spelling, further_spelling}
 

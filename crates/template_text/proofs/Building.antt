@@ -122,7 +122,7 @@ variable_there s l e =
     let p : (r : Reference) × ((first_at s ≡ Some r) × (shape r ≡ Variable l)) = map_some shape (first_at s) (Variable l) e in
     variable_go s l p.0 p.1.0 p.1.1
 
--- the arguments of a call are read behind its `(`
+-- the arguments of a call are read after its `(`
 arguments_there : (v rest : List ℕ) (m : List ℕ) (args : Arguments) → IsReference (call m args) → nesting (call m args) ≤ 16 → v ≡ arguments_before args (41 ∷ 125 ∷ rest)
     → IsSome (arguments_at v 0) × (option_map normal (arguments_at v 0) ≡ Some args)
 arguments_there v rest m no_arguments right low e =
@@ -141,11 +141,11 @@ call_go s k l d (call m args) e f =
     let v : List ℕ = arguments_before args (41 ∷ 125 ∷ h.rest) in
     let long : k ≡ length m = call_long m args k l d f in
     let count : k + 5 ≡ 4 + length (m ++ 40 ∷ []) = omega (arith, long, length-append m (40 ∷ [])) in
-    let behind : drop (k + 5) s ≡ v =
+    let after : drop (k + 5) s ≡ v =
     ap (λ n. drop n s) count ∙ (ap (drop (4 + length (m ++ 40 ∷ []))) h.spelled ∙ (sym (drop-drop (length (m ++ 40 ∷ [])) 4 (36 ∷ 123 ∷ 95 ∷ 95 ∷ (m ++ 40 ∷ v)))
     ∙ (ap (drop (length (m ++ 40 ∷ []))) (sym (append_assoc m (40 ∷ []) v)) ∙ drop-append_seam (m ++ 40 ∷ []) v))) in
     let there : IsSome (arguments_at (drop (k + 5) s) 0) × (option_map normal (arguments_at (drop (k + 5) s) 0) ≡ Some args) =
-    arguments_there (drop (k + 5) s) h.rest m args h.right h.shallow behind in
+    arguments_there (drop (k + 5) s) h.rest m args h.right h.shallow after in
     record {
       name = m;
       args = args;
@@ -163,11 +163,11 @@ call_there s k l d e =
     call_go s k l d p.0 p.1.0 p.1.1
 
 -- the top of the text
-pieces_behind : (k : ℕ) (s : List ℕ) → pieces_from s (table s) k ≡ reading (drop k s)
+pieces_after : (k : ℕ) (s : List ℕ) → pieces_from s (table s) k ≡ reading (drop k s)
 unfolding pieces_from table
-pieces_behind zero s = refl
-pieces_behind (suc k) [] = refl
-pieces_behind (suc k) (c ∷ s) = pieces_behind k s
+pieces_after zero s = refl
+pieces_after (suc k) [] = refl
+pieces_after (suc k) (c ∷ s) = pieces_after k s
 
 get_first : (at : ℕ) (s : List ℕ) → at < length s → drop at s ≡ get_or s at 0 ∷ drop (at + 1) s
 get_first zero [] h = absurd (omega arith)
@@ -185,7 +185,7 @@ reading_byte s at old new x h none e p =
 reading_more : (u : List ℕ) (r : Reference) → first_at u ≡ Some r → reading u ≡ reference r (reading (drop (length (reference_spelling r)) u))
 reading_more [] r e = absurd (none_some r e)
 reading_more (c ∷ u) r e =
-    pieces_reference c u r e ∙ ap (reference r) (pieces_behind (length (reference_spelling r) - 1) u ∙ ap reading (drop_less (length (reference_spelling r)) c u (reference_some r)))
+    pieces_reference c u r e ∙ ap (reference r) (pieces_after (length (reference_spelling r) - 1) u ∙ ap reading (drop_less (length (reference_spelling r)) c u (reference_some r)))
 
 pub reading_reference : (s : List ℕ) (at n : ℕ) (old new : TemplateBuilder) (r : Reference) (x : Pieces) → first_at (drop at s) ≡ Some r → n ≡ length (reference_spelling r) → x ≡ joined old (reading (drop at s))
     → ((more : Pieces) → joined new more ≡ joined old (reference r more)) → x ≡ joined new (reading (drop (at + n) s))

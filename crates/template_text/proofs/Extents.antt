@@ -8,20 +8,20 @@ use Rattle.template_text.specs.declared.scan.Step.TheVariants.{Ends, Fails, Goes
 use Rattle.template_text.specs.declared.scan.Extent.{Extent}
 use Rattle.template_text.specs.Pieces.{Reference, variable, call, Pieces, no_more, text, reference, Arguments, no_arguments, argument, escaped, reference_spelling, arguments_spelling, argument_spelling, further_spelling, nesting, nesting_of_arguments}
 use Rattle.template_text.specs.Grammar.{opens, begins_with}
-use Rattle.template_text.specs.Scan.{token_of, step_of, follow, put, add, with_byte, inside, table, first_at, arguments_at, shape, extent_of, extent_behind, first_of, found_depth, found_nesting}
+use Rattle.template_text.specs.Scan.{token_of, step_of, follow, put, add, with_byte, inside, table, first_at, arguments_at, shape, extent_of, extent_after, first_of, found_depth, found_nesting}
 use Rattle.template_text.proofs.Tokens.{TokenIs, token_is, inside_step}
 use Rattle.template_text.proofs.Standing.{nesting-with_byte}
 use Rattle.template_text.proofs.Inside.{none_some, Reads, inside_sound, drop_less}
 use Rattle.template_text.proofs.Names.{all_sound}
 
--- behind k bytes of the text the arguments are those at the place k bytes on
+-- after k bytes of the text the arguments are those at the place k bytes on
 pub inside_drop : (k : ℕ) (s : List ℕ) (o : ℕ) → inside s (table s) k o ≡ arguments_at (drop k s) o
 unfolding inside table
 inside_drop zero s o = refl
 inside_drop (suc k) [] o = refl
 inside_drop (suc k) (c ∷ s) o = inside_drop k s o
 
--- one move: the arguments at a place are those behind the move, with what the token stands for before them
+-- one move: the arguments at a place are those after the move, with what the token stands for before them
 pub arguments_move : (s : List ℕ) (o n m : ℕ) → 0 < length s → Goes n m ≡ step_of (token_of s) (first_at s) (begins_with 125 (drop 1 s)) o → 0 < n
     → arguments_at s o ≡ option_map (put (token_of s) (first_at s)) (arguments_at (drop n s) m)
 arguments_move [] o n m h e l = absurd (omega arith)
@@ -135,7 +135,7 @@ not_none s o e = let h : Reads s o no_arguments = inside_sound s (all_sound s) 0
 
 extents : (at depth n k : ℕ) (t : Token) (q : Option Reference) (x : Option Arguments) → (x ≡ Some no_arguments → ⊥)
     → ((ps : Pieces) (more : Arguments) → Moves t q n ps more) → k ≡ found_nesting (option_map shape q)
-    → option_map (extent_behind at depth) (option_map (put t q) x) ≡ option_map (extent_behind (at + n) (max depth k)) x
+    → option_map (extent_after at depth) (option_map (put t q) x) ≡ option_map (extent_after (at + n) (max depth k)) x
 extents at depth n k t q None h f e = refl
 extents at depth n k t q (Some no_arguments) h f e = absurd (h refl)
 extents at depth n k t q (Some (argument ps more)) h f e =
@@ -145,27 +145,27 @@ extents at depth n k t q (Some (argument ps more)) h f e =
     ap Some (same_extent long deep)
 
 pub extent_move : (s : List ℕ) (o n m at depth k : ℕ) → 0 < length s → Goes n m ≡ step_of (token_of s) (first_at s) (begins_with 125 (drop 1 s)) o → 0 < n → k ≡ depth_at s
-    → option_map (extent_behind at depth) (arguments_at s o) ≡ option_map (extent_behind (at + n) (max depth k)) (arguments_at (drop n s) m)
+    → option_map (extent_after at depth) (arguments_at s o) ≡ option_map (extent_after (at + n) (max depth k)) (arguments_at (drop n s) m)
 extent_move [] o n m at depth k h e l f = absurd (omega arith)
 extent_move (c ∷ s) o n m at depth k h e l f =
-    ap (option_map (extent_behind at depth)) (arguments_move (c ∷ s) o n m h e l)
+    ap (option_map (extent_after at depth)) (arguments_move (c ∷ s) o n m h e l)
     ∙ extents at depth n k (token_of (c ∷ s)) (first_at (c ∷ s)) (arguments_at (drop n (c ∷ s)) m) (not_none (drop n (c ∷ s)) m)
     (λ ps more. moves (token_of (c ∷ s)) c s (first_at (c ∷ s)) (begins_with 125 s) o n m ps more (token_is c s) (first_none c s) e) f
 
-same_some : (x : Option Arguments) → option_map (extent_behind 0 0) x ≡ option_map extent_of x
+same_some : (x : Option Arguments) → option_map (extent_after 0 0) x ≡ option_map extent_of x
 same_some None = refl
 same_some (Some args) = ap Some (same_extent (omega arith) (omega arith))
 
-pub extent_start : (s : List ℕ) → option_map extent_of (arguments_at s 0) ≡ option_map (extent_behind 0 0) (arguments_at (drop 0 s) 0)
+pub extent_start : (s : List ℕ) → option_map extent_of (arguments_at s 0) ≡ option_map (extent_after 0 0) (arguments_at (drop 0 s) 0)
 extent_start s = sym (same_some (arguments_at s 0))
 
 pub extent_end : (s : List ℕ) (o at depth : ℕ) → 0 < length s → Ends ≡ step_of (token_of s) (first_at s) (begins_with 125 (drop 1 s)) o
-    → option_map (extent_behind at depth) (arguments_at s o) ≡ Some (record { length = at; depth = depth })
-extent_end s o at depth h e = ap (option_map (extent_behind at depth)) (arguments_end s o h e) ∙ ap Some (same_extent (omega arith) (omega arith))
+    → option_map (extent_after at depth) (arguments_at s o) ≡ Some (record { length = at; depth = depth })
+extent_end s o at depth h e = ap (option_map (extent_after at depth)) (arguments_end s o h e) ∙ ap Some (same_extent (omega arith) (omega arith))
 
 pub extent_fail : (s : List ℕ) (o at depth : ℕ) → 0 < length s → Fails ≡ step_of (token_of s) (first_at s) (begins_with 125 (drop 1 s)) o
-    → option_map (extent_behind at depth) (arguments_at s o) ≡ None
-extent_fail s o at depth h e = ap (option_map (extent_behind at depth)) (arguments_fail s o h e)
+    → option_map (extent_after at depth) (arguments_at s o) ≡ None
+extent_fail s o at depth h e = ap (option_map (extent_after at depth)) (arguments_fail s o h e)
 
 pub arguments_nowhere : (s : List ℕ) (o : ℕ) → length s ≤ 0 → arguments_at s o ≡ None
 unfolding inside
@@ -176,18 +176,18 @@ pub left_some : (k : ℕ) (s : List ℕ) → k < length s → 0 < length (drop k
 left_some k s h = omega (arith, length-drop k s)
 
 -- one round of the loop
-pub loop_extent : (s rest : List ℕ) (at o n m depth k : ℕ) (x : Option Extent) → rest ≡ drop at s → x ≡ option_map (extent_behind at depth) (arguments_at (drop at s) o) → 0 < length rest
+pub loop_extent : (s rest : List ℕ) (at o n m depth k : ℕ) (x : Option Extent) → rest ≡ drop at s → x ≡ option_map (extent_after at depth) (arguments_at (drop at s) o) → 0 < length rest
     → Goes n m ≡ step_of (token_of rest) (first_at rest) (begins_with 125 (drop 1 rest)) o → 0 < n → k ≡ depth_at rest
-    → x ≡ option_map (extent_behind (at + n) (max depth k)) (arguments_at (drop (at + n) s) m)
+    → x ≡ option_map (extent_after (at + n) (max depth k)) (arguments_at (drop (at + n) s) m)
 loop_extent s rest at o n m depth k x e f h g l d =
-    f ∙ (ap (λ w. option_map (extent_behind at depth) (arguments_at w o)) (sym e)
+    f ∙ (ap (λ w. option_map (extent_after at depth) (arguments_at w o)) (sym e)
     ∙ (extent_move rest o n m at depth k h g l d
-    ∙ ap (λ w. option_map (extent_behind (at + n) (max depth k)) (arguments_at w m)) (ap (drop n) e ∙ drop-drop n at s)))
+    ∙ ap (λ w. option_map (extent_after (at + n) (max depth k)) (arguments_at w m)) (ap (drop n) e ∙ drop-drop n at s)))
 
-pub loop_end : (s rest : List ℕ) (at o depth : ℕ) (x : Option Extent) → rest ≡ drop at s → x ≡ option_map (extent_behind at depth) (arguments_at (drop at s) o) → 0 < length rest
+pub loop_end : (s rest : List ℕ) (at o depth : ℕ) (x : Option Extent) → rest ≡ drop at s → x ≡ option_map (extent_after at depth) (arguments_at (drop at s) o) → 0 < length rest
     → Ends ≡ step_of (token_of rest) (first_at rest) (begins_with 125 (drop 1 rest)) o → Some (record { length = at; depth = depth }) ≡ x
-loop_end s rest at o depth x e f h g = sym (f ∙ (ap (λ w. option_map (extent_behind at depth) (arguments_at w o)) (sym e) ∙ extent_end rest o at depth h g))
+loop_end s rest at o depth x e f h g = sym (f ∙ (ap (λ w. option_map (extent_after at depth) (arguments_at w o)) (sym e) ∙ extent_end rest o at depth h g))
 
-pub loop_fail : (s rest : List ℕ) (at o depth : ℕ) (x : Option Extent) → rest ≡ drop at s → x ≡ option_map (extent_behind at depth) (arguments_at (drop at s) o) → 0 < length rest
+pub loop_fail : (s rest : List ℕ) (at o depth : ℕ) (x : Option Extent) → rest ≡ drop at s → x ≡ option_map (extent_after at depth) (arguments_at (drop at s) o) → 0 < length rest
     → Fails ≡ step_of (token_of rest) (first_at rest) (begins_with 125 (drop 1 rest)) o → None ≡ x
-loop_fail s rest at o depth x e f h g = sym (f ∙ (ap (λ w. option_map (extent_behind at depth) (arguments_at w o)) (sym e) ∙ extent_fail rest o at depth h g))
+loop_fail s rest at o depth x e f h g = sym (f ∙ (ap (λ w. option_map (extent_after at depth) (arguments_at w o)) (sym e) ∙ extent_fail rest o at depth h g))

@@ -47,7 +47,7 @@ place_more (c ∷ s) [] a x h l e g = absurd (omega arith)
 place_more (c ∷ s) (y ∷ f) zero x h l e g = ap (λ w. w ∷ f) g ∙ ap (λ w. option_map shape (first_at (c ∷ s)) ∷ w) e
 place_more (c ∷ s) (y ∷ f) (suc a) x h l e g = place_more s f a x (omega arith) (omega arith) e g
 
--- no place is left behind the end
+-- no place is left after the end
 pub place_none : (s : List ℕ) (f : List (Option Found)) → length f ≡ length s → AreFound (drop (length s) s) (drop (length s) f)
 unfolding table
 place_none s f e = ap (λ n. drop n f) (sym e) ∙ (drop-length f ∙ sym (ap (λ w. map (option_map shape) (table w)) (drop-length s)))

@@ -133,7 +133,7 @@ inside_sound (c ∷ s) h (suc k) o args e = inside_sound s h.1 k o args e
 inside_sound (c ∷ s) h zero o args e =
     sound_token (token_of (c ∷ s)) c s o (first_at (c ∷ s)) (token_is c s) h.0 (inside_sound s h.1) args (sym (inside_step c s o) ∙ e)
 
--- the arguments that stand behind k bytes of s are those that the scanner takes
+-- the arguments that stand after k bytes of s are those that the scanner takes
 abbrev Takes : List ℕ → Type 0
 Takes s = (k o : ℕ) (ps : Pieces) (more : Arguments) → Stands (drop k s) o ps more → nesting_of_arguments (argument ps more) ≤ 16
     → inside s (table s) k o ≡ Some (argument ps more)
@@ -189,8 +189,8 @@ take_reference : (c o : ℕ) (s u v : List ℕ) (r : Reference) (ps : Pieces) (m
 take_reference c o s u v r ps more e f first stands shallow takes =
     let all : c ∷ s ≡ 36 ∷ 123 ∷ v = e ∙ f in
     let n : ℕ = length (reference_spelling r) in
-    let behind : drop (n - 1) s ≡ u = drop_less n c s (reference_some r) ∙ (ap (drop n) (e ∙ sym (reference-before r u)) ∙ drop-append_seam (reference_spelling r) u) in
-    let here : drop (n - 1) (123 ∷ v) ≡ u = subst (λ w. drop (n - 1) w ≡ u) (tail_same c 36 s (123 ∷ v) all) behind in
+    let after : drop (n - 1) s ≡ u = drop_less n c s (reference_some r) ∙ (ap (drop n) (e ∙ sym (reference-before r u)) ∙ drop-append_seam (reference_spelling r) u) in
+    let here : drop (n - 1) (123 ∷ v) ≡ u = subst (λ w. drop (n - 1) w ≡ u) (tail_same c 36 s (123 ∷ v) all) after in
     subst (λ w. Taken w o (join (Some r) (argument ps more))) (sym all)
     (inside_reference v (argument ps more) r o (subst (λ w. first_at w ≡ Some r) all first)
     (takes_tail c 36 s (123 ∷ v) all takes (n - 1) o ps more (subst (λ w. Stands w o ps more) (sym here) stands) shallow))

@@ -132,7 +132,7 @@ then_some : {A B : Type 0} (f : A → Option B) (o : Option A) (y : B) → optio
 then_some f None y e = absurd (none_some y e)
 then_some f (Some x) y e = (x, (refl, e))
 
--- what a name and the text behind it begin
+-- what a name and the text after it begin
 record Named (n s : List ℕ) (r : Reference) : Type 0 where
   right : IsReference r
   shallow : nesting r ≤ 16
@@ -253,11 +253,11 @@ complete_reference c s all (call m (argument ps more)) rest e right low =
     let v : List ℕ = arguments_before (argument ps more) (41 ∷ 125 ∷ rest) in
     let k : ℕ = length (m ++ 40 ∷ []) in
     let tail : s ≡ 123 ∷ 95 ∷ 95 ∷ (m ++ 40 ∷ v) = tail_same c 36 s (123 ∷ 95 ∷ 95 ∷ (m ++ 40 ∷ v)) e in
-    let behind : drop (suc (suc (suc k))) s ≡ v =
+    let after : drop (suc (suc (suc k))) s ≡ v =
     ap (drop (suc (suc (suc k)))) tail ∙ (ap (drop k) (sym (append_assoc m (40 ∷ []) v)) ∙ drop-append_seam (m ++ 40 ∷ []) v) in
     let low_inside : nesting_of_arguments (argument ps more) ≤ 16 = omega (arith, low) in
     ap first_at e ∙ complete_call m v (argument ps more) (argument ps more) right.0
-    (inside_complete v (subst AllComplete behind (complete_drop (suc (suc (suc k))) s all)) 0 0 ps more
+    (inside_complete v (subst AllComplete after (complete_drop (suc (suc (suc k))) s all)) 0 0 ps more
     (record { right = right.2; closed = right.3; rest = rest; spelled = refl }) low_inside)
     (normal_same (argument ps more) right.1) low
 

@@ -99,8 +99,8 @@ only_here c s (reference r m) h e rest =
     let n : ℕ = length (reference_spelling r) in
     let b : Begins (c ∷ s) r = record { right = h.0; shallow = h.1; rest = spelling m; spelled = sym e } in
     let first : first_at (c ∷ s) ≡ Some r = (all_complete (c ∷ s)).0 r (begins_starts (c ∷ s) r b) in
-    let behind : spelling m ≡ drop (n - 1) s = sym (drop-append_seam (reference_spelling r) (spelling m)) ∙ (ap (drop n) e ∙ sym (drop_less n c s (reference_some r))) in
-    ap (reference r) (rest (n - 1) m h.2 behind) ∙ sym (pieces_reference c s r first)
+    let after : spelling m ≡ drop (n - 1) s = sym (drop-append_seam (reference_spelling r) (spelling m)) ∙ (ap (drop n) e ∙ sym (drop_less n c s (reference_some r))) in
+    ap (reference r) (rest (n - 1) m h.2 after) ∙ sym (pieces_reference c s r first)
 
 only_nothing : (ps : Pieces) → ArePieces ps → spelling ps ≡ [] → ps ≡ no_more
 only_nothing no_more h e = refl

@@ -1,4 +1,4 @@
--- What a builder holds, with more behind it.
+-- What a builder holds, with more after it.
 use Rattle.std.specs.Prelude.{ℕ, List, [], ◌∷◌}
 use Rattle.template_text.specs.declared.template.Piece.{Piece}
 use Rattle.template_text.specs.declared.template.Piece.TheVariants.{Text, Var, Call}
@@ -8,14 +8,14 @@ use Rattle.template_text.specs.Pieces.{variable, call, Pieces, text, reference, 
 use Rattle.template_text.specs.Scan.{with_byte}
 use Rattle.template_text.specs.View.{arguments_of}
 
--- the pieces of a list, and more behind them
+-- the pieces of a list, and more after them
 abbrev pub pieces_then : List Piece → Pieces → Pieces
 pieces_then [] more = more
 pieces_then (Text t ∷ ps) more = text t (pieces_then ps more)
 pieces_then (Var n ∷ ps) more = reference (variable n) (pieces_then ps more)
 pieces_then (Call n args ∷ ps) more = reference (call n (arguments_of args.items)) (pieces_then ps more)
 
--- plain text, and more pieces behind it
+-- plain text, and more pieces after it
 abbrev pub text_then : List ℕ → Pieces → Pieces
 text_then [] more = more
 text_then (c ∷ t) more = with_byte c (text_then t more)

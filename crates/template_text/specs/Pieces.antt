@@ -28,7 +28,7 @@ abbrev mutual
   reference_spelling (variable n) = codes "${" ++ n ++ codes "}"
   reference_spelling (call n args) = codes "${__" ++ n ++ codes "(" ++ arguments_spelling args ++ codes ")}"
 
-  -- the first argument, and the further ones, each behind a comma
+  -- the first argument, and the further ones, each after a comma
   pub arguments_spelling : Arguments → List ℕ
   arguments_spelling no_arguments = []
   arguments_spelling (argument ps more) = argument_spelling ps ++ further_spelling more

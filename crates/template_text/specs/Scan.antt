@@ -61,7 +61,7 @@ follow t r Ends go = Some (argument no_more no_arguments)
 follow t r Fails go = None
 follow t r (Goes by o) go = option_map (put t r) (go (by - 1) o)
 
--- the arguments, up to the `)` that ends them, behind k bytes of the text, where o parentheses are open; rs is what begins at each place
+-- the arguments, up to the `)` that ends them, after k bytes of the text, where o parentheses are open; rs is what begins at each place
 unfoldable pub inside : List ℕ → List (Option Reference) → ℕ → ℕ → Option Arguments
 inside [] rs k o = None
 inside (c ∷ s) [] k o = None
@@ -69,7 +69,7 @@ inside (c ∷ s) (r ∷ rs) (suc k) o = inside s rs k o
 inside (c ∷ s) (r ∷ rs) zero o =
     follow (token_of (c ∷ s)) r (step_of (token_of (c ∷ s)) r (begins_with 125 s) o) (λ k m. inside s rs k m)
 
--- how many bytes at the front may stand in a name
+-- how many bytes at the start may stand in a name
 abbrev pub name_length : List ℕ → ℕ
 name_length [] = 0
 name_length (c ∷ s) = if is_name_byte c then suc (name_length s) else 0
@@ -78,7 +78,7 @@ abbrev pub is_empty : List ℕ → Bool
 is_empty [] = true
 is_empty (c ∷ s) = false
 
--- the name of a function behind `__`
+-- the name of a function after `__`
 abbrev pub call_name : List ℕ → Option (List ℕ)
 call_name [] = None
 call_name (a ∷ []) = None
@@ -127,7 +127,7 @@ first_at (c ∷ s) = first_of (c ∷ s) (table s)
 abbrev pub arguments_at : List ℕ → ℕ → Option Arguments
 arguments_at s o = inside s (table s) 0 o
 
--- the pieces of a text behind k bytes
+-- the pieces of a text after k bytes
 unfoldable pub pieces_from : List ℕ → List (Option Reference) → ℕ → Pieces
 pieces_from [] rs k = no_more
 pieces_from (c ∷ s) [] k = no_more
@@ -167,6 +167,6 @@ MovesOn Ends o n = Unit {0}
 MovesOn Fails o n = Unit {0}
 MovesOn (Goes by m) o n = (0 < by) × (by ≤ n) × (m ≤ o + by)
 
--- the extent of arguments that begin at a place, where what goes before it nests so deep
-abbrev pub extent_behind : ℕ → ℕ → Arguments → Extent
-extent_behind at depth args = record { length = at + length (arguments_spelling args); depth = max depth (nesting_of_arguments args) }
+-- the extent of arguments that begin at a place, where what goes before it nests to this depth
+abbrev pub extent_after : ℕ → ℕ → Arguments → Extent
+extent_after at depth args = record { length = at + length (arguments_spelling args); depth = max depth (nesting_of_arguments args) }

@@ -7,13 +7,13 @@ ghost use Rattle.template_text.specs.Scan.{AreFound, shape, normal, first_at, ar
 ghost use Rattle.template_text.specs.View.{reference_of, arguments_of};
 
 use crate::builders::{ArgumentsBuilder, TemplateBuilder};
-use crate::scan::{Found, Step, Token, behind, first_found, first_token, next_step, references};
+use crate::scan::{Found, Step, Token, after, first_found, first_token, next_step, references};
 use crate::template::{Piece, Template};
 use jm_base::{M, Text};
 use std::alloc::Global;
 
 /// The template that a text of at most 65,536 bytes is read as: the JMeter manual's functions and variables. Every text
-/// has one reading, so only memory can be wanting. It takes time in proportion to the text.
+/// has one reading, so the one error is out of memory. It takes time in proportion to the text.
 pub fn parse_template(alloc: Global, text: &[u8]) -> M<Template>
     requires { length text.now ≤ 65536 }
     ensures reading { IfOk result (λ template. IsReadingOf text.now template) }
@@ -34,8 +34,8 @@ fn read(alloc: Global, text: &[u8], found: &[Option<Found>]) -> M<Template>
     let mut pieces = TemplateBuilder::new(alloc);
     let mut at = 0;
     while at < text.len() {
-        let rest = behind(text, at);
-        let places = behind(found, at);
+        let rest = after(text, at);
+        let places = after(found, at);
         match first_found(places) {
             None => {
                 pieces.byte(text[at])?;
@@ -60,19 +60,19 @@ fn piece(alloc: Global, text: &[u8], found: &[Option<Found>], first: Found) -> M
 {
     match first {
         Found::Variable { length } => {
-            let (name, _) = behind(text, 2).split_at(length - 3);
+            let (name, _) = after(text, 2).split_at(length - 3);
             Ok(Piece::Var(Text::new(alloc, name)?))
         }
         Found::Call { name: length, .. } => {
-            let (name, _) = behind(text, 4).split_at(length);
+            let (name, _) = after(text, 4).split_at(length);
             let name = Text::new(alloc, name)?;
-            let args = call_arguments(alloc, behind(text, length + 5), behind(found, length + 5))?;
+            let args = call_arguments(alloc, after(text, length + 5), after(found, length + 5))?;
             Ok(Piece::Call { name, args })
         }
     }
 }
 
-/// The arguments of a call, from the byte behind its `(`.
+/// The arguments of a call, from the byte after its `(`.
 #[cycle(build)]
 fn call_arguments(alloc: Global, text: &[u8], found: &[Option<Found>]) -> M<Vec<Template>>
     requires places { AreFound text.now found.now }
@@ -96,12 +96,12 @@ fn arguments(alloc: Global, text: &[u8], found: &[Option<Found>]) -> M<Vec<Templ
     let mut at = 0;
     let mut unclosed = 0;
     while let Step::Goes { by, unclosed: then } = next_step(
-        behind(text, at),
-        behind(found, at),
+        after(text, at),
+        after(found, at),
         unclosed,
     ) {
-        let rest = behind(text, at);
-        let places = behind(found, at);
+        let rest = after(text, at);
+        let places = after(found, at);
         match first_found(places) {
             None => arguments.token(alloc, first_token(rest))?,
             Some(first) => {

@@ -13,7 +13,7 @@ use jm_base::{M, Text};
 use std::alloc::Global;
 use std::mem;
 
-/// Pieces so far, and the plain text behind them.
+/// Pieces so far, and the plain text after them.
 #[derive(Drop)]
 pub struct TemplateBuilder {
     pub pieces: Vec<Piece>,
@@ -70,7 +70,7 @@ impl TemplateBuilder {
     }
 }
 
-/// Arguments so far, and the pieces of the one behind them.
+/// Arguments so far, and the pieces of the one after them.
 #[derive(Drop)]
 pub struct ArgumentsBuilder {
     pub done: Vec<Template>,

@@ -12,7 +12,7 @@ mod write;
 pub use build::parse_template;
 pub use law::one_reading;
 pub use template::{Piece, Template};
-pub use write::spell;
+pub use write::{spell, spell_call, spell_variable};
 
 #[cfg(test)]
 mod tests;

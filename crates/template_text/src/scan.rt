@@ -32,11 +32,11 @@ pub enum Token {
 /// A reference in a text.
 #[derive(Clone, Copy)]
 pub enum Found {
-    /// A variable, in so many bytes.
+    /// A variable, in that many bytes.
     Variable {
         length: usize,
     },
-    /// A call of a function with a name of so many bytes, and how deep calls nest in it.
+    /// A call of a function with a name of that many bytes, and how deep calls nest in it.
     Call {
         name: usize,
         length: usize,
@@ -51,7 +51,7 @@ pub enum Step {
     Ends,
     /// There are no arguments that go on like this.
     Fails,
-    /// So many bytes further, with so many parentheses open there.
+    /// That many bytes further, with that many parentheses open there.
     Goes { by: usize, unclosed: usize },
 }
 
@@ -84,8 +84,8 @@ impl Found {
     }
 }
 
-/// What follows so many items.
-pub fn behind<T>(items: &[T], count: usize) -> &[T]
+/// What follows that many items.
+pub fn after<T>(items: &[T], count: usize) -> &[T]
     requires { count ≤ length items.now }
     ensures { result.now ≡ drop count items.now }
 {
@@ -122,7 +122,7 @@ pub fn first_token(text: &[u8]) -> Token
     }
 }
 
-/// The move from the first token of the text, where so many parentheses are open.
+/// The move from the first token of the text, where that many parentheses are open.
 pub fn next_step(text: &[u8], found: &[Option<Found>], unclosed: usize) -> Step
     requires some { 0 < length text.now }
     requires places { AreFound text.now found.now }
@@ -174,8 +174,8 @@ fn arguments_extent(text: &[u8], found: &[Option<Found>]) -> Option<Extent>
     let mut unclosed = 0;
     let mut depth = 0;
     while at < text.len() {
-        let places = behind(found, at);
-        match next_step(behind(text, at), places, unclosed) {
+        let places = after(found, at);
+        match next_step(after(text, at), places, unclosed) {
             Step::Ends => return Some(Extent { length: at, depth }),
             Step::Fails => return None,
             Step::Goes { by, unclosed: then } => {
@@ -206,7 +206,7 @@ fn is_name_byte(byte: u8) -> bool
     !matches!(byte, b'$' | b'{' | b'}' | b'(' | b')' | b',' | b'\\')
 }
 
-/// How many bytes at the front may stand in the name of a variable.
+/// How many bytes at the start may stand in the name of a variable.
 fn name_length(text: &[u8]) -> usize
     ensures length { result ≡ name_length text.now }
     ensures within { result ≤ length text.now }
@@ -268,7 +268,7 @@ fn opens(text: &[u8]) -> bool
     !text.is_empty() && text[0] == b'$' && next_is(text, b'{')
 }
 
-/// The reference with this name, and with this text behind the name.
+/// The reference with this name, and with this text after the name.
 fn ended(name: &[u8], text: &[u8], found: &[Option<Found>]) -> Option<Found>
     requires places { AreFound text.now found.now }
     requires room { length name.now + length text.now + 5 < 2 ^ 64 }
@@ -279,7 +279,7 @@ fn ended(name: &[u8], text: &[u8], found: &[Option<Found>]) -> Option<Found>
     }
     match text[0] {
         b'}' => variable(name),
-        b'(' => call(name, behind(text, 1), behind(found, 1)),
+        b'(' => call(name, after(text, 1), after(found, 1)),
         _ => None,
     }
 }
@@ -305,9 +305,9 @@ fn first(text: &[u8], found: &[Option<Found>]) -> Option<Found>
     if !opens(text) {
         return None;
     }
-    let inside = behind(text, 2);
+    let inside = after(text, 2);
     let (name, rest) = inside.split_at(name_length(inside));
-    ended(name, rest, behind(found, name.len() + 1))
+    ended(name, rest, after(found, name.len() + 1))
 }
 
 /// What begins at each place of the text.
@@ -318,7 +318,7 @@ pub fn references(alloc: Global, text: &[u8]) -> M<Vec<Option<Found>>>
     let mut at = text.len();
     while at > 0 {
         at -= 1;
-        let reference = first(behind(text, at), behind(&found, at + 1));
+        let reference = first(after(text, at), after(&found, at + 1));
         found[at] = reference;
     }
     Ok(found)

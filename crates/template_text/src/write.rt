@@ -1,4 +1,4 @@
-// The text of a template.
+// The text of a template, and of one reference.
 
 ghost use Rattle.std.specs.Prelude.{◌≡◌, ◌++◌, IfOk, OnOk};
 ghost use Rattle.template_text.specs.Pieces.{variable, call, escaped, spelling, reference_spelling, argument_spelling, arguments_spelling, further_spelling};
@@ -21,6 +21,25 @@ pub fn spell(alloc: Global, template: &Template) -> M<Text>
             Piece::Call { name, args } => write_call(name, args, &mut out)?,
         }
     }
+    Ok(Text::of(out))
+}
+
+/// The spelling of a variable reference: `${name}`.
+pub fn spell_variable(alloc: Global, name: &Text) -> M<Text>
+    ensures { IfOk result (λ text. text ≡ reference_spelling (variable name.now)) }
+{
+    let mut out = Vec::new(alloc);
+    write_variable(name, &mut out)?;
+    Ok(Text::of(out))
+}
+
+/// The spelling of a call: `${__name(arguments)}`, with a comma between two arguments, and in the plain text of an
+/// argument a backslash before each comma.
+pub fn spell_call(alloc: Global, name: &Text, args: &[Template]) -> M<Text>
+    ensures { IfOk result (λ text. text ≡ reference_spelling (call name.now (arguments_of args.now))) }
+{
+    let mut out = Vec::new(alloc);
+    write_call(name, args, &mut out)?;
     Ok(Text::of(out))
 }
 
