@@ -11,7 +11,7 @@ use Rattle.cond_expr.specs.Machine as machine
 use Rattle.cond_expr.specs.Machine.{Frame, left_side, depth_of, State, awaiting, complete, settled, chains, strength, operate, close, next, run, whole, finish, or_else_fault, reading_of}
 use Rattle.cond_expr.proofs.Settling.{Loose, Loose-weaker, settled-loose, settled-closes, resettled, resettled-settled, chains-loose, chains-or, chains-and, comparison-strength, run-next, run-none, run-then}
 
--- From the tokens the machine comes to a state that closes to the reading, in front of what was open before.
+-- From the tokens the machine comes to a state that closes to the reading, over what was open before.
 abbrev pub Closes : ℕ → ℕ → List Placed → Reading → Type 0
 Closes s levels ts r =
     (fs : List Frame) → depth_of fs + levels ≡ max_depth → Loose s fs →

@@ -80,7 +80,7 @@ left_side_reads LessOrEqual L levels ts r h c d = to_operand L levels ts r (c re
 left_side_reads Greater L levels ts r h c d = to_operand L levels ts r (c refl) d
 left_side_reads GreaterOrEqual L levels ts r h c d = to_operand L levels ts r (c refl) d
 
--- an operator comes behind its left side
+-- an operator comes after its left side
 operator_waits : (at : ℕ) (op : Operator) (L : Strength) (fs : List Frame) (r : Reading) (ps : List Placed) → strength op ≤ bound L → (strength op ≡ 3 → 4 ≤ bound L) →
     Loose (strength op) fs → Has L fs r ps → Waits (left_side at op r ∷ fs) (ps ++ placed at (Operate op) ∷ [])
 operator_waits at op L fs r ps high operands outside has = record {

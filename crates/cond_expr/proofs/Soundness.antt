@@ -42,7 +42,7 @@ to_disjunction conjunction levels ts r d = one_conjunction levels ts r d
 to_disjunction comparison levels ts r d = one_conjunction levels ts r (one_comparison levels ts r d)
 to_disjunction operand levels ts r d = one_conjunction levels ts r (one_comparison levels ts r (one_operand levels ts r d))
 
--- The left side of an operator is a reading of its strength, or for a comparison an operand, behind frames that bind less strongly.
+-- The left side of an operator is a reading of its strength, or for a comparison an operand, after frames that bind less strongly.
 abbrev pub LeftSide : Operator → ℕ → List Placed → Reading → Type 0
 LeftSide Or levels ts l = Reads disjunction levels ts l
 LeftSide And levels ts l = Reads conjunction levels ts l

@@ -28,7 +28,7 @@ IsComparison LessOrEqual = Unit {0}
 IsComparison Greater = Unit {0}
 IsComparison GreaterOrEqual = Unit {0}
 
--- Tokens that are read so, where so many parentheses and `!` may still be opened.
+-- Tokens and what they are read as, where that many parentheses and `!` may still be opened.
 pub data Reads : Strength → ℕ → List Placed → Reading → Type 0 where
   -- a number, a text or a truth
   value : (levels at : ℕ) (v : CondValue) → Reads operand levels (placed at (Value v) ∷ []) (constant v)
@@ -50,7 +50,7 @@ pub data Reads : Strength → ℕ → List Placed → Reading → Type 0 where
   one_comparison : (levels : ℕ) (ts : List Placed) (r : Reading) → Reads comparison levels ts r → Reads conjunction levels ts r
   one_conjunction : (levels : ℕ) (ts : List Placed) (r : Reading) → Reads conjunction levels ts r → Reads disjunction levels ts r
 
--- parentheses and `!` together nest at most so deep
+-- how deep parentheses and `!` together may nest
 abbrev pub max_depth : ℕ
 max_depth = 64
 

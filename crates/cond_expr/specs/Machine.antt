@@ -50,7 +50,7 @@ pub data State : Type 0 where
   awaiting : List Frame → State
   complete : List Frame → Reading → State
 
--- an operand has come: what is open that binds at least so strongly is closed over it
+-- an operand has come: what is open and binds at least with this strength is closed over it
 abbrev pub settled : ℕ → List Frame → Reading → State
 settled s [] r = complete [] r
 settled s (f ∷ fs) r = if nat_le s (frame_strength f) then settled s fs (closed f r) else complete (f ∷ fs) r

@@ -22,7 +22,7 @@ Puts at None below (Ok u) items = ⊥
 Puts at None below (Err (BadCond n)) items = n ≡ at
 Puts at None below (Err NoMemory) items = Unit {0}
 
--- What steps come to over these values, the top first: a value, a fault, or nothing, where a value is wanting or left over.
+-- What steps come to over these values, the top first: a value, a fault, or nothing, where a value is missing or left over.
 abbrev pub on_truth : ℕ → Option Bool → (CondValue → Option (Result CondValue ℕ)) → Option (Result CondValue ℕ)
 on_truth at (Some p) go = go (Truth p)
 on_truth at None go = Some (Err at)

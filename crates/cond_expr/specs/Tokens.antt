@@ -34,7 +34,7 @@ number_after negative bs =
 abbrev pub text_at : ℕ → List ℕ → Option (Token × ℕ)
 text_at quote bs = option_map (λ n. (Value (Text (take n bs)), n + 2)) (position (λ b. b == quote) bs)
 
--- The other tokens have one spelling each, and where one is the front of another, the longer one stands there.
+-- The other tokens have one spelling each, and where one is a prefix of another, the longer one stands there.
 abbrev pub operators : List (List ℕ × Token)
 operators =
     (codes "==", Operate Equal) ∷ (codes "!=", Operate NotEqual) ∷ (codes "<=", Operate LessOrEqual) ∷ (codes "<", Operate Less) ∷
@@ -63,7 +63,7 @@ pub record Placed : Type 0 where
   pub at : ℕ
   pub token : Token
 
--- The tokens of a text from a place on, with spaces between them at will. So many bytes in front belong to a token that is counted already.
+-- The tokens of a text from a place on, with spaces between them at will. The first bytes, as many as the first number says, belong to a token that is counted already.
 unfoldable pub tokens_from : ℕ → ℕ → List ℕ → List Placed
 tokens_from at skip [] = []
 tokens_from at (suc skip) (b ∷ bs) = tokens_from (suc at) skip bs

@@ -14,7 +14,7 @@ use crate::value::{CondError, CondValue, Operator};
 use jm_base::M;
 use std::alloc::Global;
 
-/// Parentheses and `!` together nest at most so deep.
+/// How deep parentheses and `!` together may nest.
 const MAX_DEPTH: usize = 64;
 
 /// What is open before an operand.
@@ -113,7 +113,7 @@ impl Parser {
         Ok(())
     }
 
-    /// Closes what is open and binds at least so strongly.
+    /// Closes what is open and binds at least with this strength.
     fn settle(&mut self, strength: u8) -> M<()>
         requires { 0 < strength }
         ensures { (fs : List Frame) (r : Reading) → IsOperandHeld self.old fs r → OnOk result (Holds self.new (settled strength fs r)) }
@@ -162,7 +162,7 @@ impl Parser {
         }
     }
 
-    /// Takes an operator behind its left side.
+    /// Takes an operator after its left side.
     fn operate(&mut self, at: u32, operator: Operator) -> M<bool>
         ensures { (s : State) → Holds self.old s → IfOk result (λ stands. Takes stands (next at (Operate operator) s) self.new) }
     {
@@ -178,7 +178,7 @@ impl Parser {
         Ok(true)
     }
 
-    /// Closes the innermost parenthesis behind its condition.
+    /// Closes the innermost parenthesis after its condition.
     fn close(&mut self) -> M<bool>
         ensures { (at : ℕ) (s : State) → Holds self.old s → IfOk result (λ stands. Takes stands (next at Close s) self.new) }
     {

@@ -7,7 +7,7 @@ use crate::value::{CondValue, Operator};
 use jm_base::{M, Text};
 use std::alloc::Global;
 
-/// A token. What begins none is unknown.
+/// A token. A byte that begins no token is unknown.
 #[derive(Drop)]
 pub enum Token {
     /// A number, a text, `true` or `false`.
@@ -24,7 +24,7 @@ pub enum Token {
     Unknown,
 }
 
-/// How many digits stand in front.
+/// How many digits the bytes begin with.
 fn digit_count(bytes: &[u8]) -> usize
     ensures count { result ≡ length (leading_digits bytes.now) }
     ensures bound { result ≤ length bytes.now }
@@ -37,7 +37,7 @@ fn digit_count(bytes: &[u8]) -> usize
     bytes.len()
 }
 
-/// The number that the digits in front write, where it is at most 2 ^ 63.
+/// The number that the digits at the start write, where it is at most 2 ^ 63.
 fn magnitude(bytes: &[u8]) -> Option<u64>
     ensures { result ≡ magnitude_of (leading_digits bytes.now) }
 {
@@ -73,7 +73,7 @@ fn signed(negative: bool, magnitude: u64) -> Option<i64>
     None
 }
 
-/// The number that the digits in front write after a sign.
+/// The number that the digits at the start write after a sign.
 fn numeral(negative: bool, bytes: &[u8]) -> Option<i64>
     ensures { result ≡ numeral negative (leading_digits bytes.now) }
 {
@@ -101,7 +101,7 @@ fn end_of_text(quote: u8, bytes: &[u8]) -> Option<usize>
     bytes.iter().position(|b| *b == quote)
 }
 
-/// The text token that a quote begins with these bytes behind it, and its length.
+/// The text token of a quote and the bytes after it, and its length.
 fn text_at(alloc: Global, quote: u8, bytes: &[u8]) -> M<Option<(Token, usize)>>
     ensures { IfOk result (λ found. found ≡ text_at quote bytes.now) }
 {

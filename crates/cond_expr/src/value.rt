@@ -3,9 +3,8 @@
 ghost use Rattle.std.specs.Prelude.{◌≡◌, IfOk};
 
 use jm_base::{M, NoMemory, Text};
-use std::alloc::{AllocError, AllocFailed, Global};
-use std::error::Error;
-use std::fmt;
+use std::alloc::{AllocFailed, Global};
+use thiserror::Error;
 
 /// What a condition is worth. As text a truth is `true` or `false`, and a number is decimal.
 #[derive(Drop)]
@@ -40,12 +39,14 @@ pub enum Operator {
 }
 
 /// Why a condition is not read, or has no value.
-#[derive(Clone, Copy, PartialEq, Eq, Debug)]
+#[derive(Clone, Copy, PartialEq, Eq, Debug, Error)]
 pub enum CondError {
     /// The byte at this place, counted from 0, can't stand there; or, of an evaluation, the operator at this place
     /// has an operand of the wrong kind.
+    #[error("bad condition at byte {at}")]
     BadCond { at: u32 },
-    /// Memory was wanting.
+    /// Out of memory.
+    #[error("out of memory")]
     NoMemory,
 }
 
@@ -60,17 +61,6 @@ impl From<NoMemory> for CondError {
     }
 }
 
-impl From<AllocError> for CondError {
-    ghost use Rattle.std.specs.Prelude.{◌≡◌};
-    ghost use Rattle.cond_expr.specs.declared.value.CondError.TheVariants.{NoMemory};
-
-    ghost from_gives = { λ _ e. e ≡ NoMemory };
-
-    fn from(_: AllocError) -> CondError {
-        CondError::NoMemory
-    }
-}
-
 impl<T: Drop> From<AllocFailed<T>> for CondError {
     ghost use Rattle.std.specs.Prelude.{◌≡◌};
     ghost use Rattle.cond_expr.specs.declared.value.CondError.TheVariants.{NoMemory};
@@ -81,17 +71,6 @@ impl<T: Drop> From<AllocFailed<T>> for CondError {
         CondError::NoMemory
     }
 }
-
-impl fmt::Display for CondError {
-    fn fmt<W: fmt::Write>(&self, f: &mut fmt::Formatter<W>) -> fmt::Result {
-        match self {
-            CondError::BadCond { at } => write!(f, "bad condition at byte {at}"),
-            CondError::NoMemory => write!(f, "out of memory"),
-        }
-    }
-}
-
-impl Error for CondError {}
 
 impl CondValue {
     /// A second value that is the same.

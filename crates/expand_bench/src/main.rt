@@ -43,7 +43,7 @@ fn state(alloc: Global) -> anyhow::Result<UserState> {
     })
 }
 
-/// Expands the template so many times and gives the bytes of all texts.
+/// Expands the template that many times and gives the bytes of all texts.
 fn expand_often(
     alloc: Global,
     template: &Template,

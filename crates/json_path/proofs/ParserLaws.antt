@@ -12,7 +12,7 @@ use Rattle.json_path.specs.Grammar.{is_name_byte}
 use Rattle.json_path.specs.Machine.{State, next_at, with_index, with_name, begin_step}
 use Rattle.json_path.specs.Holding.{Holds, Takes}
 
--- another byte behind a name ends it
+-- another byte after a name ends it
 pub name_ends : (old mid new : Parser) (b : ℕ) (stands : Bool) → is_name_byte b ≡ false → ((s : State) → Holds old s → Holds mid (with_name s)) → ((s : State) → Holds mid s → Takes stands (begin_step b s) new) →
     (s : State) → Holds old s → Takes stands (next_at InName b s) new
 name_ends old mid new b stands other ends begins s held =

@@ -46,7 +46,7 @@ all_push p (x ∷ xs) b h is = go (p x) h (λ rest. all_push p xs b rest is)
     go true all ih = ih all
     go false all ih = absurd cc
 
--- a byte behind whole steps
+-- a byte after whole steps
 step_begins : (b : ℕ) (ss : List Step) (rest : List ℕ) → AreSteps rest ss → ReachedIf (begin_step b (between ss)) (36 ∷ (rest ++ b ∷ []))
 unfolding ReachedIf
 step_begins b ss rest are = go (b == 46) refl (b == 91) refl
@@ -162,7 +162,7 @@ next_reached b _ _ (at_quote ss rest name are each) = quote_next b ss rest name 
 next_reached b _ _ (at_index ss rest ds are some few each) = index_next b ss rest ds are some few each
 next_reached b _ _ (at_star ss rest are) = star_next b ss rest are
 
--- a path, whose steps stand behind `$`
+-- a path, whose steps stand after `$`
 path_by : (ps more bytes : List ℕ) (ss : List Step) → ps ++ more ≡ 36 ∷ bytes → AreSteps bytes ss → BeginsPath ps
 path_by ps more bytes ss is are = (more, ss, (bytes, is, are))
 

@@ -10,7 +10,7 @@ abbrev pub steps_of : Result (Vec Step Global) PathError → Result (List Step) 
 steps_of (Ok steps) = Ok steps.items
 steps_of (Err e) = Err e
 
--- the value, or the fault at its place; want of memory may stand in place of either
+-- the value, or the fault at its place; out of memory may stand in place of either
 abbrev pub Gives : {A : Type 0} → Result A PathError → Result A ℕ → Type 0
 Gives (Ok x) answer = answer ≡ Ok x
 Gives (Err (BadPath at)) answer = answer ≡ Err at

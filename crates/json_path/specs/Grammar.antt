@@ -6,7 +6,7 @@ use Rattle.std.specs.Str.Parse.{digits_value}
 use Rattle.json_path.specs.declared.path.Step.{Step}
 use Rattle.json_path.specs.declared.path.Step.TheVariants.{Name, Index, All}
 
--- a byte of a name behind a dot: an ASCII letter, a digit, `_` or `-`
+-- a byte of a name after a dot: an ASCII letter, a digit, `_` or `-`
 abbrev pub is_name_byte : ℕ → Bool
 is_name_byte b = is_ascii_alphanumeric b || (b == 95 || b == 45)
 
@@ -53,7 +53,7 @@ IsPathOf text ss = (rest : List ℕ) × (text ≡ 36 ∷ rest) × AreSteps rest 
 abbrev pub BeginsPath : List ℕ → Type 0
 BeginsPath bytes = (more : List ℕ) × (ss : List Step) × IsPathOf (bytes ++ more) ss
 
--- the next byte can't stand, or there is none and the bytes are no path
+-- the next byte can't stand, or the bytes end and are not a path
 abbrev pub Stops : List ℕ → List ℕ → Type 0
 Stops before [] = (ss : List Step) → IsPathOf before ss → ⊥
 Stops before (b ∷ after) = BeginsPath (before ++ b ∷ []) → ⊥

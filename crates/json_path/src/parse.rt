@@ -11,7 +11,7 @@ use jm_base::{M, Text};
 use std::alloc::Global;
 use std::mem;
 
-/// A place of a list has at most so many digits.
+/// How many digits a place of a list may have.
 const MAX_DIGITS: usize = 9;
 
 /// Where the reading of a path stands.
@@ -19,21 +19,21 @@ const MAX_DIGITS: usize = 9;
 enum Place {
     /// Before `$`.
     Start,
-    /// Behind `$` or a whole step.
+    /// After `$` or a whole step.
     Between,
-    /// Behind `.`
+    /// After `.`
     AfterDot,
-    /// In a name behind a dot.
+    /// In a name after a dot.
     InName,
-    /// Behind `[`
+    /// After `[`
     AfterBracket,
-    /// Behind `['`, in a name.
+    /// After `['`, in a name.
     InQuotes,
-    /// Behind the quote that ends a name.
+    /// After the quote that ends a name.
     AfterQuote,
     /// In the digits of a place.
     InIndex,
-    /// Behind `[*`
+    /// After `[*`
     AfterStar,
 }
 
@@ -47,7 +47,7 @@ struct Parser {
     digits: usize,
 }
 
-/// Whether a byte may stand in a name behind a dot.
+/// Whether a byte may stand in a name after a dot.
 fn is_name_byte(byte: u8) -> bool
     ensures { result ≡ is_name_byte byte }
 {
@@ -109,7 +109,7 @@ impl Parser {
         false
     }
 
-    /// Takes the first byte of a name behind a dot.
+    /// Takes the first byte of a name after a dot.
     fn begin_name(&mut self, byte: u8) -> M<bool>
         ensures { (s : State) → Holds self.old s → IfOk result (λ stands. Takes stands (next_at AfterDot byte s) self.new) }
     {
@@ -133,7 +133,7 @@ impl Parser {
         Ok(self.begin_step(byte))
     }
 
-    /// Takes the byte behind `[`.
+    /// Takes the byte after `[`.
     fn open_bracket(&mut self, byte: u8) -> bool
         ensures { (s : State) → Holds self.old s → Takes result (next_at AfterBracket byte s) self.new }
     {
@@ -166,7 +166,7 @@ impl Parser {
         Ok(true)
     }
 
-    /// Takes the `]` behind a quoted name.
+    /// Takes the `]` after a quoted name.
     fn end_quoted(&mut self, alloc: Global, byte: u8) -> M<bool>
         ensures { (s : State) → Holds self.old s → IfOk result (λ stands. Takes stands (next_at AfterQuote byte s) self.new) }
     {
@@ -199,7 +199,7 @@ impl Parser {
         Ok(true)
     }
 
-    /// Takes the `]` behind `[*`.
+    /// Takes the `]` after `[*`.
     fn end_star(&mut self, byte: u8) -> M<bool>
         ensures { (s : State) → Holds self.old s → IfOk result (λ stands. Takes stands (next_at AfterStar byte s) self.new) }
     {
@@ -258,7 +258,7 @@ fn read(alloc: Global, text: &[u8]) -> Result<Vec<Step>, PathError>
     parser.finish(alloc, text.len() as u32)
 }
 
-/// Reads a path: `$`, and then steps `.name`, `['name']`, `[n]` and `[*]`. A name behind a dot has one or more ASCII
+/// Reads a path: `$`, and then steps `.name`, `['name']`, `[n]` and `[*]`. A name after a dot has one or more ASCII
 /// letters, digits, `_` and `-`, a quoted one any bytes but `'`, or none, and a place one to nine digits. The text has at
 /// most 65,536 bytes.
 pub fn parse_path(alloc: Global, text: &[u8]) -> Result<JsonPath, PathError>

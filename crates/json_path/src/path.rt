@@ -3,10 +3,8 @@
 ghost use Rattle.std.specs.Prelude.{◌≡◌};
 
 use jm_base::{NoMemory, Text};
-use std::alloc::{AllocError, AllocFailed};
-use std::error::Error;
-use std::fmt;
 use std::marker::Model;
+use thiserror::Error;
 
 /// One step of a path, from a value to values inside it.
 #[derive(Drop)]
@@ -51,11 +49,13 @@ impl JsonPath {
 }
 
 /// Why a path is not read.
-#[derive(Clone, Copy, PartialEq, Eq, Debug)]
+#[derive(Clone, Copy, PartialEq, Eq, Debug, Error)]
 pub enum PathError {
     /// The byte at this place, counted from 0, can't stand there. The place is the text's length where the path is not whole.
+    #[error("bad path at byte {at}")]
     BadPath { at: u32 },
-    /// Memory was wanting.
+    /// Out of memory.
+    #[error("out of memory")]
     NoMemory,
 }
 
@@ -69,36 +69,3 @@ impl From<NoMemory> for PathError {
         PathError::NoMemory
     }
 }
-
-impl From<AllocError> for PathError {
-    ghost use Rattle.std.specs.Prelude.{◌≡◌};
-    ghost use Rattle.json_path.specs.declared.path.PathError.TheVariants.{NoMemory};
-
-    ghost from_gives = { λ _ e. e ≡ NoMemory };
-
-    fn from(_: AllocError) -> PathError {
-        PathError::NoMemory
-    }
-}
-
-impl<T: Drop> From<AllocFailed<T>> for PathError {
-    ghost use Rattle.std.specs.Prelude.{◌≡◌};
-    ghost use Rattle.json_path.specs.declared.path.PathError.TheVariants.{NoMemory};
-
-    ghost from_gives = { λ _ e. e ≡ NoMemory };
-
-    fn from(_: AllocFailed<T>) -> PathError {
-        PathError::NoMemory
-    }
-}
-
-impl fmt::Display for PathError {
-    fn fmt<W: fmt::Write>(&self, f: &mut fmt::Formatter<W>) -> fmt::Result {
-        match self {
-            PathError::BadPath { at } => write!(f, "bad path at byte {at}"),
-            PathError::NoMemory => write!(f, "out of memory"),
-        }
-    }
-}
-
-impl Error for PathError {}

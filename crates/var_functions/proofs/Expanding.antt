@@ -108,7 +108,7 @@ referred_variable name vars fns h = without (function_of_name name) h where
   without None h = refl
   without (Some f) h = cc
 
--- a text that is known, behind the text in front
+-- a text that is known, after the text before it
 pub text_came : (a : Account) (r : Run (Expanded (List ℕ))) (t front new : List ℕ) (fns : Functions) (res : Result (Unit {0}) VarError) → r ≡ over (expanded (Some t) fns) → Grows (front ++ t) new res
     → CameTo a (and_then r (behind front)) a (λ _. over (expanded (Some new) fns)) (over (expanded None fns)) res
 text_came a r t front new fns res is h =
@@ -133,7 +133,7 @@ module _ (r : Run (Expanded (List ℕ))) (args : Functions → Run (Expanded (Li
     begun = subst (λ q. Goes a (and_then q (behind front)) [] (and_then (value f texts vars fns' >>= value_or_spelling spelling) (behind front)) m) (sym (is ∙ ap (λ w. called w args spelling vars fns) some))
         (goes-bind (on_expanded (behind front)) (goes-bind (on_expanded (λ texts fns. value f texts vars fns >>= value_or_spelling spelling)) g))
 
-    -- the value came, and stands behind the text in front, or the spelling does
+    -- the value came, and stands after the text before it, or the spelling does
     pub called_value : (b : Account) (v : Option (List ℕ)) (fns'' : Functions) (new : List ℕ) (res : Result (Unit {0}) VarError)
         → Goes m (value f texts vars fns') [] (over (v, fns'')) b → Grows (front ++ unwrap_or v spelling) new res
         → CameTo a (and_then r (behind front)) b (λ _. over (expanded (Some new) fns'')) (over (expanded None fns'')) res
@@ -141,7 +141,7 @@ module _ (r : Run (Expanded (List ℕ))) (args : Functions → Run (Expanded (Li
         came-first a b b (and_then r (behind front)) (over (expanded (limited (front ++ unwrap_or v spelling)) fns'')) (λ _. over (expanded (Some new) fns'')) (over (expanded None fns'')) res
         (goes-append begun (goes-bind (on_expanded (behind front)) (goes-bind (value_or_spelling spelling) h))) (grows-came b (front ++ unwrap_or v spelling) new fns'' res grows)
 
-    -- memory was wanting on the way to the value
+    -- out of memory on the way to the value
     pub called_cut : (b : Account) (limit : Run (Expanded (List ℕ))) → LeftOf m (value f texts vars fns') b → Refused a (and_then r (behind front)) b limit NoMemory
     called_cut b limit left =
         by_memory (_, goes-append begun (goes-bind (on_expanded (behind front)) (goes-bind (value_or_spelling spelling) left.1)))

@@ -9,7 +9,7 @@ use Rattle.var_functions.specs.declared.error.VarError.TheVariants.{ValueLimit, 
 abbrev pub LeftOf : {A : Type 0} → Account → Run A → Account → Type 0
 LeftOf {A} a run b = (rest : Run A) × Goes a run [] rest b
 
--- A call refused where the run was: past a limit, or somewhere on its way for want of memory.
+-- A call refused where the run was: past a limit, or somewhere on its way, out of memory.
 pub data Refused {A : Type 0} (a : Account) (run : Run A) (b : Account) (limit : Run A) : VarError → Type 0 where
   by_limit : Goes a run [] limit b → Refused a run b limit ValueLimit
   by_memory : LeftOf a run b → Refused a run b limit NoMemory

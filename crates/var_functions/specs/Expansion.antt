@@ -32,7 +32,7 @@ and_then run next = run >>= on_expanded next
 abbrev pub limited : List ℕ → Option (List ℕ)
 limited t = if nat_le (length t) most_text then Some t else None
 
--- a piece's text behind the text in front of it
+-- a piece's text after the text before it
 abbrev pub behind : List ℕ → List ℕ → Functions → Run (Expanded (List ℕ))
 behind front t fns = over (expanded (limited (front ++ t)) fns)
 
@@ -40,7 +40,7 @@ abbrev pub count : Arguments → ℕ
 count no_arguments = 0
 count (argument ps more) = suc (count more)
 
--- a function that takes so many arguments
+-- a function that takes that many arguments
 abbrev pub taking : ℕ → Function → Option Function
 taking n f = if takes f n then Some f else None
 
@@ -54,7 +54,7 @@ abbrev pub called : Option Function → (Functions → Run (Expanded (List (List
 called None args spelling vars fns = over (expanded (Some spelling) fns)
 called (Some f) args spelling vars fns = and_then (args fns) (λ texts fns. value f texts vars fns >>= value_or_spelling spelling)
 
--- the function whose name stands behind `__`
+-- the function whose name stands after `__`
 abbrev pub function_of_name : List ℕ → Option Function
 function_of_name name = if starts_with nat_eq name (codes "__") then function_named (drop 2 name) else None
 
@@ -64,7 +64,7 @@ named None name vars fns = over (expanded (Some (unwrap_or (value_of name vars) 
 named (Some f) name vars fns = called (taking 0 f) (λ fns. over (expanded (Some []) fns)) (reference_spelling (variable name)) vars fns
 
 unfoldable mutual
-  -- pieces from the left, behind the text in front of them
+  -- pieces from the left, after the text before them
   pub pieces_behind : Pieces → Variables → List ℕ → Functions → Run (Expanded (List ℕ))
   pieces_behind no_more vars front fns = over (expanded (Some front) fns)
   pieces_behind (text t more) vars front fns = and_then (behind front t fns) (pieces_behind more vars)
@@ -76,7 +76,7 @@ unfoldable mutual
   referred (call name args) vars fns =
       called (option_and_then (taking (count args)) (function_named name)) (texts_behind args vars []) (reference_spelling (call name args)) vars fns
 
-  -- the texts of arguments from the left, behind those before them
+  -- the texts of arguments from the left, after those before them
   pub texts_behind : Arguments → Variables → List (List ℕ) → Functions → Run (Expanded (List (List ℕ)))
   texts_behind no_arguments vars before fns = over (expanded (Some before) fns)
   texts_behind (argument ps more) vars before fns = and_then (pieces_behind ps vars [] fns) (λ t. texts_behind more vars (before ++ t ∷ []))
@@ -85,7 +85,7 @@ unfoldable mutual
 abbrev pub expansion : Pieces → Variables → Functions → Run (Expanded (List ℕ))
 expansion pieces vars fns = pieces_behind pieces vars [] fns
 
--- one piece behind the text in front of it
+-- one piece after the text before it
 abbrev pub piece_behind : Piece → Variables → List ℕ → Functions → Run (Expanded (List ℕ))
 piece_behind (Text t) vars front fns = behind front t fns
 piece_behind (Var name) vars front fns = and_then (referred (variable name) vars fns) (behind front)

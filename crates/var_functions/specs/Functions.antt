@@ -14,7 +14,7 @@ use Rattle.var_functions.specs.Props.{property_of}
 use Rattle.var_functions.specs.Numbers.{number, picked, int_sum}
 use Rattle.var_functions.specs.State.{Functions, draw, drawn, count}
 
--- the names, without the `__` in front of them
+-- the names, without the `__` before them
 abbrev pub table : List (List ℕ × Function)
 table =
     (codes "threadNum", ThreadNum) ∷ (codes "counter", Counter) ∷ (codes "Random", Random) ∷ (codes "intSum", IntSum) ∷ (codes "V", Variable) ∷

@@ -4,7 +4,7 @@ use Rattle.std.specs.List.{list_all}
 use Rattle.std.specs.Char.{is_ascii_digit}
 use Rattle.std.specs.Str.Parse.{digits_value}
 
--- the number that one or more decimal digits write, zeros in front or not, where it is at most 2 ^ 63
+-- the number that one or more decimal digits write, with zeros at the start or not, where it is at most 2 ^ 63
 abbrev pub magnitude : List ℕ → Option ℕ
 magnitude digits =
     if not (length digits == 0) && list_all is_ascii_digit digits && nat_le (digits_value 10 digits) (2 ^ 63) then Some (digits_value 10 digits) else None

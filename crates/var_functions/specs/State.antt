@@ -25,11 +25,11 @@ drawn g = (next_word 4 g).0 + 2 ^ 32 * (next_word 4 (next_word 4 g).1).0
 abbrev pub after_draw : ChaCha → ChaCha
 after_draw g = (next_word 4 (next_word 4 g).1).1
 
--- what is kept behind a draw
+-- what is kept after a draw
 abbrev pub draw : Functions → Functions
 draw fns = record fns { random = after_draw fns.random }
 
--- what is kept behind one more evaluation of `__counter`: the count stands still at the end of 64 bits
+-- what is kept after one more evaluation of `__counter`: the count stands still at the end of 64 bits
 abbrev pub count : Functions → Functions
 count fns = record fns { counted = min (fns.counted + 1) (2 ^ 64 - 1) }
 
@@ -38,7 +38,7 @@ abbrev pub first_functions : List (List ℕ × List ℕ) → ℕ → ℕ → ℕ
 first_functions props thread_num stream seed =
     record { props = props; thread_num = thread_num; counted = 0; random = first_state seed stream }
 
--- the generator so many draws further
+-- the generator that many draws further
 unfoldable pub after_draws : ℕ → ChaCha → ChaCha
 after_draws zero g = g
 after_draws (suc n) g = after_draw (after_draws n g)

@@ -34,11 +34,11 @@ abbrev pub bytes_of : Variables → ℕ
 bytes_of [] = 0
 bytes_of (v ∷ vars) = length v.0 + length v.1 + bytes_of vars
 
--- a value has at most so many bytes, and so has an argument or a whole expansion
+-- how many bytes a value may have, and so an argument or a whole expansion
 abbrev pub most_text : ℕ
 most_text = 65536
 
--- all names and values of one thread have at most so many bytes
+-- how many bytes all names and values of one thread may have
 abbrev pub most_bytes : ℕ
 most_bytes = 4194304
 

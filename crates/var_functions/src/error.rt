@@ -2,24 +2,27 @@
 
 use jm_base::NoMemory;
 use std::alloc::{AllocError, AllocFailed};
-use std::error::Error;
-use std::fmt;
+use thiserror::Error;
 
 /// Why a variable is not set, or a template not expanded.
-#[derive(Clone, Copy, PartialEq, Eq, Debug)]
+#[derive(Clone, Copy, PartialEq, Eq, Debug, Error)]
 pub enum VarError {
     /// A text would pass 65,536 bytes, or all names and values of the thread 4,194,304 bytes.
+    #[error("a value or the variables pass their limit")]
     ValueLimit,
-    /// Memory was wanting.
+    /// Out of memory.
+    #[error("out of memory")]
     NoMemory,
 }
 
 /// Why a text of properties is refused.
-#[derive(Clone, Copy, PartialEq, Eq, Debug)]
+#[derive(Clone, Copy, PartialEq, Eq, Debug, Error)]
 pub enum PropsError {
     /// A piece between two `&` is not empty and has no `=`.
+    #[error("a property has no `=`")]
     BadProps,
-    /// Memory was wanting.
+    /// Out of memory.
+    #[error("out of memory")]
     NoMemory,
 }
 
@@ -66,25 +69,3 @@ impl From<NoMemory> for PropsError {
         PropsError::NoMemory
     }
 }
-
-impl fmt::Display for VarError {
-    fn fmt<W: fmt::Write>(&self, f: &mut fmt::Formatter<W>) -> fmt::Result {
-        match self {
-            VarError::ValueLimit => write!(f, "a value or the variables pass their limit"),
-            VarError::NoMemory => write!(f, "out of memory"),
-        }
-    }
-}
-
-impl Error for VarError {}
-
-impl fmt::Display for PropsError {
-    fn fmt<W: fmt::Write>(&self, f: &mut fmt::Formatter<W>) -> fmt::Result {
-        match self {
-            PropsError::BadProps => write!(f, "a property has no `=`"),
-            PropsError::NoMemory => write!(f, "out of memory"),
-        }
-    }
-}
-
-impl Error for PropsError {}

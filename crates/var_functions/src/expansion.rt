@@ -13,13 +13,12 @@ ghost use Rattle.var_functions.specs.Expansion.{expanded, and_then, behind, limi
 
 use crate::error::VarError;
 use crate::function::{Function, function_named};
-use crate::spelling::{write_call, write_variable};
 use crate::state::{FnState, UserState};
 use crate::value::value;
 use crate::vars::{MOST_TEXT, Vars};
 use jm_base::{Outside, Text};
 use std::alloc::Global;
-use template_text::{Piece, Template};
+use template_text::{Piece, Template, spell_call, spell_variable};
 
 /// Whether the text is within the limit.
 fn check_length(out: &[u8]) -> Result<(), VarError>
@@ -44,28 +43,33 @@ fn append(bytes: &[u8], out: &mut Vec<u8>) -> Result<(), VarError>
 }
 
 /// Writes the spelling of a variable reference at the end, where that is within the limit.
-fn append_variable(name: &Text, out: &mut Vec<u8>) -> Result<(), VarError>
+fn append_variable(alloc: Global, name: &Text, out: &mut Vec<u8>) -> Result<(), VarError>
     ensures grown { Grows (out.old.items ++ reference_spelling (variable name.now)) out.new.items result }
     ensures short { OnOk result (length out.new.items ≤ most_text) }
 {
-    match write_variable(name, out) {
-        Ok(()) => check_length(out),
+    match spell_variable(alloc, name) {
+        Ok(spelling) => append(spelling.bytes(), out),
         Err(_) => Err(VarError::NoMemory),
     }
 }
 
 /// Writes the spelling of a call at the end, where that is within the limit.
-fn append_call(name: &Text, args: &[Template], out: &mut Vec<u8>) -> Result<(), VarError>
+fn append_call(
+    alloc: Global,
+    name: &Text,
+    args: &[Template],
+    out: &mut Vec<u8>,
+) -> Result<(), VarError>
     ensures grown { Grows (out.old.items ++ reference_spelling (call name.now (arguments_of args.now))) out.new.items result }
     ensures short { OnOk result (length out.new.items ≤ most_text) }
 {
-    match write_call(name, args, out) {
-        Ok(()) => check_length(out),
+    match spell_call(alloc, name, args) {
+        Ok(spelling) => append(spelling.bytes(), out),
         Err(_) => Err(VarError::NoMemory),
     }
 }
 
-/// The function whose name stands behind `__`.
+/// The function whose name stands after `__`.
 fn function_of_name(name: &[u8]) -> Option<Function>
     ensures { result ≡ function_of_name name.now }
 {
@@ -75,7 +79,7 @@ fn function_of_name(name: &[u8]) -> Option<Function>
     None
 }
 
-/// The function of a name, where it takes so many arguments.
+/// The function of a name, where it takes that many arguments.
 fn taking(function: Option<Function>, count: usize) -> Option<Function>
     ensures { result ≡ option_and_then (taking count) function }
 {
@@ -103,16 +107,16 @@ fn write_named<O: Outside>(
     if named.is_none() {
         return match vars.get(name.bytes()) {
             Some(value) => append(value.bytes(), out),
-            None => append_variable(name, out),
+            None => append_variable(alloc, name, out),
         };
     }
     match taking(named, 0) {
         Some(function) => match value(alloc, function, &[], vars, fns, outside) {
             Ok(Some(text)) => append(text.bytes(), out),
-            Ok(None) => append_variable(name, out),
+            Ok(None) => append_variable(alloc, name, out),
             Err(_) => Err(VarError::NoMemory),
         },
-        None => append_variable(name, out),
+        None => append_variable(alloc, name, out),
     }
 }
 
@@ -133,12 +137,12 @@ fn write_called<O: Outside>(
     ensures short { OnOk result (length out.new.items ≤ most_text) }
 {
     let Some(function) = taking(function_named(name.bytes()), args.len()) else {
-        return append_call(name, args, out);
+        return append_call(alloc, name, args, out);
     };
     match argument_texts(alloc, args, vars, fns, outside) {
         Ok(texts) => match value(alloc, function, &texts, vars, fns, outside) {
             Ok(Some(text)) => append(text.bytes(), out),
-            Ok(None) => append_call(name, args, out),
+            Ok(None) => append_call(alloc, name, args, out),
             Err(_) => Err(VarError::NoMemory),
         },
         Err(error) => Err(error),
@@ -229,10 +233,10 @@ pub fn expand<O: Outside>(
     outside: &mut O,
 ) -> Result<Text, VarError>
     // The value, what functions keep, and the outside after it; past the limit what the evaluated part left of both;
-    // and where memory was wanting some rest of the run is left.
+    // and out of memory some rest of the run is left.
     ensures came { CameTo (O.account outside.old) (expansion template.now state.old.vars state.old.fns) (O.account outside.new)
         (λ t. over (expanded (Some t) state.new.fns)) (over (expanded None state.new.fns)) result }
-    // After every answer, want of memory included.
+    // After every answer, out of memory included.
     ensures later { IsLater state.old.fns state.new.fns }
     ensures vars { state.new.vars ≡ state.old.vars }
 {

@@ -26,7 +26,7 @@ pub(crate) enum Function {
     Condition,
 }
 
-/// The function of a name, without the `__` in front of it.
+/// The function of a name, without the `__` before it.
 pub(crate) fn function_named(name: &[u8]) -> Option<Function>
     ensures { result ≡ function_named name.now }
 {
@@ -61,7 +61,7 @@ pub(crate) fn function_named(name: &[u8]) -> Option<Function>
 }
 
 impl Function {
-    /// Whether it takes so many arguments.
+    /// Whether it takes that many arguments.
     pub(crate) fn takes(self, count: usize) -> bool
         ensures { result ≡ takes self count }
     {

@@ -6,7 +6,6 @@ mod expansion;
 mod function;
 mod number;
 mod props;
-mod spelling;
 mod state;
 mod value;
 mod vars;
