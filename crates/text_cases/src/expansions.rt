@@ -1,0 +1,144 @@
+// What templates expand to, over the variables, properties and numbers of a thread.
+
+use crate::texts::shown;
+use jm_base::{M, NoMemory, Outcome, Outside, Request, Text};
+use std::alloc::Global;
+use template_text::parse_template;
+use var_functions::{FnState, Props, PropsError, UserState, VarError, Vars, expand};
+
+/// An outside with a clock alone, which is at 1,000 first and goes on by 7 at each reading. It keeps its readings.
+#[derive(Drop)]
+pub struct Clock {
+    next: u64,
+    readings: Vec<u64>,
+}
+
+impl Outside for Clock {
+    ghost use Rattle.std.specs.Prelude.{None};
+
+    ghost account = { λ _. record { origin = None; value = None; told = None; faults = 0 } };
+
+    fn now(&mut self) -> M<u64> {
+        let now = self.next;
+        self.readings.push(now)?;
+        self.next = now.wrapping_add(7);
+        Ok(now)
+    }
+
+    fn pause(&mut self, _ms: u32) -> M<()> {
+        Err(NoMemory)
+    }
+
+    fn ask(&mut self, _sampler: u16, _request: &Request) -> M<Outcome> {
+        Err(NoMemory)
+    }
+}
+
+impl Clock {
+    pub fn new(alloc: Global) -> Clock {
+        Clock {
+            next: 1000,
+            readings: Vec::new(alloc),
+        }
+    }
+}
+
+/// What each new thread begins with.
+#[derive(Drop)]
+pub struct Beginning {
+    pub given: Vec<(Vec<u8>, Vec<u8>)>,
+    pub props: Props,
+    pub thread: u16,
+    pub stream: u64,
+    pub seed: u64,
+}
+
+impl Beginning {
+    /// No variables and no properties, the thread's number 1, stream 0 and seed 0.
+    pub fn new(alloc: Global) -> anyhow::Result<Beginning> {
+        Ok(Beginning {
+            given: Vec::new(alloc),
+            props: Props::read(alloc, b"")?,
+            thread: 1,
+            stream: 0,
+            seed: 0,
+        })
+    }
+
+    /// The state of a new thread.
+    pub fn state(&self, alloc: Global) -> anyhow::Result<UserState> {
+        let mut vars = Vars::new(alloc);
+        for (name, value) in &self.given {
+            put(alloc, &mut vars, name, value)?;
+        }
+        let fns = FnState::new(alloc, &self.props, self.thread, self.stream, self.seed)?;
+        Ok(UserState { vars, fns })
+    }
+}
+
+/// Sets a variable.
+pub fn put(alloc: Global, vars: &mut Vars, name: &[u8], value: &[u8]) -> Result<(), VarError> {
+    vars.put(Text::new(alloc, name)?, Text::new(alloc, value)?)
+}
+
+/// Reads properties.
+pub fn properties(alloc: Global, text: &[u8]) -> anyhow::Result<Result<Props, PropsError>> {
+    if text.len() > 65536 {
+        anyhow::bail!("the properties have more than 65,536 bytes");
+    }
+    Ok(Props::read(alloc, text))
+}
+
+// The expansion alone. What it promises is left out here, so that no proof above carries it along.
+fn expanded(
+    alloc: Global,
+    text: &[u8],
+    state: &mut UserState,
+    clock: &mut Clock,
+) -> anyhow::Result<Result<Text, VarError>> {
+    if text.len() > 65536 {
+        anyhow::bail!("the template has more than 65,536 bytes");
+    }
+    let template = parse_template(alloc, text)?;
+    Ok(expand(alloc, &template, state, clock))
+}
+
+/// What a text expands to, and the readings of the clock.
+pub fn answer(alloc: Global, text: &[u8], state: &mut UserState) -> anyhow::Result<String> {
+    let mut clock = Clock::new(alloc);
+    let mut answer = match expanded(alloc, text, state, &mut clock)? {
+        Ok(text) => {
+            let text = shown(alloc, text.bytes())?;
+            format!(in alloc; " => '{text}'")?
+        }
+        Err(error) => format!(in alloc; " => {error}")?,
+    };
+    if !clock.readings.is_empty() {
+        answer.push_str(", clock read at")?;
+    }
+    for reading in &clock.readings {
+        answer.push_str(format!(in alloc; " {reading}")?.as_str())?;
+    }
+    Ok(answer)
+}
+
+/// The value of a variable.
+pub fn value(alloc: Global, vars: &Vars, name: &[u8]) -> anyhow::Result<String> {
+    match vars.get(name) {
+        Some(value) => {
+            let value = shown(alloc, value.bytes())?;
+            Ok(format!(in alloc; " => '{value}'")?)
+        }
+        None => Ok(format!(in alloc; " => not defined")?),
+    }
+}
+
+/// The next random words, as many as the count says.
+pub fn words(alloc: Global, count: u32, fns: &mut FnState) -> anyhow::Result<String> {
+    let mut words = format!(in alloc; " =>")?;
+    for _ in 0..count {
+        let word = fns.draw();
+        words.push_str(format!(in alloc; " {word}")?.as_str())?;
+    }
+    Ok(words)
+}
