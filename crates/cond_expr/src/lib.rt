@@ -11,6 +11,3 @@ pub use cond::Cond;
 pub use evaluation::eval;
 pub use parse::parse_cond;
 pub use value::{CondError, CondValue, Operator};
-
-#[cfg(test)]
-mod tests;

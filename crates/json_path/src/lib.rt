@@ -8,6 +8,3 @@ mod selection;
 pub use parse::parse_path;
 pub use path::{JsonPath, PathError, Step};
 pub use selection::select;
-
-#[cfg(test)]
-mod tests;

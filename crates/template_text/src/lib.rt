@@ -13,6 +13,3 @@ pub use build::parse_template;
 pub use law::one_reading;
 pub use template::{Piece, Template};
 pub use write::{spell, spell_call, spell_variable};
-
-#[cfg(test)]
-mod tests;

@@ -15,6 +15,3 @@ pub use expansion::expand;
 pub use props::Props;
 pub use state::{FnState, UserState};
 pub use vars::Vars;
-
-#[cfg(test)]
-mod tests;

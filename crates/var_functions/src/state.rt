@@ -97,20 +97,3 @@ impl FnState {
         self.props.last(name)
     }
 }
-
-#[cfg(test)]
-mod tests {
-    use super::*;
-    use std::test::Fail;
-
-    #[test]
-    fn the_count_stands_still_at_the_end_of_64_bits(rt: HostRuntime) -> Result<(), Fail> {
-        let props = Props::read(rt.alloc(), b"")?;
-        let mut fns = FnState::new(rt.alloc(), &props, 1, 0, 0)?;
-        assert_eq!(rt; fns.count(), 1);
-        fns.counted = u64::MAX - 1;
-        assert_eq!(rt; fns.count(), u64::MAX);
-        assert_eq!(rt; fns.count(), u64::MAX);
-        Ok(())
-    }
-}
