@@ -21,6 +21,7 @@ fn parts(line: &str) -> (&str, &str) {
 }
 
 impl Cases {
+    /// No long text, and a new thread of no variables and no properties.
     pub fn new(alloc: Global) -> anyhow::Result<Cases> {
         let beginning = Beginning::new(alloc)?;
         let state = beginning.state(alloc)?;

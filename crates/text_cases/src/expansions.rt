@@ -35,6 +35,7 @@ impl Outside for Clock {
 }
 
 impl Clock {
+    /// A clock before its first reading.
     pub fn new(alloc: Global) -> Clock {
         Clock {
             next: 1000,
@@ -46,10 +47,15 @@ impl Clock {
 /// What each new thread begins with.
 #[derive(Drop)]
 pub struct Beginning {
+    /// The names and values of its variables.
     pub given: Vec<(Vec<u8>, Vec<u8>)>,
+    /// The properties of the run.
     pub props: Props,
+    /// The thread's number in its group.
     pub thread: u16,
+    /// The stream of its random words.
     pub stream: u64,
+    /// The seed of its random words.
     pub seed: u64,
 }
 
