@@ -139,7 +139,7 @@ refused_so reading (Err errors.NotJson) e other gives is = gives ∙ (cc)
 refused_so reading (Err (errors.NotElement path)) e other gives is = gives ∙ (cc)
 refused_so reading (Err (errors.UnknownKey path)) e other gives is = gives ∙ (cc)
 
--- it answers the refusal that is read, unless memory was wanting
+-- it answers the refusal that is read, unless it ran out of memory
 refuses : (reading : Result Raw TreeError) (r : Result RawElement TreeError) (e : TreeError) → Gives raw_view r reading → reading ≡ Err e → (r ≡ Err errors.NoMemory → ⊥) → r ≡ Err e
 refuses reading (Ok t) e gives is ample = cc
 refuses reading (Err errors.NoMemory) e gives is ample = absurd (ample refl)

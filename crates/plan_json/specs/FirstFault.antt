@@ -12,7 +12,7 @@ pub data Fault : Type 0 where
   no_element : Fault
   another_key : Fault
 
--- a value that is no element has no other fault
+-- a value that is not an element has no other fault
 abbrev pub own_fault : Data → Option Fault
 own_fault d =
     if not (option_map_or is_element (as_object d) false) then Some no_element

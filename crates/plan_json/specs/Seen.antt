@@ -28,7 +28,7 @@ objects_step e = is_some (as_object (view e.props)) && list_all (λ b. b) e.chil
 abbrev pub has_objects : RawElement → Bool
 has_objects = fold-RawElement Bool objects_step
 
--- a call may answer this error where a reading is refused so, unless memory was wanting
+-- a call may answer this error where a reading is refused so, unless it ran out of memory
 abbrev pub Fails : {A : Type 0} → TreeError → Result A TreeError → Type 0
 Fails errors.NoMemory reading = Unit {0}
 Fails errors.NotUtf8 reading = reading ≡ Err errors.NotUtf8
@@ -36,7 +36,7 @@ Fails errors.NotJson reading = reading ≡ Err errors.NotJson
 Fails (errors.NotElement path) reading = reading ≡ Err (errors.NotElement path)
 Fails (errors.UnknownKey path) reading = reading ≡ Err (errors.UnknownKey path)
 
--- what a call answered, seen by this, is what is read, unless memory was wanting
+-- what a call answered, seen by this, is what is read, unless it ran out of memory
 abbrev pub Gives : {X Y : Type 0} → (X → Y) → Result X TreeError → Result Y TreeError → Type 0
 Gives seen (Ok x) reading = reading ≡ Ok (seen x)
 Gives seen (Err e) reading = Fails e reading
@@ -46,12 +46,12 @@ abbrev pub IsElement : Result RawElement TreeError → Members → List RawEleme
 IsElement (Ok e) ms children = raw_view e ≡ element_of ms (raws_of (map raw_view children))
 IsElement (Err e) ms children = e ≡ errors.NoMemory
 
--- a call answers this error exactly where the fact holds, but for want of memory
+-- a call answers this error exactly where the fact holds, unless it ran out of memory
 pub record ExactlyWhere (result : Result RawElement TreeError) (error : TreeError) (P : Type 0) : Type 0 where
   pub only : result ≡ Err error → P
   pub always : P → (result ≡ Err errors.NoMemory → ⊥) → result ≡ Err error
 
--- a call succeeds exactly where the fact holds, but for want of memory
+-- a call succeeds exactly where the fact holds, unless it ran out of memory
 pub record SucceedsWhere (result : Result RawElement TreeError) (P : Type 0) : Type 0 where
   pub only : IsOk result → P
   pub always : P → (result ≡ Err errors.NoMemory → ⊥) → IsOk result

@@ -1,24 +1,28 @@
-// Why bytes are no tree of elements.
+// Why bytes are not a tree of elements.
 
 use crate::path::Path;
 use jm_base::NoMemory;
 use std::alloc::{AllocError, AllocFailed};
-use std::error::Error;
-use std::fmt;
+use thiserror::Error;
 
-/// Why bytes are no tree of elements.
-#[derive(Debug, Drop)]
+/// Why bytes are not a tree of elements.
+#[derive(Debug, Drop, Error)]
 pub enum TreeError {
-    /// The bytes are no UTF-8.
+    /// The bytes are not UTF-8.
+    #[error("not UTF-8")]
     NotUtf8,
-    /// The text is no JSON, as one that is empty or nests more than 127 deep.
+    /// The text is not JSON, as one that is empty or nests more than 127 deep.
+    #[error("not JSON")]
     NotJson,
-    /// The value at this path is no element: it is no object, lacks `type`, or has one of the five keys with a value
-    /// of another form.
+    /// The value at this path is not an element: it is not an object, lacks `type`, or has one of the five keys with a
+    /// value of another form.
+    #[error("not an element at {path}")]
     NotElement { path: Path },
-    /// The element at this path has a key that is none of the five.
+    /// The element at this path has a key that is not one of the five.
+    #[error("an unknown key at {path}")]
     UnknownKey { path: Path },
-    /// Memory was wanting.
+    /// Out of memory.
+    #[error("out of memory")]
     NoMemory,
 }
 
@@ -54,17 +58,3 @@ impl<T: Drop> From<AllocFailed<T>> for TreeError {
         TreeError::NoMemory
     }
 }
-
-impl fmt::Display for TreeError {
-    fn fmt<W: fmt::Write>(&self, f: &mut fmt::Formatter<W>) -> fmt::Result {
-        match self {
-            TreeError::NotUtf8 => write!(f, "not UTF-8"),
-            TreeError::NotJson => write!(f, "not JSON"),
-            TreeError::NotElement { path } => write!(f, "not an element at {path}"),
-            TreeError::UnknownKey { path } => write!(f, "an unknown key at {path}"),
-            TreeError::NoMemory => write!(f, "out of memory"),
-        }
-    }
-}
-
-impl Error for TreeError {}

@@ -74,7 +74,7 @@ impl Path {
     }
 }
 
-/// As [`Path::text`], with one replacement character for a property whose name is no UTF-8.
+/// As [`Path::text`], with one replacement character for a property whose name is not UTF-8.
 impl fmt::Display for Path {
     fn fmt<W: fmt::Write>(&self, f: &mut fmt::Formatter<W>) -> fmt::Result {
         if self.places.is_empty() && self.prop.is_none() {

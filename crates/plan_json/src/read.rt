@@ -186,7 +186,7 @@ fn list_fits(value: &Value, key: &str) -> bool
     }
 }
 
-// Whether it has a key that is none of the five.
+// Whether it has a key that is not one of the five.
 fn has_other_key(value: &Value) -> bool
     ensures { result ≡ has_other_key (members_in (view value.now)) }
 {
