@@ -111,7 +111,7 @@ pub record Here (s : Stand) (parent : ℕ) (es : List Element) (n : ℕ) (e : El
   pub place : may_stand s.above (class_of e.kind) ≡ true
   pub apart : not (s.inside && is_section e.kind) ≡ true
 
--- so do those below it, which nest at most so deep
+-- so do those below it, which nest at most that deep
 unfoldable pub Good : ℕ → Stand → ℕ → List Element → ℕ → Type 0
 Good zero s parent es n = ⊥
 Good (suc d) s parent es n = (e : Element) × Here s parent es n e × AllByRecursion (λ c. (n < c) × Good d (stand_below s e.kind) n es c) e.children
@@ -123,7 +123,7 @@ get_middle (x ∷ front) e after n h = rw (← h) (get_middle front e after (len
 pub get_at : (es front : List Element) (e : Element) (after : List Element) (n : ℕ) → es ≡ front ++ e ∷ after → length front ≡ n → slice_get es n ≡ Some e
 get_at es front e after n is h = rw is (get_middle front e after n h)
 
--- behind one element, and behind those of a subtree
+-- after one element, and after those of a subtree
 pub behind_one : (es front : List Element) (e : Element) (xs after : List Element) → es ≡ front ++ ((e ∷ xs) ++ after) → es ≡ (front ++ e ∷ []) ++ (xs ++ after)
 behind_one es front e xs after is = is ∙ sym (append_assoc front (e ∷ []) (xs ++ after))
 

@@ -12,7 +12,7 @@ step : (es : List Element) (i g : ℕ) (e : Element) → i < length es → e ≡
     → threads_from i g (drop i es) ≡ threads_with i g (group_size e.kind) (λ h. threads_from (i + 1) h (drop (i + 1) es))
 step es i g e h is = ap (threads_from i g) (one_more es i e h is)
 
--- one more element, which is no group
+-- one more element, which is not a group
 pub no_group_step : (seen all : List Thread) (es : List Element) (i g : ℕ) (e : Element) → i < length es → e ≡ get_or es i e → group_size e.kind ≡ None
     → seen ++ threads_from i g (drop i es) ≡ all → seen ++ threads_from (i + 1) g (drop (i + 1) es) ≡ all
 no_group_step seen all es i g e h is none kept =

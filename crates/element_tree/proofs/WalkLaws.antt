@@ -1,6 +1,7 @@
 -- The walk over a tree, one element and one child after another.
 use Rattle.std.proofs.lemmas.List.{append-nil, drop_all}
 use Rattle.std.proofs.Common.{◌≡◌, ℕ, zero, suc, ◌+◌, ◌<◌, ◌≤◌, Bool, true, false, List, [], ◌∷◌, ◌++◌, ◌||◌, length, get_or, set, drop, map, Option, Some, None, Result, Ok, Err, refl, sym, ap, ◌∙◌, subst, append_assoc, add-one, drop-cons, arith, rules, length-append, ap₂}
+use Rattle.std.specs.List.{list_any}
 use Rattle.serde_json.specs.Data.{Members}
 use Rattle.serde_json.specs.View.{view}
 use Rattle.plan_json.specs.Shape.{Raw, raw, Raws, no_raws, raw_then, members_in}
@@ -21,7 +22,7 @@ use Rattle.element_tree.specs.Kinds.{kind_of}
 use Rattle.element_props.specs.Patterns.{Asked}
 use Rattle.element_props.specs.Props.{own_properties}
 use Rattle.element_props.specs.Reads.{Reads, over, refuse, ask, ◌>>=◌, Goes, Stops, Gives}
-use Rattle.element_tree.specs.Walk.{Spot, placed, own, own_of, child_spot, spot_of, at_place, node, elements, below, is_enabled, with_children}
+use Rattle.element_tree.specs.Walk.{Spot, placed, own, own_of, child_spot, spot_of, at_place, node, elements, below, is_enabled, has_enabled, with_children}
 use Rattle.element_props.proofs.ReadsLaws.{goes_nothing, goes_append, goes_bind, stops_after, stops_bind, stops_refuse}
 
 -- an element is its fields
@@ -48,6 +49,13 @@ module _ (spot : Spot) (number : ℕ) (kind name : List ℕ) (enabled : Bool) (m
   unfolding own
   own_done t rs ps made h k g some = rw (h, ← k) (goes_append (goes_bind _ g) (rw some (goes_nothing b _)))
 
+is_enabled_seen : (r : RawElement) → is_enabled (raw_view r) ≡ (out-RawElement r).enabled
+is_enabled_seen r = ap is_enabled (raw_seen r)
+
+pub any_enabled : (cs : List RawElement) → list_any (λ c. is_enabled (raw_view c)) cs ≡ has_enabled (raws_of (map raw_view cs))
+any_enabled [] = refl
+any_enabled (c ∷ cs) = ap (λ b. is_enabled (raw_view c) || b) (any_enabled cs)
+
 -- ---- the elements below one
 
 -- what was read of an element and its children, before what is left of them
@@ -62,9 +70,6 @@ shift name made parent numbers xs ys n (ask p t r) = ap (ask p t) (shift name ma
 
 raws_step : (cs : List RawElement) (i : ℕ) (v : RawElement) → i < length cs → v ≡ get_or cs i v → raws_of (map raw_view (drop i cs)) ≡ raw_then (raw_view v) (raws_of (map raw_view (drop (i + 1) cs)))
 raws_step cs i v h is = rw add-one (ap (λ (vs : List RawElement). raws_of (map raw_view vs)) (drop-cons cs i v h) ∙ ap (λ w. raw_then (raw_view w) (raws_of (map raw_view (drop (suc i) cs)))) (sym is))
-
-is_enabled_seen : (r : RawElement) → is_enabled (raw_view r) ≡ (out-RawElement r).enabled
-is_enabled_seen r = ap is_enabled (raw_seen r)
 
 module _ (whole : Reads (List Element)) (spot : Spot) (name : List ℕ) (made : Kind) (parent : ℕ) (numbers : List ℕ) (xs : List Element) (cs : List RawElement) (i n : ℕ) (v : RawElement) (a b : Asked)
     (h : i < length cs) (is : v ≡ get_or cs i v)

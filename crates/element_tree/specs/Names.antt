@@ -31,7 +31,7 @@ lock_name e = lock_of_kind e.kind
 abbrev pub with_text : List (List ℕ) → List ℕ → List (List ℕ)
 with_text seen x = if list_any (same_bytes x) seen then seen else seen ++ x ∷ []
 
--- the distinct texts of these, behind those that were seen, in order of first appearance
+-- the distinct texts of these, after those that were seen, in order of first appearance
 abbrev pub distinct_after : List (List ℕ) → List (List ℕ) → List (List ℕ)
 distinct_after seen [] = seen
 distinct_after seen (x ∷ xs) = distinct_after (with_text seen x) xs

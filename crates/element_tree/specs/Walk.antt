@@ -172,7 +172,7 @@ abbrev pub Refuses : Result Tree BuildError → BuildError → Type 0
 Refuses (Ok plan) e = ⊥
 Refuses (Err r) e = IsByPlan r → r ≡ e
 
--- what a call added to a list of elements is what the reading gives, unless memory was wanting
+-- what a call added to a list of elements is what the reading gives, unless it ran out of memory
 abbrev pub Adds : Asked → Reads (List Element) → List Element → Result (Unit {0}) BuildError → List Element → Asked → Type 0
 Adds before reading old (Ok _) new after = (xs : List Element) × (new ≡ old ++ xs) × Goes before reading (over xs) after
 Adds before reading old (Err e) new after = (e ≡ NoMemory → ⊥) → Stops before reading e after

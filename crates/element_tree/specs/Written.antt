@@ -38,7 +38,7 @@ abbrev pub tree_at : ℕ → (ℕ → Raw) → Option Element → Raw
 tree_at version below None = raw [] [] true no_members no_raws
 tree_at version below (Some e) = raw (type_name (type_of e.kind)) (utf8_lossy e.name) true (written_props version e.kind) (trees below e.children)
 
--- the tree of the element of this number, where elements nest at most so deep
+-- the tree of the element of this number, where elements nest at most that deep
 unfoldable pub written_tree : ℕ → Tree → ℕ → Raw
 written_tree zero plan n = raw [] [] true no_members no_raws
 written_tree (suc depth) plan n = tree_at plan.version (written_tree depth plan) (slice_get plan.elements n)

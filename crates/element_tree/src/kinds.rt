@@ -13,7 +13,7 @@ use template_text::Template;
 pub enum Loops {
     /// Round after round, until a limit or a stop ends the thread. A plan writes -1.
     Forever,
-    /// So many rounds, at most 2,147,483,647.
+    /// That many rounds, at most 2,147,483,647.
     Times(u32),
 }
 

@@ -618,15 +618,12 @@ fn names() -> &'static [Named]
 fn first_named(name: &[u8], names: &[Named]) -> Option<ElementType>
     ensures { result ≡ table.first_named name.now (map named_seen names.now) }
 {
-    match names {
-        [] => None,
-        [named, rest @ ..] => {
-            if name == named.name.as_bytes() {
-                return Some(named.kind);
-            }
-            first_named(name, rest)
+    for named in names {
+        if name == named.name.as_bytes() {
+            return Some(named.kind);
         }
     }
+    None
 }
 
 /// The type that a text names.

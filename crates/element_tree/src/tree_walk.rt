@@ -15,7 +15,7 @@ ghost use Rattle.element_props.specs.declared.error.PatternFault.TheVariants.{Sy
 ghost use Rattle.element_props.specs.declared.error.BuildError.TheVariants.{TooMany, BadPattern};
 ghost use Rattle.element_tree.specs.Types.{may_stand, is_root, is_group, is_leaf, is_inner, class_of_type, is_section_type};
 ghost use Rattle.element_tree.specs.Threads.{is_group_element};
-ghost use Rattle.element_tree.specs.Walk.{has_enabled, is_right, placed, own, own_of, elements, spot_of, Adds, node, with_children, known_version, version_of, version_in, root_spot, counted, walked, tree_of, reading, IsWalked, Refuses};
+ghost use Rattle.element_tree.specs.Walk.{is_enabled, has_enabled, is_right, placed, own, own_of, elements, spot_of, Adds, node, with_children, known_version, version_of, version_in, root_spot, counted, walked, tree_of, reading, IsWalked, Refuses};
 ghost use Rattle.element_tree.specs.Tree.{AreTables};
 
 use crate::kinds::{Element, Kind};
@@ -101,13 +101,17 @@ fn may_stand(above: Option<Class>, class: Class) -> bool
     }
 }
 
+fn is_enabled(element: &RawElement) -> bool
+    ensures { result ≡ is_enabled (raw_view element.now) }
+{
+    element.enabled
+}
+
+#[tactic(auto, using(crate::proofs::WalkLaws::any_enabled))]
 fn has_enabled(children: &[RawElement]) -> bool
     ensures { result ≡ has_enabled (raws_of (map raw_view children.now)) }
 {
-    match children {
-        [] => false,
-        [child, rest @ ..] => child.enabled || has_enabled(rest),
-    }
+    children.iter().any(|child| is_enabled(child))
 }
 
 fn is_right(
@@ -422,7 +426,7 @@ pub fn build<G: Patterns>(
     ensures accepted { IfOk result (λ plan. outcome (reading (raw_view tree.now)) ≡ Ok plan) }
     // A refusal by the plan alone is the first of the reading.
     ensures refused { (e : BuildError) → result ≡ Err e → IsByPlan e → outcome (reading (raw_view tree.now)) ≡ Err e }
-    // Where the reading refuses, so does the call: with that refusal, or because of a pattern before it, or for want of memory.
+    // Where the reading refuses, so does the call: with that refusal, or because of a pattern before it, or out of memory.
     ensures exact { (e : BuildError) → outcome (reading (raw_view tree.now)) ≡ Err e → Refuses result e }
     // The maker of patterns refuses by its grammar only a text that has no reading in it, and by size only where it counted one.
     ensures syntax { (p : Place) → result ≡ Err (BadPattern p Syntax) → (t : List ℕ) × (reading_of t ≡ None) }

@@ -73,7 +73,7 @@ fn element_in(elements: &[Element], number: u16) -> Option<&Element>
     elements.get(usize::from(number))
 }
 
-// The element of this number, where elements nest at most so deep.
+// The element of this number, where elements nest at most that deep.
 fn element_at(elements: &[Element], number: u16, depth: usize) -> &Element
     requires { Nests depth elements.now number }
     ensures found { slice_get elements.now number ≡ Some result.now }
@@ -86,7 +86,7 @@ fn element_at(elements: &[Element], number: u16, depth: usize) -> &Element
     }
 }
 
-// The element of this number and those below it, where elements nest at most so deep.
+// The element of this number and those below it, where elements nest at most that deep.
 fn tree_value(
     alloc: Global,
     version: u8,

@@ -1,5 +1,0 @@
-use Rattle.std.proofs.Common.{length}
-use Rattle.element_tree.proofs.table.+first_named.Given as goal
-
-abbrev pub decreases-first_named : goal.decreases-first_named
-decreases-first_named l = length l.names.now
