@@ -57,7 +57,7 @@ module _ (parent : ℕ → ℕ) (root : parent 0 ≡ 0) (earlier : (n : ℕ) →
     by_case (inl further) = (suc (at_parent further).0, (at_parent further).1)
     by_case (inr is) = (0, sym is)
 
-  -- what is on a line stands so many levels above its end
+  -- what is on a line stands that many levels above its end
   on_line : (steps n a : ℕ) → n ≤ steps → Contains (line parent steps n) a → (levels : ℕ) × (a ≡ above parent levels n)
   unfolding line above
   on_line zero n a h c = (0, only_member n a c)
@@ -66,11 +66,11 @@ module _ (parent : ℕ → ℕ) (root : parent 0 ≡ 0) (earlier : (n : ℕ) →
       let e = earlier n in
       further_up n a (line parent steps (parent (suc n))) c (on_line steps (parent (suc n)) a (omega arith))
 
-  -- what is on the line of an element stands so many levels above it
+  -- what is on the line of an element stands that many levels above it
   pub line_above : (n a : ℕ) → Contains (line parent n n) a → (levels : ℕ) × (a ≡ above parent levels n)
   line_above n a c = on_line n n a (omega arith) c
 
-  -- what stands so many levels above an element is on its line
+  -- what stands that many levels above an element is on its line
   stands_on : (levels steps n : ℕ) → n ≤ steps → Contains (line parent steps n) (above parent levels n)
   unfolding line above
   stands_on zero zero n h = Contains-push [] n

@@ -2,12 +2,12 @@
 use Rattle.std.specs.Prelude.{◌≡◌, ◌⊎◌, ℕ, zero, suc, ◌<◌, Bool, ◌&&◌, nat_lt, nat_eq, List, [], ◌∷◌, ◌++◌, length}
 use Rattle.std.specs.List.{filter, flat_map, range_with_len}
 
--- the element so many levels above this one
+-- the element that many levels above this one
 unfoldable pub above : (ℕ → ℕ) → ℕ → ℕ → ℕ
 above parent zero n = n
 above parent (suc levels) n = above parent levels (parent n)
 
--- an element and all above it, from the root down to it, in at most so many steps
+-- an element and all above it, from the root down to it, in at most that many steps
 unfoldable pub line : (ℕ → ℕ) → ℕ → ℕ → List ℕ
 line parent zero n = n ∷ []
 line parent (suc steps) zero = zero ∷ []
@@ -21,7 +21,7 @@ depth_by parent n = length (line parent n n)
 abbrev pub hangs_by : (ℕ → ℕ) → ℕ → ℕ → Bool
 hangs_by parent level n = nat_lt 0 n && nat_eq (parent n) level
 
--- what hangs directly on this one, in tree order, of so many elements
+-- what hangs directly on this one, in tree order, of that many elements
 unfoldable pub hanging_by : (ℕ → ℕ) → ℕ → ℕ → List ℕ
 hanging_by parent count level = filter (hangs_by parent level) (range_with_len 0 count)
 
