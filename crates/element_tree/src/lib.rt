@@ -28,6 +28,3 @@ pub use threads::Thread;
 pub use tree_walk::build;
 pub use types::{Class, ElementType};
 pub use write::write_plan;
-
-#[cfg(test)]
-mod tests;

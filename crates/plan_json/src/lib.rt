@@ -10,6 +10,3 @@ pub use error::TreeError;
 pub use path::Path;
 pub use raw::RawElement;
 pub use read::read_tree;
-
-#[cfg(test)]
-mod tests;

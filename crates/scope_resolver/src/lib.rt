@@ -5,6 +5,3 @@ mod levels;
 pub mod scope;
 
 pub use scope::package;
-
-#[cfg(test)]
-mod tests;

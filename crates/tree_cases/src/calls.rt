@@ -1,0 +1,31 @@
+// The calls alone. What they promise is left out here, so that no proof above carries it along.
+
+use element_tree::{BuildError, Package, Plan, RegexPatterns};
+use jm_base::{M, Text};
+use plan_json::{Path, RawElement, TreeError};
+use std::alloc::Global;
+
+pub fn read_tree(alloc: Global, bytes: &[u8]) -> Result<RawElement, TreeError> {
+    plan_json::read_tree(alloc, bytes)
+}
+
+pub fn build(
+    alloc: Global,
+    tree: &RawElement,
+    patterns: &mut RegexPatterns,
+) -> Result<Plan, BuildError> {
+    element_tree::build(alloc, tree, patterns)
+}
+
+pub fn write_plan(alloc: Global, plan: &Plan) -> M<Vec<u8>> {
+    element_tree::written_is_built_again();
+    element_tree::write_plan(alloc, plan)
+}
+
+pub fn package(alloc: Global, plan: &Plan, number: u16) -> M<Package> {
+    scope_resolver::package(alloc, plan, number)
+}
+
+pub fn path_text(alloc: Global, path: &Path) -> M<Text> {
+    path.text(alloc)
+}

@@ -1,0 +1,39 @@
+// Paths as they are printed.
+
+use crate::calls;
+use crate::source::push_bytes;
+use crate::words::word;
+use jm_base::Text;
+use plan_json::Path;
+use std::alloc::Global;
+
+/// The path of these steps, with the property after `;` where one is given, as its text and as it is displayed.
+pub fn answer(alloc: Global, description: &str) -> anyhow::Result<String> {
+    let (steps, prop) = match description.split_once(";") {
+        Some((steps, name)) => (steps, Some(bytes_of(alloc, name)?)),
+        None => (description, None),
+    };
+    let path = Path {
+        places: places(alloc, steps)?,
+        prop,
+    };
+    let text = calls::path_text(alloc, &path)?;
+    let text = word(&text);
+    Ok(format!(in alloc; "= {text} and {path}\n")?)
+}
+
+// A text in which `\xNN` stands for a byte.
+fn bytes_of(alloc: Global, text: &str) -> anyhow::Result<Text> {
+    let mut bytes = Vec::new(alloc);
+    push_bytes(&mut bytes, text)?;
+    Ok(Text::of(bytes))
+}
+
+// The steps of a path, with spaces between them.
+fn places(alloc: Global, steps: &str) -> anyhow::Result<Vec<u64>> {
+    let mut all = Vec::new(alloc);
+    for step in steps.split_whitespace() {
+        all.push(step.parse::<u64>()?)?;
+    }
+    Ok(all)
+}
