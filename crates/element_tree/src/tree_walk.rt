@@ -107,11 +107,16 @@ fn is_enabled(element: &RawElement) -> bool
     element.enabled
 }
 
-#[tactic(auto, using(crate::proofs::WalkLaws::any_enabled))]
+fn any_enabled(children: &[RawElement]) -> bool
+    ensures { result ≡ list_any (λ child. is_enabled (raw_view child)) children.now }
+{
+    children.iter().any(|child| is_enabled(child))
+}
+
 fn has_enabled(children: &[RawElement]) -> bool
     ensures { result ≡ has_enabled (raws_of (map raw_view children.now)) }
 {
-    children.iter().any(|child| is_enabled(child))
+    any_enabled(children)
 }
 
 fn is_right(
