@@ -1,5 +1,5 @@
 -- From the walk to the plan.
-use Rattle.std.proofs.Common.{◌≡◌, ℕ, Bool, false, List, [], ◌++◌, length, Option, None, Result, Ok, Err, IfOk, refl, sym, ap, ◌∙◌, subst}
+use Rattle.std.proofs.Common.{◌≡◌, ℕ, Bool, false, List, [], ◌++◌, length, None, Result, Ok, Err, IfOk, refl, sym, ap, ◌∙◌, subst}
 use Rattle.serde_json.specs.View.{view}
 use Rattle.plan_json.specs.Shape.{Raw, members_in}
 use Rattle.plan_json.specs.Seen.{raw_view}
@@ -7,13 +7,13 @@ use Rattle.plan_json.specs.declared.raw.RawElement.{RawElement, out-RawElement}
 use Rattle.element_props.specs.declared.error.BuildError.{BuildError}
 use Rattle.jm_base.specs.Counts.{Rose}
 use Rattle.element_props.specs.Answers.{IsByPlan}
-use Rattle.element_props.specs.Patterns.{Asked, reading_of}
+use Rattle.element_props.specs.Patterns.{Asked}
 use Rattle.element_props.specs.declared.error.BuildError.TheVariants.{BadPattern}
-use Rattle.element_props.specs.declared.error.PatternFault.TheVariants.{Syntax, Size}
+use Rattle.element_props.specs.declared.error.PatternFault.TheVariants.{Size}
 use Rattle.plan_json.specs.Place.{Place}
-use Rattle.element_props.specs.Reads.{Reads, over, refuse, ◌>>=◌, outcome, Goes, Stops, Gives}
+use Rattle.element_props.specs.Reads.{Reads, over, refuse, ◌>>=◌, judged, Goes, Stops, Gives}
 use Rattle.element_props.proofs.ReadsLaws.{goes_nothing, goes_append, goes_bind, stops_after, stops_bind, stops_refuse}
-use Rattle.element_props.proofs.OwnLaws.{goes_outcome, gives_read, gives_refused, gives_syntax, gives_size}
+use Rattle.element_props.proofs.OwnLaws.{goes_outcome, gives_judged, gives_refused, gives_size}
 use Rattle.element_tree.proofs.RefusalLaws.{own_reading}
 use Rattle.element_tree.specs.declared.kinds.Element.{Element}
 use Rattle.element_tree.specs.Tree.{Tree}
@@ -60,22 +60,19 @@ plan_refuses r a b new e g h = stops_after (goes_bind counted g) (rw h (stops_re
 -- ---- what the answer says
 
 module _ (tree : Raw) (a b : Asked) (result : Result Tree BuildError) (g : Gives (λ (p : Tree). p) a (reading tree) result b) where
-  pub read_ok : IfOk result (λ plan. outcome (reading tree) ≡ Ok plan)
-  read_ok = gives_read (λ (p : Tree). p) a b (reading tree) result g
+  pub read_ok : IfOk result (λ plan. judged (reading tree) ≡ Ok plan)
+  read_ok = gives_judged (λ (p : Tree). p) a b (reading tree) result g
 
-  pub read_refused : (e : BuildError) → result ≡ Err e → IsByPlan e → outcome (reading tree) ≡ Err e
+  pub read_refused : (e : BuildError) → result ≡ Err e → IsByPlan e → judged (reading tree) ≡ Err e
   read_refused e h by = gives_refused (λ (p : Tree). p) a b (reading tree) result e g h by
-
-  pub read_syntax : (p : Place) → result ≡ Err (BadPattern p Syntax) → (t : List ℕ) × (reading_of t ≡ None)
-  read_syntax p h = gives_syntax (λ (p : Tree). p) a b (reading tree) result p (own_reading tree) g h
 
   pub read_size : (p : Place) → result ≡ Err (BadPattern p Size) → Rose a.oversize b.oversize
   read_size p h = gives_size (λ (p : Tree). p) a b (reading tree) result p (own_reading tree) g h
 
-exactly : (tree : Raw) (e : BuildError) (result : Result Tree BuildError) → IfOk result (λ plan. outcome (reading tree) ≡ Ok plan) → ((r : BuildError) → result ≡ Err r → IsByPlan r → outcome (reading tree) ≡ Err r)
-    → outcome (reading tree) ≡ Err e → Refuses result e
+exactly : (tree : Raw) (e : BuildError) (result : Result Tree BuildError) → IfOk result (λ plan. judged (reading tree) ≡ Ok plan) → ((r : BuildError) → result ≡ Err r → IsByPlan r → judged (reading tree) ≡ Err r)
+    → judged (reading tree) ≡ Err e → Refuses result e
 exactly tree e (Ok plan) ok refused h = let f : ◌≡◌ {A = Result Tree BuildError} (Ok plan) (Err e) = sym ok ∙ h in cc
 exactly tree e (Err r) ok refused h = λ by. let f : ◌≡◌ {A = Result Tree BuildError} (Err r) (Err e) = sym (refused r refl by) ∙ h in cc
 
-pub read_exactly : (tree : Raw) (a b : Asked) (result : Result Tree BuildError) → Gives (λ (p : Tree). p) a (reading tree) result b → (e : BuildError) → outcome (reading tree) ≡ Err e → Refuses result e
+pub read_exactly : (tree : Raw) (a b : Asked) (result : Result Tree BuildError) → Gives (λ (p : Tree). p) a (reading tree) result b → (e : BuildError) → judged (reading tree) ≡ Err e → Refuses result e
 read_exactly tree a b result g e h = exactly tree e result (read_ok tree a b result g) (read_refused tree a b result g) h

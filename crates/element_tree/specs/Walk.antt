@@ -167,7 +167,7 @@ with_children [] n cs = []
 with_children (e ∷ es) zero cs = record e { children = cs } ∷ es
 with_children (e ∷ es) (suc n) cs = e ∷ with_children es n cs
 
--- a call refused with this, unless the maker of patterns or memory was the cause
+-- a call refused with this, unless the size of a pattern or memory was the cause
 abbrev pub Refuses : Result Tree BuildError → BuildError → Type 0
 Refuses (Ok plan) e = ⊥
 Refuses (Err r) e = IsByPlan r → r ≡ e

@@ -1,6 +1,6 @@
 // The walk over a tree, from its elements to a plan.
 
-ghost use Rattle.std.specs.Prelude.{◌≡◌, ◌<◌, ◌≤◌, ◌+◌, ◌||◌, ◌++◌, ◌∷◌, [], length, OnOk, map, IfOk, Some, None, Ok, Err, codes, List, ℕ};
+ghost use Rattle.std.specs.Prelude.{◌≡◌, ◌<◌, ◌≤◌, ◌+◌, ◌||◌, ◌++◌, ◌∷◌, [], length, OnOk, map, IfOk, Some, Ok, Err, codes};
 ghost use Rattle.std.specs.List.{list_any};
 ghost use Rattle.serde_json.specs.View.{view};
 ghost use Rattle.plan_json.specs.Place.{Place, at};
@@ -8,10 +8,9 @@ ghost use Rattle.plan_json.specs.Shape.{members_in};
 ghost use Rattle.plan_json.specs.Seen.{raw_view, raws_of};
 ghost use Rattle.jm_base.specs.Counts.{Rose};
 ghost use Rattle.element_props.specs.Answers.{IsByPlan};
-ghost use Rattle.element_props.specs.Patterns.{reading_of};
-ghost use Rattle.element_props.specs.Reads.{Gives, Answers, outcome};
+ghost use Rattle.element_props.specs.Reads.{Gives, Answers, judged};
 ghost use Rattle.element_props.specs.declared.error.BuildError.{BuildError};
-ghost use Rattle.element_props.specs.declared.error.PatternFault.TheVariants.{Syntax, Size};
+ghost use Rattle.element_props.specs.declared.error.PatternFault.TheVariants.{Size};
 ghost use Rattle.element_props.specs.declared.error.BuildError.TheVariants.{TooMany, BadPattern};
 ghost use Rattle.element_tree.specs.Types.{may_stand, is_root, is_group, is_leaf, is_inner, class_of_type, is_section_type};
 ghost use Rattle.element_tree.specs.Threads.{is_group_element};
@@ -427,14 +426,13 @@ pub fn build<G: Patterns>(
 ) -> Result<Plan, BuildError>
     // What was asked and answered is what the reading of the tree gives, one pattern after another.
     ensures reading { Gives (λ p. p) (G.account patterns.old) (reading (raw_view tree.now)) result (G.account patterns.new) }
-    // A plan is the one that the tree reads as, with every pattern taken as good.
-    ensures accepted { IfOk result (λ plan. outcome (reading (raw_view tree.now)) ≡ Ok plan) }
-    // A refusal by the plan alone is the first of the reading.
-    ensures refused { (e : BuildError) → result ≡ Err e → IsByPlan e → outcome (reading (raw_view tree.now)) ≡ Err e }
-    // Where the reading refuses, so does the call: with that refusal, or because of a pattern before it, or out of memory.
-    ensures exact { (e : BuildError) → outcome (reading (raw_view tree.now)) ≡ Err e → Refuses result e }
-    // The maker of patterns refuses by its grammar only a text that has no reading in it, and by size only where it counted one.
-    ensures syntax { (p : Place) → result ≡ Err (BadPattern p Syntax) → (t : List ℕ) × (reading_of t ≡ None) }
+    // A plan is the one that the tree reads as, each pattern being judged by the grammar of regular expressions.
+    ensures accepted { IfOk result (λ plan. judged (reading (raw_view tree.now)) ≡ Ok plan) }
+    // A refusal, but for a pattern's size and for memory, is the first of the reading.
+    ensures refused { (e : BuildError) → result ≡ Err e → IsByPlan e → judged (reading (raw_view tree.now)) ≡ Err e }
+    // Where the reading refuses, so does the call: with that refusal, or with the size of a pattern before it, or out of memory.
+    ensures exact { (e : BuildError) → judged (reading (raw_view tree.now)) ≡ Err e → Refuses result e }
+    // A pattern is refused by its size only where its maker counted one.
     ensures size { (p : Place) → result ≡ Err (BadPattern p Size) → Rose (G.account patterns.old).oversize (G.account patterns.new).oversize }
 {
     plan_in(alloc, tree, patterns)
