@@ -1,4 +1,4 @@
--- Where a reading asks for no pattern and refuses nothing, memory alone can be wanting.
+-- Where a reading asks for no pattern and refuses nothing, out of memory is the only error.
 use Rattle.std.proofs.Common.{◌≡◌, ℕ, Bool, true, false, List, refl, sym, true≢false, Result, Ok, Err, IfOk, IfErr, ap, ◌∙◌}
 use Rattle.element_props.specs.declared.error.BuildError.{BuildError}
 use Rattle.element_props.specs.declared.error.BuildError.TheVariants.{NoMemory}

@@ -1,4 +1,4 @@
--- The plan of a size: a group of so many loops, each over one sampler.
+-- The plan of a size: a group of that many loops, each over one sampler.
 use Rattle.std.specs.Prelude.{ℕ, ◌+◌, ◌*◌, ◌%◌, ◌==◌, false, List, [], ◌∷◌, ◌++◌, map, codes, decimal, if◌then◌else◌}
 use Rattle.std.specs.List.{range_with_len, flat_map}
 use Rattle.template_text.specs.Pieces.{no_more, text}

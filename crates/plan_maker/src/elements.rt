@@ -57,7 +57,7 @@ fn group(alloc: Global, size: u16) -> M<RawElement>
     })
 }
 
-/// The tree of a plan with so many loops.
+/// The tree of a plan with that many loops.
 pub fn plan_tree(alloc: Global, size: u16) -> M<RawElement>
     ensures { IfOk result (λ e. raw_view e ≡ plan_raw size) }
 {

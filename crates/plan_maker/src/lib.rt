@@ -8,6 +8,3 @@ mod values;
 
 pub use laws::small_plan;
 pub use making::{SIZE_LIMIT, make_plan};
-
-#[cfg(test)]
-mod tests;

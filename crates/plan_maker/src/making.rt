@@ -25,10 +25,10 @@ fn built(alloc: Global, tree: &RawElement, size: u16) -> Result<Plan, BuildError
     build(alloc, tree, &mut patterns)
 }
 
-/// The plan of this size, 1 to 2,047: a test plan over one thread group, `TG`, which has all defaults, and in it so many
+/// The plan of this size, 1 to 2,047: a test plan over one thread group, `TG`, which has all defaults, and in it that many
 /// loops, `L0`, `L1` and on. The loop of number i goes round (i mod 7) + 1 times over one sampler, whose name is `S` and
 /// i mod 16. The sampler answers with one reply, of i mod 10 milliseconds and code 200, or 500 where i mod 5 is 4.
-/// It fails for want of memory alone.
+/// Its only error is out of memory.
 pub fn make_plan(alloc: Global, size: u16) -> M<Plan>
     requires some { 1 ≤ size }
     requires few { size ≤ SIZE_LIMIT }
@@ -37,6 +37,7 @@ pub fn make_plan(alloc: Global, size: u16) -> M<Plan>
     let tree = plan_tree(alloc, size)?;
     match built(alloc, &tree, size) {
         Ok(plan) => Ok(plan),
-        Err(_) => Err(NoMemory),
+        Err(BuildError::NoMemory) => Err(NoMemory),
+        Err(_) => unreachable!(),
     }
 }
