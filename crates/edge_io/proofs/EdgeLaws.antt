@@ -92,7 +92,7 @@ TookCount-more a b c xs into n m h k w e =
     let count : length (xs ++ take n into) ≡ m = length-append xs (take n into) ∙ ap (λ l. length xs + l) (length-take-le n into w) ∙ e in
     subst (λ l. TookCount a c l) count taken
 
--- n bytes from a place on go to the front of a buffer
+-- n bytes from a place on go to the start of a buffer
 pub read_front : (items into left piece : List ℕ) (at n : ℕ) → left ≡ drop at items → piece ≡ take ((at + n) - at) (drop at items) → n ≤ length items - at → left ≡ take n (piece ++ drop n into) ++ drop (at + n) items
 read_front items into left piece at n is copied w =
     let count : (at + n) - at ≡ n = omega arith in

@@ -7,15 +7,15 @@ abbrev pub TookAll : Option (List ℕ) → Option (List ℕ) → List ℕ → Ty
 TookAll None after bytes = ⊤
 TookAll (Some left) after bytes = (left ≡ bytes) × (after ≡ Some [])
 
--- where the bytes that were left are told: n of them were taken from the front
+-- where the bytes that were left are told: the first n of them were taken
 abbrev pub TookCount : Option (List ℕ) → Option (List ℕ) → ℕ → Type 0
 TookCount None after n = ⊤
 TookCount (Some left) after n = (n ≤ length left) × (after ≡ Some (drop n left))
 
--- at most so many bytes were taken from the front
+-- at most that many of the first bytes were taken
 abbrev pub TookAtMost : Option (List ℕ) → Option (List ℕ) → ℕ → Type 0
 TookAtMost before after most = (n : ℕ) × (n ≤ most) × TookCount before after n
 
--- a front of the piece went out, and not all of it
+-- a prefix of the piece went out, and not all of it
 abbrev pub AppendsFront : Option (List ℕ) → Option (List ℕ) → List ℕ → Type 0
 AppendsFront before after piece = (n : ℕ) × (n < length piece) × Appends before after (take n piece)

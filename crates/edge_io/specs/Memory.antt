@@ -50,7 +50,7 @@ abbrev pub taken_count : SinkState → ℕ → ℕ
 taken_count sink offered = min (min 64 offered) (sink.room - length sink.written)
 
 abbrev pub after_write : SinkState → List ℕ → SinkState
-after_write sink front = record sink { written = sink.written ++ front; calls = one_more sink.calls }
+after_write sink prefix = record sink { written = sink.written ++ prefix; calls = one_more sink.calls }
 
 abbrev pub after_failed_write : SinkState → SinkState
 after_failed_write sink = record sink { calls = one_more sink.calls; faults = one_more sink.faults }

@@ -13,32 +13,40 @@ use jm_base::Failed;
 use std::io::{ErrorKind, Read, Write};
 use std::marker::Model;
 
-/// A source over a reader. It tells the bytes that are left where the reader does: a file, a socket and the standard
-/// input tell nothing.
+/// A reader or a writer of the standard library, and how many of its calls have failed. Over a reader it is a source,
+/// which tells the bytes that are left where the reader does; over a writer it is a sink, which tells the bytes that were
+/// written where the writer tells what it holds. A file, a socket, the standard input and the standard output tell
+/// nothing. Hand in a writer that keeps nothing back, since nobody flushes it.
 #[derive(Drop)]
-pub struct FromRead<R: Read> {
-    inner: R,
+pub struct Counted<T> {
+    inner: T,
     faults: u64,
 }
 
-impl<R: Read> Model for FromRead<R> {
+/// A source over a reader.
+pub type FromRead<R> = Counted<R>;
+
+/// A sink over a writer.
+pub type IntoWrite<W> = Counted<W>;
+
+impl<T> Model for Counted<T> {
     ghost use Rattle.edge_io.specs.Adapter.{Counting};
 
-    ghost Value = { Counting R };
+    ghost Value = { Counting T };
 
     ghost view = { λ s. record { inner = s.inner; faults = s.faults } };
 }
 
-impl<R: Read> FromRead<R> {
-    /// A source that reads from here, and has had no fault.
-    pub fn new(inner: R) -> FromRead<R>
+impl<T> Counted<T> {
+    /// A source that reads from here or a sink that writes there, which has had no fault.
+    pub fn new(inner: T) -> Counted<T>
         ensures { result ≡ counting inner }
     {
-        FromRead { inner, faults: 0 }
+        Counted { inner, faults: 0 }
     }
 }
 
-impl<R: Read> Source for FromRead<R> {
+impl<R: Read> Source for Counted<R> {
     ghost left = { λ s. R.remaining s.inner };
 
     ghost faults = { λ s. s.faults };
@@ -84,32 +92,7 @@ fn read_retrying<R: Read>(reader: &mut R, into: &mut [u8]) -> Result<usize, Fail
     Err(Failed)
 }
 
-/// A sink over a writer. It tells the bytes that were written where the writer tells what it holds: a file, a socket
-/// and the standard output tell nothing. Hand in a writer that keeps nothing back, since nobody flushes it.
-#[derive(Drop)]
-pub struct IntoWrite<W: Write> {
-    inner: W,
-    faults: u64,
-}
-
-impl<W: Write> Model for IntoWrite<W> {
-    ghost use Rattle.edge_io.specs.Adapter.{Counting};
-
-    ghost Value = { Counting W };
-
-    ghost view = { λ s. record { inner = s.inner; faults = s.faults } };
-}
-
-impl<W: Write> IntoWrite<W> {
-    /// A sink that writes there, and has had no fault.
-    pub fn new(inner: W) -> IntoWrite<W>
-        ensures { result ≡ counting inner }
-    {
-        IntoWrite { inner, faults: 0 }
-    }
-}
-
-impl<W: Write> Sink for IntoWrite<W> {
+impl<W: Write> Sink for Counted<W> {
     ghost written = { λ s. W.contents s.inner };
 
     ghost faults = { λ s. s.faults };

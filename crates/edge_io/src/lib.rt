@@ -8,11 +8,8 @@ mod numbered;
 pub mod sink;
 pub mod source;
 
-pub use adapter::{FromRead, IntoWrite};
+pub use adapter::{Counted, FromRead, IntoWrite};
 pub use memory_sink::MemSink;
 pub use memory_source::MemSource;
 pub use sink::{Sink, write_all};
 pub use source::{ReadError, Source, read_all};
-
-#[cfg(test)]
-mod tests;

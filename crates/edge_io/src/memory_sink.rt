@@ -34,7 +34,7 @@ impl Model for MemSink {
 }
 
 impl MemSink {
-    /// A sink with room for so many bytes, of which the calls with the numbers in `failing` fail. The first call has
+    /// A sink with room for that many bytes, of which the calls with the numbers in `failing` fail. The first call has
     /// number 0.
     pub fn new(alloc: Global, room: u32, failing: Vec<u32>) -> M<MemSink>
         ensures { IfOk result (λ sink. sink ≡ new_sink room failing.items) }

@@ -18,7 +18,7 @@ pub trait Sink {
     // How many calls have failed.
     ghost faults: { Self → ℕ };
 
-    /// Writes a front of the piece, and answers how long it is: at least one byte of a piece that has one.
+    /// Writes a prefix of the piece, and answers how long it is: at least one byte of a piece that has one.
     fn write(&mut self, piece: &[u8]) -> Result<usize, Failed>
         ensures bound { IfOk result (λ n. n ≤ length piece.now) }
         ensures some { IfOk result (λ n. 0 < length piece.now → 0 < n) }
@@ -29,7 +29,7 @@ pub trait Sink {
         ensures cause { OnErr result (Rose (faults self.old) (faults self.new)) };
 }
 
-/// Writes the whole piece, or a front of it and fails. It takes no memory.
+/// Writes the whole piece, or a prefix of it and fails. It takes no memory.
 pub fn write_all<K: Sink>(sink: &mut K, piece: &[u8]) -> Result<(), Failed>
     ensures whole { OnOk result (Appends (K.written sink.old) (K.written sink.new) piece.now) }
     ensures ok { OnOk result (K.faults sink.new ≡ K.faults sink.old) }

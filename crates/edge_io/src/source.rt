@@ -21,7 +21,7 @@ pub trait Source {
     // How many calls have failed.
     ghost faults: { Self → ℕ };
 
-    /// Reads some of the bytes that are left into the front of the buffer, and answers how many. None into a buffer
+    /// Reads some of the bytes that are left into the start of the buffer, and answers how many. None into a buffer
     /// that has room is the end of the input.
     fn read(&mut self, into: &mut [u8]) -> Result<usize, Failed>
         ensures bound { IfOk result (λ n. n ≤ length into.new) }
@@ -40,7 +40,7 @@ pub enum ReadError {
     ReadFault,
     /// The source gave a byte more than the limit.
     TooLong,
-    /// Memory was wanting.
+    /// Out of memory.
     NoMemory,
 }
 
