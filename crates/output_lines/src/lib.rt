@@ -7,6 +7,3 @@ pub mod rows;
 
 pub use lines::{end_line, header_line, result_line};
 pub use reports::{report_lines, summary_lines};
-
-#[cfg(test)]
-mod tests;

@@ -12,7 +12,7 @@ use jm_base::{End, M, Sample};
 use std::alloc::Global;
 
 #[tactic(auto, unfolding(crate::specs::Lines::header_text))]
-/// Appends the header of the result lines. Where memory is wanting nothing is appended.
+/// Appends the header of the result lines. Out of memory appends nothing.
 pub fn header_line(alloc: Global, out: &mut Vec<u8>) -> M<()>
     ensures ok { OnOk result (out.new.items ≡ out.old.items ++ header_text) }
     ensures err { OnErr result (out.new.items ≡ out.old.items) }
@@ -36,7 +36,7 @@ pub fn header_line(alloc: Global, out: &mut Vec<u8>) -> M<()>
 }
 
 #[tactic(auto, unfolding(crate::specs::Lines::result_text))]
-/// Appends the line of a thread's sample, which was counted in this interval. Where memory is wanting nothing is appended.
+/// Appends the line of a thread's sample, which was counted in this interval. Out of memory appends nothing.
 pub fn result_line(
     alloc: Global,
     out: &mut Vec<u8>,
@@ -123,7 +123,7 @@ fn sample_row<'a>(
 }
 
 #[tactic(auto, unfolding(crate::specs::Lines::end_text))]
-/// Appends the line that says how a thread ended. Where memory is wanting nothing is appended.
+/// Appends the line that says how a thread ended. Out of memory appends nothing.
 pub fn end_line(alloc: Global, out: &mut Vec<u8>, plan: &Plan, thread: u16, end: End) -> M<()>
     requires { thread < length (threads_of plan.now) }
     ensures ok { OnOk result (out.new.items ≡ out.old.items ++ end_text plan.now thread end) }

@@ -16,7 +16,7 @@ use std::alloc::Global;
 
 #[tactic(auto, unfolding(crate::specs::Reports::report_text))]
 /// Appends the report of an interval: what was counted over all labels, and then each label that has samples.
-/// Times are in milliseconds. Where memory is wanting nothing is appended.
+/// Times are in milliseconds. Out of memory appends nothing.
 pub fn report_lines(alloc: Global, out: &mut Vec<u8>, plan: &Plan, report: &Report) -> M<()>
     requires rows { length report.now.rows ≡ length (labels_of plan.now.elements) }
     requires bounds { IsInBounds report.now.rows }
@@ -39,7 +39,7 @@ pub fn report_lines(alloc: Global, out: &mut Vec<u8>, plan: &Plan, report: &Repo
 
 #[tactic(auto, unfolding(crate::specs::Reports::summary_text))]
 /// Appends the summary of a run whose reports were merged into this one: each label that has samples,
-/// and then all of them together. Times are in milliseconds. Where memory is wanting nothing is appended.
+/// and then all of them together. Times are in milliseconds. Out of memory appends nothing.
 pub fn summary_lines(alloc: Global, out: &mut Vec<u8>, plan: &Plan, total: &Report) -> M<()>
     requires rows { length total.now.rows ≡ length (labels_of plan.now.elements) }
     requires bounds { IsInBounds total.now.rows }

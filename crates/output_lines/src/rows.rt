@@ -7,6 +7,8 @@ use csv::WriterBuilder;
 use jm_base::{M, NoMemory};
 use std::alloc::Global;
 
+// A row as it is printed. A writer over a `Vec` that has written no row before has one reason to refuse a row: out of
+// memory. Its contract leaves the kind of the error open, so no kind is told apart here.
 fn row_bytes(alloc: Global, fields: &[&[u8]]) -> M<Vec<u8>>
     ensures { IfOk result (λ v. v.items ≡ csv_line (map (λ f. f.now) fields.now)) }
 {
@@ -20,7 +22,7 @@ fn row_bytes(alloc: Global, fields: &[&[u8]]) -> M<Vec<u8>>
     }
 }
 
-/// Appends one row. Where memory is wanting nothing is appended.
+/// Appends one row. Out of memory appends nothing.
 pub fn push_row(alloc: Global, out: &mut Vec<u8>, fields: &[&[u8]]) -> M<()>
     ensures ok { OnOk result (out.new.items ≡ out.old.items ++ csv_line (map (λ f. f.now) fields.now)) }
     ensures err { OnErr result (out.new.items ≡ out.old.items) }
