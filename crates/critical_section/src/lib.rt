@@ -5,8 +5,6 @@ pub mod laws;
 mod places;
 mod rule;
 mod sections;
-#[cfg(test)]
-mod tests;
 
 pub use laws::one_seat_a_lock;
 pub use places::{SectionBook, SectionSeat, Sections};

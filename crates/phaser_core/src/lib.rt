@@ -14,6 +14,3 @@ pub use applied::Applied;
 pub use machine::Core;
 pub use view::{Closing, Event, Joined, Numbers, Reading, Stage, View, Writing};
 pub use writer::WriterState;
-
-#[cfg(test)]
-mod tests;

@@ -7,8 +7,6 @@ mod places;
 mod reporter;
 mod rule;
 mod steps;
-#[cfg(test)]
-mod tests;
 mod words;
 mod writer;
 

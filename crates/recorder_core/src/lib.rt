@@ -4,8 +4,6 @@
 mod places;
 mod recorder;
 mod rows;
-#[cfg(test)]
-mod tests;
 
 pub use phaser_words::Steps;
 pub use places::{Books, Closing, Recorder, ReporterSeat, WriterSeat};

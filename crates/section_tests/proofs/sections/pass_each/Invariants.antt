@@ -1,6 +1,6 @@
 use Rattle.std.proofs.Common.{◌≡◌, length, None}
 use Rattle.critical_section.specs.Seats.{view_of, IsSeatOf}
-use Rattle.critical_section.proofs.tests.pass_each.Given as goal
+use Rattle.section_tests.proofs.sections.pass_each.Given as goal
 
 abbrev pub invariant-loop-lock : goal.invariant-loop-lock
 invariant-loop-lock g l = record {

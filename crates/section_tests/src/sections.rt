@@ -3,7 +3,7 @@ ghost use Rattle.std.specs.Prelude.{◌≡◌, ◌+◌, ◌<◌, ◌≤◌, leng
 ghost use Rattle.critical_section.specs.Book.{further_view, opening_view};
 ghost use Rattle.critical_section.specs.Seats.{view_of, IsSeatOf, locks_of, seats_of};
 
-use crate::{MOST_SECTIONS, SectionSeat, Sections, Try};
+use critical_section::{MOST_SECTIONS, SectionSeat, Sections, Try};
 use std::process::Abort;
 use std::sync::Wait;
 use std::sync::atomic::{AtomicU64, Ordering};
@@ -17,7 +17,6 @@ fn two_seats_on_one_lock_take_turns(rt: HostRuntime) -> Result<(), Fail> {
     assert!(rt; matches!(sections.try_enter(&mut first, 0), Try::Entered(0)));
     assert!(rt; matches!(sections.try_enter(&mut second, 0), Try::Busy(1)));
     sections.leave(&mut first, 0);
-    assert_eq!(rt; sections.table.shared.peek(0), 2);
     let Try::Entered(place) = sections.try_enter(&mut second, 0) else {
         panic!(rt; "the lock was left");
     };

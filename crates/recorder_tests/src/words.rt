@@ -1,9 +1,9 @@
 //! What no clause says: that the calls succeed with ample memory, and what the words hold.
 ghost use Rattle.std.specs.Prelude.{◌≡◌, ◌<◌};
 
-use crate::{Steps, Words};
 use jm_base::Entry;
 use phaser_core::Applied;
+use phaser_words::{Steps, Words};
 use std::alloc::Global;
 use std::marker::Brand;
 use std::process::Abort;

@@ -2,9 +2,9 @@
 ghost use Rattle.std.specs.Prelude.{◌≡◌, ◌+◌, ◌<◌, ◌≤◌, [], length};
 ghost use Rattle.recorder_core.specs.Seats.{writes, reports, numbers_of, IsWriter, IsReporter};
 
-use crate::{Poll, Recorder, ReporterSeat, Steps, WriterSeat};
 use interval_tables::{Report, Row};
 use jm_base::Entry;
+use recorder_core::{Poll, Recorder, ReporterSeat, Steps, WriterSeat};
 use std::marker::Brand;
 use std::process::Abort;
 use std::sync::Wait;

@@ -1,6 +1,6 @@
 use Rattle.std.proofs.Common.{◌≡◌, length}
 use Rattle.recorder_core.specs.Seats.{writes, IsWriter}
-use Rattle.recorder_core.proofs.tests.record_all.Given as goal
+use Rattle.recorder_tests.proofs.recorder.record_all.Given as goal
 
 abbrev pub invariant-loop-n : goal.invariant-loop-n
 invariant-loop-n l = record {

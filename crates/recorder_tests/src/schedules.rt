@@ -1,8 +1,8 @@
 // Schedules whose words and reports are known.
 
-use crate::{Applied, Core, Event};
 use interval_tables::{NO_SAMPLES, Row};
 use jm_base::Entry;
+use phaser_core::{Applied, Core, Event};
 use std::process::Abort;
 use std::test::Fail;
 

@@ -1,6 +1,6 @@
 use Rattle.std.proofs.Common.{◌≡◌, length, None}
 use Rattle.critical_section.specs.Seats.{view_of, IsSeatOf}
-use Rattle.critical_section.proofs.tests.add_often.Given as goal
+use Rattle.section_tests.proofs.sections.add_often.Given as goal
 
 abbrev pub invariant-loop-round : goal.invariant-loop-round
 invariant-loop-round g l = record {
