@@ -11,18 +11,3 @@ pub use errors::{Failed, M, NoMemory};
 pub use outside::{Outside, same_events};
 pub use text::{Items, Text};
 pub use types::{End, Entry, Heard, Method, Outcome, Reply, Request, Sample, ScriptReply, Wire};
-
-#[cfg(test)]
-mod tests {
-    use super::*;
-    use std::test::Fail;
-
-    #[test]
-    fn a_text_is_made_copied_and_given_back(rt: HostRuntime) -> Result<(), Fail> {
-        let text = Text::new(rt.alloc(), b"hello")?;
-        let second = text.copy(rt.alloc())?;
-        assert_eq!(rt; text.bytes(), b"hello".as_slice());
-        assert_eq!(rt; second.into_vec().as_slice(), b"hello".as_slice());
-        Ok(())
-    }
-}
