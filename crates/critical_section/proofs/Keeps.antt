@@ -6,10 +6,11 @@ use native.Mathlib.Decide.{ℕ_discrete}
 use lib.ListN.{get_elem?}
 use Rattle.critical_section.specs.declared.rule.SeatView.{SeatView}
 use Rattle.critical_section.specs.declared.rule.Limits.{Limits}
-use Rattle.critical_section.specs.Book.{total, times, one_if, is_at, in_open, count_open, closed_list, closed_in, open_in, entered, seats_of, opened, closed, tried, counted_of, FitsView, SectionInvariant}
+use Rattle.jm_base.specs.Totals.{total, one_if}
+use Rattle.critical_section.specs.Book.{times, is_at, in_open, count_open, closed_list, closed_in, open_in, entered, seats_of, opened, closed, tried, counted_of, FitsView, SectionInvariant}
 use Rattle.critical_section.specs.declared.rule.TheConstants.{MOST_SECTIONS}
 use Rattle.std.proofs.lemmas.List.{set-get_or}
-use Rattle.critical_section.proofs.Totals.{total_set, total_snoc, total_at, total_le, total_times}
+use Rattle.jm_base.proofs.Totals.{total_set, total_snoc, total_at, total_le, total_times}
 use Rattle.std.proofs.lemmas.Bool.Decides.{nat_tests}
 use Rattle.atomic_table.proofs.Lists.{at_set}
 

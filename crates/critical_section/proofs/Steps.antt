@@ -9,9 +9,10 @@ use prog.Atomic.{either}
 use Rattle.atomic_table.specs.Table.{State, Me, step, keeps, Allows, Splits, Joins, opening, Final, Seen}
 use Rattle.critical_section.specs.declared.rule.SeatView.{SeatView}
 use Rattle.critical_section.specs.declared.rule.Limits.{Limits}
-use Rattle.critical_section.specs.Book.{total, times, one_if, in_open, count_open, closed_in, open_in, entered, seats_of, spent, opened, closed, tried, gone, telling, itself, further_view, one_more, opening_view, taking, counted_of, FitsView, SectionInvariant, holds_of, loads, exchanges, leaves, IsPast, IsNumbered, IsAlone, Knows, OneSeatALock}
+use Rattle.jm_base.specs.Totals.{total, one_if}
+use Rattle.critical_section.specs.Book.{times, in_open, count_open, closed_in, open_in, entered, seats_of, spent, opened, closed, tried, gone, telling, itself, further_view, one_more, opening_view, taking, counted_of, FitsView, SectionInvariant, holds_of, loads, exchanges, leaves, IsPast, IsNumbered, IsAlone, Knows, OneSeatALock}
 use Rattle.critical_section.specs.declared.rule.TheConstants.{MOST_SEATS, MOST_SECTIONS}
-use Rattle.critical_section.proofs.Totals.{total_set, total_append, total_snoc, total_at, total_only, total_two}
+use Rattle.jm_base.proofs.Totals.{total_set, total_append, total_snoc, total_at, total_only, total_two}
 use Rattle.critical_section.proofs.Keeps.{each_set, same_total, one_no, one_yes, enters_keep, tries_keep, leaves_keep, word_open, open_counts, one_if_low, fits}
 use Rattle.std.proofs.lemmas.Bool.Decides.{nat_tests}
 use Rattle.atomic_table.proofs.Lists.{at_set, at_snoc}

@@ -4,6 +4,7 @@ use Rattle.std.specs.Prelude.{nat_lt}
 use mathlib.Core.Option.{some}
 use lib.ListN.{get_elem?}
 use Rattle.atomic_table.specs.Table.{State, Me, Step}
+use Rattle.jm_base.specs.Totals.{total, one_if}
 use Rattle.critical_section.specs.declared.rule.SeatView.{SeatView}
 use Rattle.critical_section.specs.declared.rule.Limits.{Limits}
 use Rattle.critical_section.specs.declared.rule.TheConstants.{MOST_SEATS, MOST_SECTIONS}
@@ -11,15 +12,6 @@ use Rattle.critical_section.specs.declared.rule.TheConstants.{MOST_SEATS, MOST_S
 -- a section: its lock and its place
 abbrev pub Section : Type 0
 Section = ℕ × ℕ
-
-abbrev pub one_if : Bool → ℕ
-one_if true = 1
-one_if false = 0
-
--- f of each, added up
-abbrev pub total : {A : Type 0} → (A → ℕ) → List A → ℕ
-total f [] = 0
-total f (x ∷ xs) = f x + total f xs
 
 abbrev pub is_at : ℕ → ℕ → Section → Bool
 is_at lock place x = (x.0 == lock) && (x.1 == place)
@@ -59,7 +51,7 @@ counted_of v = v.counted
 abbrev pub gone : ℕ → List (List Section) → SeatView
 gone counted remembered = record { counted = counted; seats = 0; made = 0; inside = None; own = []; joined = []; found = []; remembered = remembered }
 
--- what a joined seat leaves behind
+-- what is left of a joined seat
 abbrev pub spent : SeatView
 spent = gone 1 []
 
@@ -97,7 +89,7 @@ closed_list xs (Some x) = xs ++ x ∷ []
 abbrev pub closed : SeatView → SeatView
 closed v = record v { inside = None; own = closed_list v.own v.inside }
 
--- the first seat with the lists of another behind the lists that it has
+-- the first seat with the lists of another after the lists that it has
 abbrev pub taking : SeatView → SeatView → SeatView
 taking v w = record v { seats = v.seats + w.seats; joined = v.joined ++ w.own ∷ w.joined }
 

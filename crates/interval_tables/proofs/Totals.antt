@@ -1,20 +1,8 @@
--- Sums over a list that grows, is cut, or of which one element changes.
+-- Sums over a list that is cut, or of which one element changes.
 use Rattle.std.proofs.Common.{◌≡◌, ℕ, zero, suc, ◌+◌, ◌<◌, ◌≤◌, List, [], ◌∷◌, ◌++◌, length, get_or, set, take, refl, arith, add-one, ap, ◌∙◌}
-use Rattle.interval_tables.specs.Totals.{total}
+use Rattle.jm_base.specs.Totals.{total}
 
 module _ {A : Type 0} where
-  pub total_append : (f : A → ℕ) (l m : List A) → total f (l ++ m) ≡ total f l + total f m
-  total_append f [] m = omega arith
-  total_append f (x ∷ xs) m = let r = total_append f xs m in omega arith
-
-  pub total_snoc : (f : A → ℕ) (l : List A) (v : A) → total f (l ++ v ∷ []) ≡ total f l + f v
-  total_snoc f l v = let r = total_append f l (v ∷ []) in omega arith
-
-  pub total_index : (f : A → ℕ) (l : List A) (i : ℕ) (d : A) → i < length l → f (get_or l i d) ≤ total f l
-  total_index f [] i d h = absurd (omega arith)
-  total_index f (x ∷ xs) zero d h = omega arith
-  total_index f (x ∷ xs) (suc i) d h = let r = total_index f xs i d (omega arith) in omega arith
-
   pub total_written : (f : A → ℕ) (l : List A) (i : ℕ) (w : A) → i < length l → f w ≤ total f (set l i w)
   total_written f [] i w h = absurd (omega arith)
   total_written f (x ∷ xs) zero w h = omega arith

@@ -17,7 +17,7 @@ use Rattle.phaser_core.specs.declared.view.Closing.TheVariants.{Idle, Swapped, C
 use Rattle.phaser_core.specs.declared.view.Reading.{Reading}
 use Rattle.phaser_core.specs.declared.view.View.{View}
 use Rattle.phaser_core.specs.declared.view.View.TheVariants.{Reporter, Writer, Gone}
-use Rattle.interval_tables.specs.Totals.{one_if, total}
+use Rattle.jm_base.specs.Totals.{one_if, total}
 use Rattle.interval_tables.specs.Rows.{no_samples}
 use Rattle.interval_tables.specs.declared.row.Row.{Row}
 use Rattle.phaser_core.proofs.Halves.{Phased, TimelyStage, AllTimely, Timely, IsLive, Counted, worth_report}
@@ -28,7 +28,7 @@ use Rattle.phaser_core.specs.Shares.{AllUpTo, AllFrom, Rising}
 use Rattle.phaser_core.specs.Views.{stage_inside, inside, busy, uses, at_stage, turned, pending, current, other, at_closing, active, worth, entry_at, stage_at, value, taken_count, list_at, joined_at}
 use Rattle.phaser_core.proofs.PhaseSteps.{each_set, bound, odd_next, end_low, end_some, same_self, which}
 use Rattle.phaser_core.proofs.Folds.{combine_assoc, combine_swap, vacant_vacant, combine_sum, vacant_sum, folded_is, gather_more, gather_same, gather_snoc, gather_unit, gather_cap, gather_sum}
-use Rattle.phaser_core.proofs.Totals.{total_at, total_le, total_times}
+use Rattle.jm_base.proofs.Totals.{total_at, total_le, total_times}
 
 -- Words
 

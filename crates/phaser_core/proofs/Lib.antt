@@ -1,5 +1,4 @@
 pub mod Lists
-pub mod Totals
 pub mod Folds
 pub mod Halves
 pub mod PhaseSteps

@@ -13,7 +13,7 @@ use Rattle.phaser_core.specs.declared.view.Closing.{Closing}
 use Rattle.phaser_core.specs.declared.view.Reading.{Reading}
 use Rattle.phaser_core.specs.declared.view.View.{View}
 use Rattle.phaser_core.specs.declared.view.View.TheVariants.{Reporter, Writer, Gone}
-use Rattle.interval_tables.specs.Totals.{one_if, total}
+use Rattle.jm_base.specs.Totals.{one_if, total}
 use Rattle.phaser_core.proofs.Halves.{Phased}
 use Rattle.phaser_core.specs.Cells.{is_odd, end_at, initial, phase, word_count}
 use Rattle.phaser_core.specs.Invariant.{InsideBefore, AllKept, Fits}
@@ -21,7 +21,7 @@ use Rattle.phaser_core.specs.Moves.{splitting, split_off, taking_in, joining, fi
 use Rattle.phaser_core.specs.Shares.{AllInRange}
 use Rattle.phaser_core.specs.Views.{stage_inside, inside, busy, uses, holders, heads, writer_zero, turned, pending, current, other, left_of, further, first_reading, IsSized, made_known, AllJoined}
 use Rattle.phaser_core.proofs.PhaseSteps.{same_total, each_set, is_reader}
-use Rattle.phaser_core.proofs.Totals.{total_set, total_snoc, total_at, total_two}
+use Rattle.jm_base.proofs.Totals.{total_set, total_snoc, total_at, total_two}
 use Rattle.phaser_core.proofs.Lists.{at_set, set_else, set_here, at_longer}
 
 at_short : (l : List View) (i : ℕ) (v : View) → get_elem? l i ≡ some v → i < length l

@@ -17,14 +17,14 @@ use Rattle.phaser_core.specs.declared.view.Closing.TheVariants.{Idle, Swapped, C
 use Rattle.phaser_core.specs.declared.view.Reading.{Reading}
 use Rattle.phaser_core.specs.declared.view.View.{View}
 use Rattle.phaser_core.specs.declared.view.View.TheVariants.{Reporter, Writer, Gone}
-use Rattle.interval_tables.specs.Totals.{one_if, total}
+use Rattle.jm_base.specs.Totals.{one_if, total}
 use Rattle.phaser_core.proofs.Halves.{Phased, StaysPhased}
 use Rattle.phaser_core.specs.Cells.{is_odd, same, end_at, initial, phase, part, column, place, folded, vacant, cell_at, table_cells}
 use Rattle.phaser_core.specs.Invariant.{InsideBefore, AllKept, Fits}
 use Rattle.phaser_core.specs.Moves.{Move, add_one, entering, leaving, clearing, flipping, settled, looking, marked, reporter_raised, loading, adding, swapping, taking, closed_with, holding, gathered_if}
 use Rattle.phaser_core.specs.Shares.{AllInRange}
 use Rattle.phaser_core.specs.Views.{stage_inside, inside, busy, uses, holders, heads, at_stage, turned, pending, current, other, at_closing}
-use Rattle.phaser_core.proofs.Totals.{total_set, total_le, total_times}
+use Rattle.jm_base.proofs.Totals.{total_set, total_le, total_times}
 use Rattle.phaser_core.proofs.Lists.{at_set, set_again, set_else, set_here}
 
 pub same_total : (f : View → ℕ) (l : List View) (i : ℕ) (v w : View) → get_elem? l i ≡ some v → f w ≡ f v → total f (set l i w) ≡ total f l

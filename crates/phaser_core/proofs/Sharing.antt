@@ -7,7 +7,7 @@ use lib.ListN.{get_elem?}
 use Rattle.std.proofs.lemmas.Bool.Decides.{nat_tests}
 use Rattle.jm_base.specs.declared.types.Entry.{Entry}
 use Rattle.interval_tables.specs.declared.row.Row.{Row}
-use Rattle.interval_tables.specs.Totals.{total, one_if}
+use Rattle.jm_base.specs.Totals.{total, one_if}
 use Rattle.interval_tables.specs.Rows.{failed, least_after, greatest_of, of_label, elapsed_of, tally_of, row_of, sum_of, AllLabels, no_samples}
 use Rattle.interval_tables.proofs.Bounds.{AllSmall as AllSmallEntries}
 use Rattle.phaser_core.specs.declared.view.Numbers.{Numbers}
@@ -25,7 +25,7 @@ use Rattle.phaser_core.proofs.Halves.{TimelyStage, AllTimely, Timely, Sound, wor
 use Rattle.phaser_core.proofs.PhaseSteps.{bound_exact}
 use Rattle.phaser_core.proofs.CellSteps.{may_low, last_is, before_last, report_same}
 use Rattle.phaser_core.proofs.Folds.{combine_comm, combine_assoc, gather_cap, gather_sum}
-use Rattle.phaser_core.proofs.Totals.{total_snoc}
+use Rattle.jm_base.proofs.Totals.{total_snoc}
 
 -- what entries sum to in cell j
 abbrev pub sum_at : ℕ → ℕ → List Entry → ℕ

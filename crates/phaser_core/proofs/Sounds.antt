@@ -16,7 +16,7 @@ use Rattle.phaser_core.specs.declared.view.Closing.TheVariants.{Idle, Swapped, C
 use Rattle.phaser_core.specs.declared.view.Reading.{Reading}
 use Rattle.phaser_core.specs.declared.view.View.{View}
 use Rattle.phaser_core.specs.declared.view.View.TheVariants.{Reporter, Writer, Gone}
-use Rattle.interval_tables.specs.Totals.{one_if, total}
+use Rattle.jm_base.specs.Totals.{one_if, total}
 use Rattle.phaser_core.proofs.Halves.{Phased, Sound, StaysSound, TimelyStage, Timely, Counted}
 use Rattle.phaser_core.specs.Cells.{is_odd, end_at, initial, phase, combine, vacant, gather, folded, part, column, sums, place, cell_at, table_cells, no_report, report_from, row_at}
 use Rattle.phaser_core.specs.Invariant.{InsideBefore, raised_in, saw_in, ShowsStop, InTable}
@@ -26,7 +26,7 @@ use Rattle.phaser_core.proofs.PhaseSteps.{same_total, each_set, is_reader, at_fr
 use Rattle.phaser_core.proofs.CellSteps.{enter_counts, load_counts, add_counts, exit_counts, mark_counts, raise_counts, swap_counts, clear_counts, flip_counts, settle_counts, take_counts, timely_snoc, place_cell, report_same}
 use Rattle.phaser_core.proofs.Members.{split_first, split_more, join_phases, opens, cells_long, at_end, summed, at_one, all_gone}
 use Rattle.phaser_core.proofs.Folds.{combine_comm, vacant_vacant, gather_more, gather_same, gather_snoc, gather_unit, gather_cap, gather_moved, set_back, here as here_after}
-use Rattle.phaser_core.proofs.Totals.{total_set, total_snoc, total_at}
+use Rattle.jm_base.proofs.Totals.{total_set, total_snoc, total_at}
 use Rattle.phaser_core.proofs.Lists.{at_set, set_again, set_else, set_here, at_longer}
 
 -- the stop word and all marks stay

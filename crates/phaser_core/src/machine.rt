@@ -76,7 +76,7 @@ impl Core {
         })
     }
 
-    /// One step of one actor on one word: the table of the steps. Want of memory leaves the core as before.
+    /// One step of one actor on one word: the table of the steps. Out of memory leaves the core as it was.
     pub fn apply(&mut self, alloc: Global, event: Event) -> M<Applied>
         ensures step { IfOk result (λ a. Applies self.old event a self.new) }
         ensures err { OnErr result (self.new ≡ self.old) }

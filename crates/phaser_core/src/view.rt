@@ -24,7 +24,7 @@ pub enum Stage {
     In {
         odd: bool,
     },
-    /// It counts an entry in an interval, and so many of the entry's steps are done.
+    /// It counts an entry in an interval, and that many of the entry's steps are done.
     On {
         odd: bool,
         interval: u64,
@@ -67,7 +67,7 @@ pub enum Closing {
     Cleared,
     /// Writers enter the next phase. Those of the old phase have left once their end word shows `want`.
     Waiting { want: u64 },
-    /// So many cells of the old table are taken.
+    /// That many cells of the old table are taken.
     Harvest { taken: u32 },
 }
 

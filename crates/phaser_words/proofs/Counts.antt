@@ -4,7 +4,7 @@ use mathlib.Core.Logic.{dite}
 use mathlib.Core.Option.{some}
 use native.Mathlib.Decide.{ℕ_discrete}
 use lib.ListN.{get_elem?}
-use Rattle.interval_tables.specs.Totals.{total, one_if}
+use Rattle.jm_base.specs.Totals.{total, one_if}
 use Rattle.phaser_core.specs.declared.view.Numbers.{Numbers}
 use Rattle.phaser_core.specs.declared.view.Joined.{Joined}
 use Rattle.phaser_core.specs.declared.view.Reading.{Reading}
@@ -12,7 +12,7 @@ use Rattle.phaser_core.specs.declared.view.View.{View}
 use Rattle.phaser_core.specs.declared.view.View.TheVariants.{Reporter}
 use Rattle.phaser_core.specs.Views.{holders, heads, made_known}
 use Rattle.phaser_core.specs.Invariant.{AllKept, RecorderInvariant}
-use Rattle.phaser_core.proofs.Totals.{total_at}
+use Rattle.jm_base.proofs.Totals.{total_at}
 use Rattle.phaser_words.specs.Kinds.{CountsWriters}
 
 low_test : (b : Bool) → one_if b ≤ 1

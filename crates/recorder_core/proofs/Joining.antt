@@ -4,7 +4,7 @@ use Rattle.phaser_core.specs.declared.view.Numbers.{Numbers}
 use Rattle.phaser_core.specs.declared.view.Joined.{Joined}
 use Rattle.phaser_core.specs.declared.view.Reading.{Reading}
 use Rattle.phaser_core.specs.Views.{made_known}
-use Rattle.phaser_core.proofs.Totals.{total_snoc}
+use Rattle.jm_base.proofs.Totals.{total_snoc}
 use Rattle.phaser_words.specs.Kinds.{CountsWriters}
 
 pub record OneMore (r : Reading) (j m : ℕ) : Type 0 where

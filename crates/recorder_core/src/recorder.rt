@@ -1,6 +1,6 @@
 //! The calls of a recorder.
 ghost use Rattle.std.specs.Prelude.{◌≡◌, ◌+◌, ◌<◌, ◌≤◌, ◌↔◌, not, [], ◌∷◌, ◌++◌, length, false, true, IfOk};
-ghost use Rattle.interval_tables.specs.Totals.{one_if};
+ghost use Rattle.jm_base.specs.Totals.{one_if};
 ghost use Rattle.phaser_core.specs.Views.{IsSized, at_stage, ready_reading, writer_zero, further, AllJoined};
 ghost use Rattle.phaser_core.specs.Shares.{AllUpTo, Partition, SumsOfLists};
 ghost use Rattle.phaser_core.specs.Moves.{splitting, taking_in, marked, or, reporter_raised};
