@@ -1,6 +1,6 @@
 //! The steps of a writer.
 ghost use Rattle.std.specs.Prelude.{◌≡◌, ◌+◌, ◌*◌, ◌%◌, ◌<◌, ◌≤◌, ◌==◌, ◌∷◌, ◌++◌, [], length, true};
-ghost use Rattle.phaser_core.specs.Cells.{phase, place as cell_place};
+ghost use Rattle.phaser_core.specs.Cells.{phase, sums, column, part, place as cell_place};
 ghost use Rattle.phaser_core.specs.Views.{at_stage};
 ghost use Rattle.phaser_core.specs.Shares.{AllUpTo};
 ghost use Rattle.phaser_core.specs.Moves.{marked, or};
@@ -120,9 +120,7 @@ impl Words {
         else {
             unreachable!()
         };
-        let column = column_of(&entry, done);
-        let word = self.cell_word(seat, interval, &entry, column);
-        let amount = part_of(&entry, column);
+        let (word, amount) = self.next_part(seat, interval, &entry, done);
         let found = self
             .table
             .shared
@@ -154,9 +152,7 @@ impl Words {
         else {
             unreachable!()
         };
-        let column = column_of(&entry, done);
-        let word = self.cell_word(seat, interval, &entry, column);
-        let amount = part_of(&entry, column);
+        let (word, amount) = self.next_part(seat, interval, &entry, done);
         let found = self
             .table
             .shared
@@ -188,9 +184,7 @@ impl Words {
         else {
             unreachable!()
         };
-        let column = column_of(&entry, done);
-        let word = self.cell_word(seat, interval, &entry, column);
-        let amount = part_of(&entry, column);
+        let (word, amount) = self.next_part(seat, interval, &entry, done);
         let found = self
             .table
             .shared
@@ -205,7 +199,25 @@ impl Words {
         found
     }
 
-    // the word of a writer's cell
+    // The word of the cell that an entry's next part goes into, and that part.
+    fn next_part(
+        &self,
+        seat: &WriterWordSeat,
+        interval: u64,
+        entry: &Entry,
+        done: u8,
+    ) -> (usize, u64)
+        requires left { done < sums entry.now }
+        requires label { entry.now.label < (numbers self.now).labels }
+        ensures word { result.0 ≡ cell_place (numbers self.now).labels (interval % 2) (writing seat.now).number entry.now.label (column entry.now done) }
+        ensures amount { result.1 ≡ part (column entry.now done) entry.now }
+    {
+        let column = column_of(entry, done);
+        let word = self.cell_word(seat, interval, entry, column);
+        (word, part_of(entry, column))
+    }
+
+    // The word of a writer's cell.
     fn cell_word(&self, seat: &WriterWordSeat, interval: u64, entry: &Entry, column: u8) -> usize
         requires column { column < 6 }
         requires label { entry.now.label < (numbers self.now).labels }

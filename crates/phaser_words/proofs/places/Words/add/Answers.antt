@@ -1,25 +1,24 @@
-use Rattle.std.proofs.Common.{rules, ◌%◌, ◌<◌, ℕ, ap, ◌∙◌, subst, arith}
+use Rattle.std.proofs.Common.{rules, ◌<◌, ℕ, ◌∙◌, subst, arith}
 use Rattle.jm_base.specs.declared.types.Entry.{Entry}
-use Rattle.phaser_core.specs.Cells.{place, column, part, sums}
+use Rattle.phaser_core.specs.Cells.{column, sums}
 use Rattle.phaser_words.specs.Kinds.{HasSum}
 use Rattle.phaser_words.specs.Seats.{numbers, writing}
 use Rattle.phaser_words.proofs.Allowed.{sum_allowed, place_inside, column_low, sum_column}
 use Rattle.phaser_words.proofs.places.Words.add.Goals as goal
 
-pub cell_word-word-requires-clause-label : goal.cell_word-word-requires-clause-label
-cell_word-word-requires-clause-label g c = (subst (HasSum (numbers c.args.self.now).labels) (c.args.seat.now.staged ∙ c.in-On.is) c.requires.more).1
+pub next_part-word-requires-clause-left : goal.next_part-word-requires-clause-left
+next_part-word-requires-clause-left g c = let more = (subst (HasSum (numbers c.args.self.now).labels) (c.args.seat.now.staged ∙ c.in-On.is) c.requires.more).0 in omega arith
 
-pub column_of-column-requires : goal.column_of-column-requires
-column_of-column-requires g c = let more = (subst (HasSum (numbers c.args.self.now).labels) (c.args.seat.now.staged ∙ c.in-On.is) c.requires.more).0 in omega arith
+pub next_part-word-requires-clause-label : goal.next_part-word-requires-clause-label
+next_part-word-requires-clause-label g c = (subst (HasSum (numbers c.args.self.now).labels) (c.args.seat.now.staged ∙ c.in-On.is) c.requires.more).1
 
 pub fetch_add-found-requires : goal.fetch_add-found-requires
 fetch_add-found-requires g c =
     let e : Entry = c.in-On.entry in let w : ℕ = (writing c.args.seat.now).number in
     let on = c.args.seat.now.staged ∙ c.in-On.is in
     let more = subst (HasSum (numbers c.args.self.now).labels) on c.requires.more in
-    let left : c.in-On.done < sums e = (let m = more.0 in omega arith) in
-    let word = c.cell_word-word.ensures ∙ ap (λ (x : ℕ). place (numbers c.args.self.now).labels (c.in-On.interval % 2) w e.label x) c.column_of-column.ensures in (
+    let left : c.in-On.done < sums e = (let m = more.0 in omega arith) in (
       search rules,
-      place_inside (numbers c.args.self.now) c.in-On.interval w e.label (column e c.in-On.done) _ _ c.args.self.now.wide more.1 (column_low e c.in-On.done left) word,
-      sum_allowed _ _ _ _ _ _ _ _ _ _ c.args.seat.now.writes on left (sum_column e c.in-On.done more.0) word (c.part_of-amount.ensures ∙ ap (λ (x : ℕ). part x e) c.column_of-column.ensures),
+      place_inside (numbers c.args.self.now) c.in-On.interval w e.label (column e c.in-On.done) _ _ c.args.self.now.wide more.1 (column_low e c.in-On.done left) c.next_part-word.ensures.word,
+      sum_allowed _ _ _ _ _ _ _ _ _ _ c.args.seat.now.writes on left (sum_column e c.in-On.done more.0) c.next_part-word.ensures.word c.next_part-word.ensures.amount,
     )
