@@ -1,5 +1,5 @@
 -- Sums over a list that is cut, or of which one element changes.
-use Rattle.std.proofs.Common.{◌≡◌, ℕ, zero, suc, ◌+◌, ◌<◌, ◌≤◌, List, [], ◌∷◌, ◌++◌, length, get_or, set, take, refl, arith, add-one, ap, ◌∙◌}
+use Rattle.std.proofs.Common.{◌≡◌, ℕ, zero, suc, ◌+◌, ◌<◌, ◌≤◌, List, [], ◌∷◌, length, get_or, set, take, refl, arith, add-one, ap, ◌∙◌}
 use Rattle.jm_base.specs.Totals.{total}
 
 module _ {A : Type 0} where

@@ -2,7 +2,7 @@
 use Rattle.std.proofs.Common.{◌≡◌, ℕ, ◌+◌, ◌≤◌, ◌<◌, List, [], ◌∷◌, ◌++◌, length, sym, ap, ◌∙◌, subst, arith, length-append}
 use Rattle.jm_base.specs.declared.types.Entry.{Entry}
 use Rattle.interval_tables.specs.declared.row.Row.{Row}
-use Rattle.interval_tables.specs.Rows.{sum_of, rows_with, merged_rows, AllLabels, IsInBounds}
+use Rattle.interval_tables.specs.Rows.{rows_with, merged_rows, AllLabels, IsInBounds}
 use Rattle.interval_tables.proofs.Sums.{length-sum_of, sum_of_add, sum_of_append}
 use Rattle.interval_tables.proofs.Bounds.{AllSmall, CanAdd, can_add, sum_in_bounds}
 use Rattle.line_cases.specs.Counted.{IsCount}
