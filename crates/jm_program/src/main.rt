@@ -1,20 +1,10 @@
 //! `jm`: runs JMeter test plans that are written as JSON.
 #![tactic(auto)]
 
-mod judge;
-mod program;
-mod refusal;
-mod report;
-mod status;
-mod texts;
-mod unbuilt;
-mod words;
-
 use edge_io::{FromRead, IntoWrite};
 use element_tree::RegexPatterns;
 use jm_base::{M, NoMemory};
-use program::plain_command;
-use status::Status;
+use jm_command::{Status, plain_command};
 use std::alloc::Global;
 use std::process::ExitCode;
 use std::{env, io};
@@ -51,6 +41,3 @@ fn main(rt: HostRuntime) -> ExitCode {
         &mut patterns,
     ))
 }
-
-#[cfg(test)]
-mod tests;

@@ -1,0 +1,165 @@
+-- What the parts of the program say.
+use Rattle.std.specs.Prelude.{◌≡◌, ◌⊎◌, ℕ, ◌<◌, ◌≤◌, Bool, true, List, length, Option, Some, None}
+use Rattle.std.specs.Io.KnownBytes.{Appends}
+use Rattle.jm_base.specs.Counts.{Rose}
+use Rattle.edge_io.specs.Edges.{AppendsFront}
+use Rattle.element_props.specs.Patterns.{Asked}
+use Rattle.element_tree.specs.Tree.{Tree, threads_of}
+use Rattle.jm_command.specs.declared.status.Status.{Status}
+use Rattle.jm_command.specs.declared.status.Status.TheVariants.{Done, Usage, Refused, ReadFault, WriteFault, Memory}
+use Rattle.command_words.specs.declared.command.Command.{Command}
+use Rattle.command_words.specs.declared.command.Command.TheVariants.{Check, Make, Solo as SoloCommand}
+use Rattle.command_words.specs.declared.command.Make.{Make as MakeOf}
+use Rattle.command_words.specs.declared.command.Solo.{Solo}
+use Rattle.plan_json.specs.Shape.{Raw}
+use Rattle.jm_command.specs.declared.refusal.Refusal.{Refusal}
+use Rattle.jm_command.specs.declared.refusal.Refusal.TheVariants.{TooLong, Shape, Build, NotBuilt, Unfit as Conditions}
+use Rattle.jm_command.specs.declared.judge.Judged.{Judged}
+use Rattle.jm_command.specs.declared.judge.Judged.TheVariants.{Fit, Unfit, NoMemory}
+use Rattle.jm_command.specs.Refusals.{RunsAlone, IsAccepted, IsRefused, not_built, solo_fault, refusal_line}
+use Rattle.jm_command.specs.Printed.{default_solo, results_for, report_for, MayPrint}
+
+-- what the two sinks hold, where it is told, and their counts of faults
+pub record Sinks : Type 0 where
+  pub results : Option (List ℕ)
+  pub result_faults : ℕ
+  pub reports : Option (List ℕ)
+  pub report_faults : ℕ
+
+abbrev pub sinks : Option (List ℕ) → ℕ → Option (List ℕ) → ℕ → Sinks
+sinks results written reports told = record { results = results; result_faults = written; reports = reports; report_faults = told }
+
+-- the results were left alone
+pub record NoResults (old new : Sinks) : Type 0 where
+  pub results : new.results ≡ old.results
+  pub result_faults : new.result_faults ≡ old.result_faults
+
+pub record NoReports (old new : Sinks) : Type 0 where
+  pub reports : new.reports ≡ old.reports
+  pub report_faults : new.report_faults ≡ old.report_faults
+
+-- a line is out, or a front of it, with a fault that was counted
+pub record LineOut (line : List ℕ) (old new : Option (List ℕ)) (faults now : ℕ) : Type 0 where
+  pub out : Appends old new line
+  pub calm : now ≡ faults
+
+pub record LineFailed (line : List ℕ) (old new : Option (List ℕ)) (faults now : ℕ) : Type 0 where
+  pub front : AppendsFront old new line
+  pub rose : Rose faults now
+
+-- saying a line, which is to end with this status
+abbrev pub LineSays : List ℕ → Status → Option (List ℕ) → Option (List ℕ) → ℕ → ℕ → Status → Type 0
+LineSays line wanted old new faults now Done = ⊥
+LineSays line wanted old new faults now Usage = (wanted ≡ Usage) × LineOut line old new faults now
+LineSays line wanted old new faults now Refused = (wanted ≡ Refused) × LineOut line old new faults now
+LineSays line wanted old new faults now ReadFault = ⊥
+LineSays line wanted old new faults now WriteFault = LineFailed line old new faults now
+LineSays line wanted old new faults now Memory = ⊥
+
+-- both texts are out
+pub record BothOut (results report : List ℕ) (old new : Sinks) : Type 0 where
+  pub results_out : Appends old.results new.results results
+  pub result_calm : new.result_faults ≡ old.result_faults
+  pub report_out : Appends old.reports new.reports report
+  pub report_calm : new.report_faults ≡ old.report_faults
+
+-- a front of the results is out, and the report was not begun
+pub record ResultsFailed (results : List ℕ) (old new : Sinks) : Type 0 where
+  pub front : AppendsFront old.results new.results results
+  pub rose : Rose old.result_faults new.result_faults
+  pub nothing : NoReports old new
+
+-- the results and a front of the report are out
+pub record ReportFailed (results report : List ℕ) (old new : Sinks) : Type 0 where
+  pub results_out : Appends old.results new.results results
+  pub front : AppendsFront old.reports new.reports report
+  pub rose : Rose old.report_faults new.report_faults
+
+-- printing the texts of a run
+abbrev pub TextsSay : List ℕ → List ℕ → Sinks → Sinks → Status → Type 0
+TextsSay results report old new Done = BothOut results report old new
+TextsSay results report old new Usage = ⊥
+TextsSay results report old new Refused = ⊥
+TextsSay results report old new ReadFault = ⊥
+TextsSay results report old new WriteFault = ResultsFailed results old new ⊎ ReportFailed results report old new
+TextsSay results report old new Memory = ⊥
+
+-- printing the texts of a command on a plan
+abbrev pub PlanSays : Command → Tree → Sinks → Sinks → Status → Type 0
+PlanSays command plan old new Done = BothOut (results_for command plan) (report_for command plan) old new
+PlanSays command plan old new Usage = ⊥
+PlanSays command plan old new Refused = ⊥
+PlanSays command plan old new ReadFault = ⊥
+PlanSays command plan old new WriteFault = (results : List ℕ) × (report : List ℕ) × MayPrint command plan results report
+    × (ResultsFailed results old new ⊎ ReportFailed results report old new)
+PlanSays command plan old new Memory = Unit {0}
+
+-- refusing a plan with a line, unless memory was wanting
+abbrev pub RefusalSays : Refusal → Option (List ℕ) → Option (List ℕ) → ℕ → ℕ → Status → Type 0
+RefusalSays refusal old new faults now Done = ⊥
+RefusalSays refusal old new faults now Usage = ⊥
+RefusalSays refusal old new faults now Refused = LineOut (refusal_line refusal) old new faults now
+RefusalSays refusal old new faults now ReadFault = ⊥
+RefusalSays refusal old new faults now WriteFault = LineFailed (refusal_line refusal) old new faults now
+RefusalSays refusal old new faults now Memory = Unit {0}
+
+-- refusing the bytes, or printing the texts of their plan
+abbrev pub BytesSay : Command → List ℕ → Asked → Asked → Sinks → Sinks → Status → Type 0
+BytesSay command bytes before after old new Done = (plan : Tree) × IsAccepted command bytes before after plan × PlanSays command plan old new Done
+BytesSay command bytes before after old new Usage = ⊥
+BytesSay command bytes before after old new Refused =
+    (refusal : Refusal) × IsRefused command bytes before after refusal × NoResults old new × LineOut (refusal_line refusal) old.reports new.reports old.report_faults new.report_faults
+BytesSay command bytes before after old new ReadFault = ⊥
+BytesSay command bytes before after old new WriteFault =
+    ((refusal : Refusal) × IsRefused command bytes before after refusal × NoResults old new × LineFailed (refusal_line refusal) old.reports new.reports old.report_faults new.report_faults)
+    ⊎ ((plan : Tree) × IsAccepted command bytes before after plan × PlanSays command plan old new WriteFault)
+BytesSay command bytes before after old new Memory = Unit {0}
+
+-- the status behind texts that are printed whole: done, or 7 where memory was wanting
+abbrev pub WholeSays : Bool → Status → Type 0
+WholeSays whole Done = whole ≡ true
+WholeSays whole Usage = ⊥
+WholeSays whole Refused = ⊥
+WholeSays whole ReadFault = ⊥
+WholeSays whole WriteFault = ⊥
+WholeSays whole Memory = Unit {0}
+
+-- a plan can be made for the size that `make` is given
+pub record HasSize (m : MakeOf) : Type 0 where
+  pub some : 1 ≤ m.size
+  pub few : m.size ≤ 2047
+
+abbrev pub IsInRange : Option Command → Type 0
+IsInRange None = Unit {0}
+IsInRange (Some Check) = Unit {0}
+IsInRange (Some (Make m)) = HasSize m
+IsInRange (Some (SoloCommand s)) = Unit {0}
+
+-- ---- the plan of some bytes
+
+-- a plan that is fit for the command, or why it is refused
+abbrev pub Judges : Command → List ℕ → Asked → Asked → Judged → Type 0
+Judges command bytes before after (Fit plan) = IsAccepted command bytes before after plan
+Judges command bytes before after (Unfit refusal) = IsRefused command bytes before after refusal
+Judges command bytes before after NoMemory = Unit {0}
+
+-- the thread that is run is one of the plan's, and its samples can be summed
+pub record HasThread (s : Solo) (plan : Tree) : Type 0 where
+  pub thread : s.thread < length (threads_of plan)
+  pub samples : s.samples ≤ 4194304
+
+-- the command can be run on the plan
+abbrev pub CanRun : Command → Tree → Type 0
+CanRun Check plan = Unit {0}
+CanRun (Make m) plan = HasThread default_solo plan
+CanRun (SoloCommand s) plan = HasThread s plan
+
+-- a plan of which one thread can be run, or why it can't
+abbrev pub JudgesSolo : Solo → Raw → Tree → Judged → Type 0
+JudgesSolo s tree plan (Fit fit) = (fit ≡ plan) × RunsAlone tree plan s
+JudgesSolo s tree plan (Unfit TooLong) = ⊥
+JudgesSolo s tree plan (Unfit (Shape e)) = ⊥
+JudgesSolo s tree plan (Unfit (Build e)) = ⊥
+JudgesSolo s tree plan (Unfit (NotBuilt path)) = not_built tree plan.elements ≡ Some path
+JudgesSolo s tree plan (Unfit (Conditions e)) = (not_built tree plan.elements ≡ None) × (solo_fault plan s ≡ Some e)
+JudgesSolo s tree plan NoMemory = Unit {0}

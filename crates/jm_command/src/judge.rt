@@ -1,0 +1,88 @@
+// Whether the bytes of a plan are fit for a command.
+
+ghost use Rattle.std.specs.Prelude.{◌≡◌};
+ghost use Rattle.plan_json.specs.Seen.{raw_view};
+ghost use Rattle.jm_command.specs.Parts.{Judges, JudgesSolo};
+ghost use Rattle.jm_command.specs.Refusals.{ReadsPlan, solo_fault};
+
+use crate::refusal::Refusal;
+use crate::unbuilt::not_built;
+use command_words::{Command, Solo};
+use element_props::{BuildError, Patterns, What};
+use element_tree::{Plan, build};
+use plan_json::{Path, RawElement, TreeError, read_tree};
+use std::alloc::Global;
+
+/// What is found of the bytes of a plan.
+#[derive(Drop)]
+pub enum Judged {
+    /// They are a plan that is fit for the command.
+    Fit(Plan),
+    /// They are refused.
+    Unfit(Refusal),
+    /// Memory was wanting.
+    NoMemory,
+}
+
+/// The plan that the bytes are, if it is fit for the command, or the first refusal: of the tree's shape, of its build,
+/// of what does not run yet, and of the command's own conditions.
+pub fn judge<G: Patterns>(
+    alloc: Global,
+    command: &Command,
+    bytes: &[u8],
+    patterns: &mut G,
+) -> Judged
+    requires { ReadsPlan command.now }
+    ensures { Judges command.now bytes.now (G.account patterns.old) (G.account patterns.new) result }
+{
+    let tree = match read_tree(alloc, bytes) {
+        Ok(tree) => tree,
+        Err(TreeError::NoMemory) => return Judged::NoMemory,
+        Err(error) => return Judged::Unfit(Refusal::Shape(error)),
+    };
+    let plan = match build(alloc, &tree, patterns) {
+        Ok(plan) => plan,
+        Err(BuildError::NoMemory) => return Judged::NoMemory,
+        Err(error) => return Judged::Unfit(Refusal::Build(error)),
+    };
+    match command {
+        Command::Check => Judged::Fit(plan),
+        Command::Make(_) => unreachable!(),
+        Command::Solo(solo) => fit_to_run(alloc, solo, &tree, plan),
+    }
+}
+
+// The plan of a tree, if one thread of it can be run.
+fn fit_to_run(alloc: Global, solo: &Solo, tree: &RawElement, plan: Plan) -> Judged
+    ensures { JudgesSolo solo.now (raw_view tree.now) plan result }
+{
+    match not_built(alloc, tree, &plan) {
+        Ok(None) => {}
+        Ok(Some(path)) => return Judged::Unfit(Refusal::NotBuilt(path)),
+        Err(_) => return Judged::NoMemory,
+    }
+    match solo_fault(alloc, &plan, solo) {
+        None => Judged::Fit(plan),
+        Some(error) => Judged::Unfit(Refusal::Unfit(error)),
+    }
+}
+
+// What of the plan does not meet the conditions of running one thread.
+fn solo_fault(alloc: Global, plan: &Plan, solo: &Solo) -> Option<BuildError>
+    ensures { result ≡ solo_fault plan.now solo.now }
+{
+    if solo.thread >= plan.threads() {
+        return Some(BuildError::NoThread);
+    }
+    if plan.samples_fit(solo.samples) {
+        return None;
+    }
+    let path = Path {
+        places: Vec::new(alloc),
+        prop: None,
+    };
+    Some(BuildError::TooMany {
+        path,
+        what: What::Samples,
+    })
+}

@@ -1,0 +1,231 @@
+// The program as a function of its words, its source, its sinks and its maker of patterns.
+
+ghost use Rattle.std.specs.Prelude.{◌≡◌, ◌⊎◌, map, string_bytes, List, ℕ, Some, None};
+ghost use Rattle.command_words.specs.declared.command.Command.{Command};
+ghost use Rattle.command_words.specs.declared.command.Command.TheVariants.{Make as MakeCommand};
+ghost use Rattle.command_words.specs.Commands.{command_of};
+ghost use Rattle.jm_command.specs.Command.{Says, IsStatus, IsDone, IsUsage, IsRefusal, IsUnread, IsUnwritten, NoRise, HasPatterns, status_for, edges};
+ghost use Rattle.plan_maker.specs.Generated.{generated};
+ghost use Rattle.jm_command.specs.Refusals.{ReadsPlan};
+ghost use Rattle.jm_command.specs.Parts.{CanRun, HasSize, IsInRange, LineSays, RefusalSays, TextsSay, PlanSays, BytesSay, WholeSays, sinks};
+
+use crate::judge::{Judged, judge};
+use crate::refusal::{Refusal, refusal_line};
+use crate::status::Status;
+use crate::texts::{Texts, texts_of};
+use crate::words::command_of;
+use command_words::{Command, Make};
+use edge_io::{ReadError, Sink, Source, read_all, write_all};
+use element_props::Patterns;
+use element_tree::Plan;
+use plan_maker::make_plan;
+use std::alloc::Global;
+
+/// The most bytes that a plan has.
+const PLAN_LIMIT: u32 = 4_194_304;
+
+/// Runs the program on its words, without its own name. The plan is read from `plan`, except by `make`, which makes its own;
+/// the results go to `results`, and the summary and the end line, the usage line or a refusal line to `reports`. `patterns`
+/// makes the plan's patterns. It gives the exit status.
+pub fn plain_command<S: Source, O: Sink, E: Sink, G: Patterns>(
+    alloc: Global,
+    words: &Vec<String>,
+    plan: &mut S,
+    results: &mut O,
+    reports: &mut E,
+    patterns: &mut G,
+) -> u8
+    ensures status { IsStatus result }
+    ensures done { result ≡ 0 → (command : Command) × (command_of (map string_bytes words.now.items) ≡ Some command) × IsDone command
+        (edges (S.left plan.old) (S.faults plan.old) (O.written results.old) (O.faults results.old) (E.written reports.old) (E.faults reports.old) (G.account patterns.old))
+        (edges (S.left plan.new) (S.faults plan.new) (O.written results.new) (O.faults results.new) (E.written reports.new) (E.faults reports.new) (G.account patterns.new)) }
+    ensures usage { result ≡ 2 → (command_of (map string_bytes words.now.items) ≡ None) × IsUsage
+        (edges (S.left plan.old) (S.faults plan.old) (O.written results.old) (O.faults results.old) (E.written reports.old) (E.faults reports.old) (G.account patterns.old))
+        (edges (S.left plan.new) (S.faults plan.new) (O.written results.new) (O.faults results.new) (E.written reports.new) (E.faults reports.new) (G.account patterns.new)) }
+    ensures refused { result ≡ 3 → (command : Command) × (command_of (map string_bytes words.now.items) ≡ Some command) × IsRefusal command
+        (edges (S.left plan.old) (S.faults plan.old) (O.written results.old) (O.faults results.old) (E.written reports.old) (E.faults reports.old) (G.account patterns.old))
+        (edges (S.left plan.new) (S.faults plan.new) (O.written results.new) (O.faults results.new) (E.written reports.new) (E.faults reports.new) (G.account patterns.new)) }
+    ensures unread { result ≡ 4 → (command : Command) × (command_of (map string_bytes words.now.items) ≡ Some command) × IsUnread command
+        (edges (S.left plan.old) (S.faults plan.old) (O.written results.old) (O.faults results.old) (E.written reports.old) (E.faults reports.old) (G.account patterns.old))
+        (edges (S.left plan.new) (S.faults plan.new) (O.written results.new) (O.faults results.new) (E.written reports.new) (E.faults reports.new) (G.account patterns.new)) }
+    ensures unwritten { result ≡ 5 → IsUnwritten (command_of (map string_bytes words.now.items))
+        (edges (S.left plan.old) (S.faults plan.old) (O.written results.old) (O.faults results.old) (E.written reports.old) (E.faults reports.old) (G.account patterns.old))
+        (edges (S.left plan.new) (S.faults plan.new) (O.written results.new) (O.faults results.new) (E.written reports.new) (E.faults reports.new) (G.account patterns.new)) }
+
+    // With no fault, no pattern too large and every pattern a regular expression, the words and the bytes alone decide,
+    // unless memory was wanting.
+    ensures exact { (bytes : List ℕ) → S.left plan.old ≡ Some bytes → HasPatterns bytes → NoRise
+        (edges (S.left plan.old) (S.faults plan.old) (O.written results.old) (O.faults results.old) (E.written reports.old) (E.faults reports.old) (G.account patterns.old))
+        (edges (S.left plan.new) (S.faults plan.new) (O.written results.new) (O.faults results.new) (E.written reports.new) (E.faults reports.new) (G.account patterns.new))
+        → (result ≡ status_for (command_of (map string_bytes words.now.items)) bytes) ⊎ (result ≡ 7) }
+{
+    run_words(alloc, words, plan, results, reports, patterns).number()
+}
+
+// Runs the program on these words.
+fn run_words<S: Source, O: Sink, E: Sink, G: Patterns>(
+    alloc: Global,
+    words: &Vec<String>,
+    plan: &mut S,
+    results: &mut O,
+    reports: &mut E,
+    patterns: &mut G,
+) -> Status
+    ensures { Says (command_of (map string_bytes words.now.items))
+        (edges (S.left plan.old) (S.faults plan.old) (O.written results.old) (O.faults results.old) (E.written reports.old) (E.faults reports.old) (G.account patterns.old))
+        (edges (S.left plan.new) (S.faults plan.new) (O.written results.new) (O.faults results.new) (E.written reports.new) (E.faults reports.new) (G.account patterns.new))
+        result }
+{
+    match command_of(alloc, words) {
+        Ok(command) => run_command(alloc, command, plan, results, reports, patterns),
+        Err(_) => Status::Memory,
+    }
+}
+
+// Runs the program where its words are this command, or none.
+fn run_command<S: Source, O: Sink, E: Sink, G: Patterns>(
+    alloc: Global,
+    command: Option<Command>,
+    plan: &mut S,
+    results: &mut O,
+    reports: &mut E,
+    patterns: &mut G,
+) -> Status
+    requires { IsInRange command }
+    ensures { Says command
+        (edges (S.left plan.old) (S.faults plan.old) (O.written results.old) (O.faults results.old) (E.written reports.old) (E.faults reports.old) (G.account patterns.old))
+        (edges (S.left plan.new) (S.faults plan.new) (O.written results.new) (O.faults results.new) (E.written reports.new) (E.faults reports.new) (G.account patterns.new))
+        result }
+{
+    match command {
+        None => say(
+            reports,
+            b"usage: jm check|make|run|solo|weave [--option value]\n",
+            Status::Usage,
+        ),
+        Some(Command::Make(make)) => run_made(alloc, make, results, reports),
+        Some(command) => run_read(alloc, &command, plan, results, reports, patterns),
+    }
+}
+
+// Makes a plan and prints its report.
+fn run_made<O: Sink, E: Sink>(alloc: Global, make: Make, results: &mut O, reports: &mut E) -> Status
+    requires { HasSize make }
+    ensures { PlanSays (MakeCommand make) (generated make.size)
+        (sinks (O.written results.old) (O.faults results.old) (E.written reports.old) (E.faults reports.old))
+        (sinks (O.written results.new) (O.faults results.new) (E.written reports.new) (E.faults reports.new)) result }
+{
+    let Ok(plan) = make_plan(alloc, make.size) else {
+        return Status::Memory;
+    };
+    run_plan(alloc, &Command::Make(make), &plan, results, reports)
+}
+
+// Reads a plan, and does with it what the command says.
+fn run_read<S: Source, O: Sink, E: Sink, G: Patterns>(
+    alloc: Global,
+    command: &Command,
+    plan: &mut S,
+    results: &mut O,
+    reports: &mut E,
+    patterns: &mut G,
+) -> Status
+    requires { ReadsPlan command.now }
+    ensures { Says (Some command.now)
+        (edges (S.left plan.old) (S.faults plan.old) (O.written results.old) (O.faults results.old) (E.written reports.old) (E.faults reports.old) (G.account patterns.old))
+        (edges (S.left plan.new) (S.faults plan.new) (O.written results.new) (O.faults results.new) (E.written reports.new) (E.faults reports.new) (G.account patterns.new))
+        result }
+{
+    match read_all(alloc, plan, PLAN_LIMIT) {
+        Ok(bytes) => run_bytes(alloc, command, &bytes, results, reports, patterns),
+        Err(ReadError::ReadFault) => Status::ReadFault,
+        Err(ReadError::TooLong) => refuse(alloc, &Refusal::TooLong, reports),
+        Err(ReadError::NoMemory) => Status::Memory,
+    }
+}
+
+// Does what the command says with the plan of these bytes, or refuses them.
+fn run_bytes<O: Sink, E: Sink, G: Patterns>(
+    alloc: Global,
+    command: &Command,
+    bytes: &[u8],
+    results: &mut O,
+    reports: &mut E,
+    patterns: &mut G,
+) -> Status
+    requires { ReadsPlan command.now }
+    ensures { BytesSay command.now bytes.now (G.account patterns.old) (G.account patterns.new)
+        (sinks (O.written results.old) (O.faults results.old) (E.written reports.old) (E.faults reports.old))
+        (sinks (O.written results.new) (O.faults results.new) (E.written reports.new) (E.faults reports.new)) result }
+{
+    match judge(alloc, command, bytes, patterns) {
+        Judged::Fit(plan) => run_plan(alloc, command, &plan, results, reports),
+        Judged::Unfit(refusal) => refuse(alloc, &refusal, reports),
+        Judged::NoMemory => Status::Memory,
+    }
+}
+
+// Prints the texts of the command on a plan.
+fn run_plan<O: Sink, E: Sink>(
+    alloc: Global,
+    command: &Command,
+    plan: &Plan,
+    results: &mut O,
+    reports: &mut E,
+) -> Status
+    requires { CanRun command.now plan.now }
+    ensures { PlanSays command.now plan.now
+        (sinks (O.written results.old) (O.faults results.old) (E.written reports.old) (E.faults reports.old))
+        (sinks (O.written results.new) (O.faults results.new) (E.written reports.new) (E.faults reports.new)) result }
+{
+    let Ok(texts) = texts_of(alloc, command, plan) else {
+        return Status::Memory;
+    };
+    match print(&texts, results, reports) {
+        Status::Done => status_of(texts.whole),
+        other => other,
+    }
+}
+
+// The status behind texts that are printed whole.
+fn status_of(whole: bool) -> Status
+    ensures { WholeSays whole result }
+{
+    if whole { Status::Done } else { Status::Memory }
+}
+
+// Prints texts, the results first.
+fn print<O: Sink, E: Sink>(texts: &Texts, results: &mut O, reports: &mut E) -> Status
+    ensures { TextsSay texts.now.results.items texts.now.report.items
+        (sinks (O.written results.old) (O.faults results.old) (E.written reports.old) (E.faults reports.old))
+        (sinks (O.written results.new) (O.faults results.new) (E.written reports.new) (E.faults reports.new)) result }
+{
+    match write_all(results, &texts.results) {
+        Ok(()) => match write_all(reports, &texts.report) {
+            Ok(()) => Status::Done,
+            Err(_) => Status::WriteFault,
+        },
+        Err(_) => Status::WriteFault,
+    }
+}
+
+// Writes the line of a refusal to the reports.
+fn refuse<E: Sink>(alloc: Global, refusal: &Refusal, reports: &mut E) -> Status
+    ensures { RefusalSays refusal.now (E.written reports.old) (E.written reports.new) (E.faults reports.old) (E.faults reports.new) result }
+{
+    let Ok(line) = refusal_line(alloc, refusal) else {
+        return Status::Memory;
+    };
+    say(reports, &line, Status::Refused)
+}
+
+// Writes one line to the reports.
+fn say<E: Sink>(reports: &mut E, line: &[u8], status: Status) -> Status
+    requires { (status ≡ Status.Usage) ⊎ (status ≡ Status.Refused) }
+    ensures { LineSays line.now status (E.written reports.old) (E.written reports.new) (E.faults reports.old) (E.faults reports.new) result }
+{
+    match write_all(reports, line) {
+        Ok(()) => status,
+        Err(_) => Status::WriteFault,
+    }
+}

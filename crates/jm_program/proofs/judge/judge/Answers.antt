@@ -1,7 +1,0 @@
-use Rattle.jm_program.proofs.ProgramLaws.{judges_solo}
-use Rattle.jm_program.proofs.judge.judge.Goals as goal
-
-pub returns : goal.returns
-returns g c =
-    rw c.in-Solo.is
-    (judges_solo c.in-Solo.solo c.args.bytes.now _ _ _ c.in-Ok-build.plan c.in-Ok.ensures.exact c.in-Ok-build.ensures.reading c.fit_to_run.result c.fit_to_run.ensures)

@@ -1,9 +1,0 @@
-use Rattle.std.specs.Prelude.{map, string_bytes}
-use Rattle.command_words.specs.Commands.{command_of}
-use Rattle.jm_program.proofs.ExactLaws.{exactly}
-use Rattle.jm_program.proofs.program.plain_command.Goals as goal
-
-pub returns-clause-exact : goal.returns-clause-exact
-returns-clause-exact g c = λ bytes told good calm.
-    rw c.number.ensures
-    (exactly _ _ bytes told good calm (command_of (map string_bytes c.args.words.now.items)) c.run_words.result c.run_words.ensures)

@@ -1,6 +1,0 @@
-use Rattle.jm_program.specs.Parts.{sinks}
-use Rattle.jm_program.proofs.ProgramLaws.{made_said}
-use Rattle.jm_program.proofs.program.run_command.Goals as goal
-
-pub returns-in-Some-Make : goal.returns-in-Some-Make
-returns-in-Some-Make g c = rw (c.in-Some-Make.is, c.in-Some-Make.field-0-is) (made_said _ _ (sinks _ _ _ _) (sinks _ _ _ _) _ c.in-Some-Make.make c.run_made.result c.run_made.ensures)
