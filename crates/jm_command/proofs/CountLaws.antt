@@ -59,7 +59,7 @@ one_further trace i item h =
 
 -- ---- the rows
 
--- the rows of so many labels are the sum of these entries, whose labels and numbers are in range
+-- the rows of that many labels are the sum of these entries, whose labels and numbers are in range
 pub record IsSum (labels : ℕ) (rows : List Row) (es : List Entry) : Type 0 where
   pub sum : rows ≡ sum_of labels es
   pub labelled : AllLabels labels es
@@ -107,7 +107,7 @@ module _ (labels : ℕ) (rows : List Row) (trace : List TraceItem) (i : ℕ) (is
       in_bounds labels rows (traced (take i trace)) is (omega arith)
 
   module _ (item : TraceItem) (within : i < length trace) (here : item ≡ get_or trace i item) where
-    -- an item that is no sample changes nothing
+    -- an item that is not a sample changes nothing
     pub sum_same : ((sample : Sample) (interval : ℕ) → item ≡ Sampled sample interval → ⊥) → (now : List Row) → now ≡ rows → IsSum labels now (traced (take (i + 1) trace))
     sum_same none now now_is =
         let further : traced (take (i + 1) trace) ≡ traced (take i trace) = one_further trace i item within

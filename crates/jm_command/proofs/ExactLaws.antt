@@ -123,7 +123,7 @@ module _ (old new : Edges) (bytes : List ℕ) (told : old.left ≡ Some bytes) (
   exactly words Usage s = inl (rw s.0 refl)
   exactly words Refused s = inl (sym (rw s.1 (refuses_status s.0 s.2.refusal s.2.refuses)))
   exactly words ReadFault s = absurd (calm.source s.2.rose)
-  exactly None WriteFault s = absurd (calm.reports s.rose)
+  exactly None WriteFault s = absurd (calm.reports s.unwritten.rose)
   exactly (Some command) WriteFault s = elim s [
     | inl r ↦ absurd (calm.reports r.2.rose)
     | inr t ↦ elim t [ inl r ↦ absurd (calm.results r.rose) | inr r ↦ absurd (calm.reports r.rose) ]

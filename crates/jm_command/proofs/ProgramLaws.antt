@@ -27,8 +27,8 @@ use Rattle.jm_command.specs.declared.status.Status.{Status}
 use Rattle.jm_command.specs.declared.status.Status.TheVariants.{Done, Usage, Refused, ReadFault, WriteFault, Memory}
 use Rattle.jm_command.specs.Refusals.{ReadsPlan, IsAccepted, IsRefused, solo_fault, refusal_line}
 use Rattle.jm_command.specs.Printed.{results_for, report_for, MayPrint}
-use Rattle.jm_command.specs.Command.{plan_limit, Edges, edges, Accepts, Makes, HasPlan, Refuses, IsDone, IsRefusal, ResultsUnwritten, ReportUnwritten, Says}
-use Rattle.jm_command.specs.Parts.{Sinks, NoResults, LineOut, BothOut, ResultsFailed, ReportFailed, PlanSays, RefusalSays, BytesSay, Judges, JudgesSolo, HasThread, CanRun}
+use Rattle.jm_command.specs.Command.{plan_limit, Edges, edges, Accepts, Makes, HasPlan, Refuses, IsDone, IsRefusal, LineUnwritten, ResultsUnwritten, ReportUnwritten, Says, NothingRead, usage_line}
+use Rattle.jm_command.specs.Parts.{Sinks, NoResults, LineOut, LineFailed, LineSays, BothOut, ResultsFailed, ReportFailed, PlanSays, RefusalSays, BytesSay, Judges, JudgesSolo, HasThread, CanRun}
 
 -- a plan of which one thread can be run, or why it can't, is what the command finds of the bytes
 pub judges_solo : (s : SoloOf) (bytes : List ℕ) (before after : Asked) (tree : Raw) (plan : Tree) → reading_of bytes ≡ Ok tree → Goes before (reading tree) (over plan) after
@@ -83,12 +83,34 @@ plan_read (Solo s) old new plan reads accepts = accepts
 texts_unwritten : (left left' : Option (List ℕ)) (read read' : ℕ) (old new : Sinks) (asked asked' : Asked) (command : Command)
     → let before = edges left read old.results old.result_faults old.reports old.report_faults asked in
     let after = edges left' read' new.results new.result_faults new.reports new.report_faults asked' in
-    (plan : Tree) → HasPlan command before after plan → (results report : List ℕ) → MayPrint command plan results report
+    read' ≡ read → (plan : Tree) → HasPlan command before after plan → (results report : List ℕ) → MayPrint command plan results report
     → ResultsFailed results old new ⊎ ReportFailed results report old new
     → ResultsUnwritten command before after ⊎ ReportUnwritten command before after
-texts_unwritten left left' read read' old new asked asked' command plan has results report may failed = elim failed [
-  | inl r ↦ inl (record { plan = plan; text = results; report = report; has_plan = has; may = may; rose = r.rose; results = r.front; reports = keeps_same old.reports new.reports r.nothing.reports })
-  | inr r ↦ inr (record { plan = plan; text = results; report = report; has_plan = has; may = may; rose = r.rose; results = r.results_out; reports = r.front })
+texts_unwritten left left' read read' old new asked asked' command calm plan has results report may failed = elim failed [
+  | inl r ↦ inl (record {
+    plan = plan;
+    text = results;
+    report = report;
+    has_plan = has;
+    may = may;
+    rose = r.rose;
+    results = r.some;
+    reports = keeps_same old.reports new.reports r.nothing.reports;
+    read_calm = calm;
+    report_calm = r.nothing.report_faults;
+  })
+  | inr r ↦ inr (record {
+    plan = plan;
+    text = results;
+    report = report;
+    has_plan = has;
+    may = may;
+    rose = r.rose;
+    results = r.results_out;
+    reports = r.some;
+    read_calm = calm;
+    result_calm = r.result_calm;
+  })
 ]
 
 module _ (left left' : Option (List ℕ)) (read read' : ℕ) (old new : Sinks) (asked asked' : Asked) (calm : read' ≡ read) (command : Command) (reads : ReadsPlan command) where
@@ -97,6 +119,16 @@ module _ (left left' : Option (List ℕ)) (read read' : ℕ) (old new : Sinks) (
 
   abbrev after : Edges
   after = edges left' read' new.results new.result_faults new.reports new.report_faults asked'
+
+  -- a line that is not out whole, where the results were left alone
+  line_unwritten : {line : List ℕ} → NoResults old new → LineFailed line old.reports new.reports old.report_faults new.report_faults → LineUnwritten before after line
+  line_unwritten none failed = record {
+    rose = failed.rose;
+    results = keeps_same old.results new.results none.results;
+    reports = failed.some;
+    read_calm = calm;
+    result_calm = none.result_faults;
+  }
 
   -- a plan with more bytes than its limit
   pub long_said : TookCount left left' (plan_limit + 1) → asked' ≡ asked → NoResults old new → (status : Status)
@@ -116,7 +148,7 @@ module _ (left left' : Option (List ℕ)) (read read' : ℕ) (old new : Sinks) (
   )
   long_said took still none ReadFault s = absurd s
   long_said took still none WriteFault s =
-      inl (TooLong, (reads, inl (record { long = took; refusal_is = refl; asked = still })), record { rose = s.rose; results = keeps_same old.results new.results none.results; reports = s.front })
+      inl (TooLong, (reads, inl (record { long = took; refusal_is = refl; asked = still })), line_unwritten none s)
   long_said took still none Memory s = tt
 
   module _ (bytes : List ℕ) (within : length bytes ≤ plan_limit) (took : TookAll left left' bytes) where
@@ -151,8 +183,8 @@ module _ (left left' : Option (List ℕ)) (read read' : ℕ) (old new : Sinks) (
     bytes_said Refused s = (command, refl, is_refusal s.0 s.1 s.2 s.3)
     bytes_said ReadFault s = absurd s
     bytes_said WriteFault s = elim s [
-      | inl r ↦ inl (r.0, refuses r.0 r.1, record { rose = r.3.rose; results = keeps_same old.results new.results r.2.results; reports = r.3.front })
-      | inr r ↦ inr (texts_unwritten left left' read read' old new asked asked' command r.0 (has_plan r.0 r.1) r.2.0 r.2.1 r.2.2 r.2.3)
+      | inl r ↦ inl (r.0, refuses r.0 r.1, line_unwritten r.2 r.3)
+      | inr r ↦ inr (texts_unwritten left left' read read' old new asked asked' command calm r.0 (has_plan r.0 r.1) r.2.0 r.2.1 r.2.2 r.2.3)
     ]
     bytes_said Memory s = tt
 
@@ -165,7 +197,7 @@ module _ (left : Option (List ℕ)) (read : ℕ) (old new : Sinks) (asked : Aske
   after_made = edges left read new.results new.result_faults new.reports new.report_faults asked
 
   makes : Makes m before_made after_made (generated m.size)
-  makes = record { made = refl; unread = Keeps-refl left; calm = refl; asked = refl }
+  makes = record { made = refl; unread = record { left = Keeps-refl left; calm = refl; asked = refl } }
 
   pub made_said : (status : Status) → PlanSays (Make m) (generated m.size) old new status → Says (Some (Make m)) before_made after_made status
   made_said Done out = (
@@ -182,5 +214,31 @@ module _ (left : Option (List ℕ)) (read : ℕ) (old new : Sinks) (asked : Aske
   made_said Usage s = absurd s
   made_said Refused s = absurd s
   made_said ReadFault s = absurd s
-  made_said WriteFault s = inr (texts_unwritten left left read read old new asked asked (Make m) (generated m.size) makes s.0 s.1 s.2 s.3)
+  made_said WriteFault s = inr (texts_unwritten left left read read old new asked asked (Make m) refl (generated m.size) makes s.0 s.1 s.2 s.3)
   made_said Memory s = tt
+
+-- the usage line, of words that are not a command: nothing was read
+module _ (left : Option (List ℕ)) (read : ℕ) (results : Option (List ℕ)) (written : ℕ) (old new : Option (List ℕ)) (told told' : ℕ) (asked : Asked) where
+  abbrev before_usage : Edges
+  before_usage = edges left read results written old told asked
+
+  abbrev after_usage : Edges
+  after_usage = edges left read results written new told' asked
+
+  unread : NothingRead before_usage after_usage
+  unread = record { left = Keeps-refl left; calm = refl; asked = refl }
+
+  not_refused : Usage ≡ Refused → ⊥
+  not_refused same = cc
+
+  pub usage_said : (status : Status) → LineSays usage_line Usage old new told told' status → Says None before_usage after_usage status
+  usage_said Done s = absurd s
+  usage_said Usage s =
+      (refl, record { unread = unread; results = Keeps-refl results; reports = s.1.out; no_fault = record { source = refl; results = refl; reports = s.1.calm } })
+  usage_said Refused s = absurd (not_refused s.0)
+  usage_said ReadFault s = absurd s
+  usage_said WriteFault s = record {
+    unread = unread;
+    unwritten = record { rose = s.rose; results = Keeps-refl results; reports = s.some; read_calm = refl; result_calm = refl };
+  }
+  usage_said Memory s = absurd s

@@ -46,7 +46,7 @@ module _ (here : List ℕ) (cs : List RawElement) (i : ℕ) (v : RawElement) (h 
       subst (λ b. done ++ ((if b then places_of (here ++ i ∷ []) (raw_view v) else []) ++ left) ≡ all) (is_enabled_seen v ∙ on) opened in
       rw (is_more, at_now) (append_assoc done (places_of (here ++ i ∷ []) (raw_view v)) left ∙ o)
 
--- behind the last child
+-- after the last child
 pub all_placed : (here : List ℕ) (cs : List RawElement) (i : ℕ) (done all : List (List ℕ)) → length cs ≤ i → done ++ places_below here i (raws_of (map raw_view (drop i cs))) ≡ all → done ≡ all
 unfolding places_of
 all_placed here cs i done all h kept =

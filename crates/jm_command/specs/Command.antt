@@ -2,7 +2,7 @@
 use Rattle.std.specs.Prelude.{◌≡◌, ◌⊎◌, ℕ, ◌+◌, ◌≤◌, List, length, Option, Some, None, Result, Ok, Err, codes, nat_le, if◌then◌else◌}
 use Rattle.std.specs.Io.KnownBytes.{Appends, Keeps}
 use Rattle.jm_base.specs.Counts.{Rose}
-use Rattle.edge_io.specs.Edges.{TookAll, TookCount, AppendsFront}
+use Rattle.edge_io.specs.Edges.{TookAll, TookCount, TookAtMost, AppendsFront}
 use Rattle.plan_json.specs.Shape.{Raw, reading_of}
 use Rattle.plan_json.specs.declared.error.TreeError.{TreeError}
 use Rattle.element_props.specs.declared.error.BuildError.{BuildError}
@@ -56,12 +56,16 @@ pub record Accepts (command : Command) (old new : Edges) (plan : Tree) : Type 0 
   pub read : TookAll old.left new.left bytes
   pub accepted : IsAccepted command bytes old.asked new.asked plan
 
+-- nothing was read, no read failed, and no pattern was asked for
+pub record NothingRead (old new : Edges) : Type 0 where
+  pub left : Keeps old.left new.left
+  pub calm : new.read_faults ≡ old.read_faults
+  pub asked : new.asked ≡ old.asked
+
 -- nothing was read, and the plan is the one that is made for the size
 pub record Makes (m : MakeOf) (old new : Edges) (plan : Tree) : Type 0 where
   pub made : plan ≡ generated m.size
-  pub unread : Keeps old.left new.left
-  pub calm : new.read_faults ≡ old.read_faults
-  pub asked : new.asked ≡ old.asked
+  pub unread : NothingRead old new
 
 -- the plan that a command runs: `make` has made it, and the others have read and accepted it
 abbrev pub HasPlan : Command → Edges → Edges → Tree → Type 0
@@ -95,11 +99,10 @@ pub record IsDone (command : Command) (old new : Edges) : Type 0 where
 
 -- Status 2: the usage line stands in the reports, nothing in the results, and nothing was read.
 pub record IsUsage (old new : Edges) : Type 0 where
-  pub unread : Keeps old.left new.left
+  pub unread : NothingRead old new
   pub results : Keeps old.results new.results
   pub reports : Appends old.reports new.reports usage_line
   pub no_fault : HasNoFault old new
-  pub asked : new.asked ≡ old.asked
 
 -- Status 3: the refusal line stands in the reports, and nothing in the results.
 pub record IsRefusal (command : Command) (old new : Edges) : Type 0 where
@@ -109,20 +112,24 @@ pub record IsRefusal (command : Command) (old new : Edges) : Type 0 where
   pub reports : Appends old.reports new.reports (refusal_line refusal)
   pub no_fault : HasNoFault old new
 
--- Status 4: the source's count of faults rose, and nothing was printed.
+-- Status 4: the source's count of faults rose, at most a plan's bytes were read, no pattern was asked for, and nothing was printed.
 pub record IsUnread (command : Command) (old new : Edges) : Type 0 where
   pub reads : ReadsPlan command
   pub rose : Rose old.read_faults new.read_faults
+  pub took : TookAtMost old.left new.left plan_limit
+  pub asked : new.asked ≡ old.asked
   pub results : Keeps old.results new.results
   pub reports : Keeps old.reports new.reports
   pub result_calm : new.result_faults ≡ old.result_faults
   pub report_calm : new.report_faults ≡ old.report_faults
 
--- Status 5: a sink's count of faults rose, and a front of the text that it was given is out. What was to be printed later was not begun.
+-- Status 5: the count of faults of one sink rose, and no other count; a prefix of the text that it was given is out. What was to be printed later was not begun.
 pub record LineUnwritten (old new : Edges) (line : List ℕ) : Type 0 where
   pub rose : Rose old.report_faults new.report_faults
   pub results : Keeps old.results new.results
   pub reports : AppendsFront old.reports new.reports line
+  pub read_calm : new.read_faults ≡ old.read_faults
+  pub result_calm : new.result_faults ≡ old.result_faults
 
 pub record ResultsUnwritten (command : Command) (old new : Edges) : Type 0 where
   pub plan : Tree
@@ -133,6 +140,8 @@ pub record ResultsUnwritten (command : Command) (old new : Edges) : Type 0 where
   pub rose : Rose old.result_faults new.result_faults
   pub results : AppendsFront old.results new.results text
   pub reports : Keeps old.reports new.reports
+  pub read_calm : new.read_faults ≡ old.read_faults
+  pub report_calm : new.report_faults ≡ old.report_faults
 
 pub record ReportUnwritten (command : Command) (old new : Edges) : Type 0 where
   pub plan : Tree
@@ -143,12 +152,19 @@ pub record ReportUnwritten (command : Command) (old new : Edges) : Type 0 where
   pub rose : Rose old.report_faults new.report_faults
   pub results : Appends old.results new.results text
   pub reports : AppendsFront old.reports new.reports report
+  pub read_calm : new.read_faults ≡ old.read_faults
+  pub result_calm : new.result_faults ≡ old.result_faults
 
 abbrev pub RefusalUnwritten : Command → Edges → Edges → Type 0
 RefusalUnwritten command old new = (refusal : Refusal) × Refuses command old new refusal × LineUnwritten old new (refusal_line refusal)
 
+-- the usage line, before anything is read
+pub record UsageUnwritten (old new : Edges) : Type 0 where
+  pub unread : NothingRead old new
+  pub unwritten : LineUnwritten old new usage_line
+
 abbrev pub IsUnwritten : Option Command → Edges → Edges → Type 0
-IsUnwritten None old new = LineUnwritten old new usage_line
+IsUnwritten None old new = UsageUnwritten old new
 IsUnwritten (Some command) old new = RefusalUnwritten command old new ⊎ (ResultsUnwritten command old new ⊎ ReportUnwritten command old new)
 
 -- what a status says of a run whose words are this command, or none

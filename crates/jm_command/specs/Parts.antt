@@ -38,13 +38,13 @@ pub record NoReports (old new : Sinks) : Type 0 where
   pub reports : new.reports ≡ old.reports
   pub report_faults : new.report_faults ≡ old.report_faults
 
--- a line is out, or a front of it, with a fault that was counted
+-- a line is out, or a prefix of it, with a fault that was counted
 pub record LineOut (line : List ℕ) (old new : Option (List ℕ)) (faults now : ℕ) : Type 0 where
   pub out : Appends old new line
   pub calm : now ≡ faults
 
 pub record LineFailed (line : List ℕ) (old new : Option (List ℕ)) (faults now : ℕ) : Type 0 where
-  pub front : AppendsFront old new line
+  pub some : AppendsFront old new line
   pub rose : Rose faults now
 
 -- saying a line, which is to end with this status
@@ -63,17 +63,18 @@ pub record BothOut (results report : List ℕ) (old new : Sinks) : Type 0 where
   pub report_out : Appends old.reports new.reports report
   pub report_calm : new.report_faults ≡ old.report_faults
 
--- a front of the results is out, and the report was not begun
+-- a prefix of the results is out, and the report was not begun
 pub record ResultsFailed (results : List ℕ) (old new : Sinks) : Type 0 where
-  pub front : AppendsFront old.results new.results results
+  pub some : AppendsFront old.results new.results results
   pub rose : Rose old.result_faults new.result_faults
   pub nothing : NoReports old new
 
--- the results and a front of the report are out
+-- the results and a prefix of the report are out
 pub record ReportFailed (results report : List ℕ) (old new : Sinks) : Type 0 where
   pub results_out : Appends old.results new.results results
-  pub front : AppendsFront old.reports new.reports report
+  pub some : AppendsFront old.reports new.reports report
   pub rose : Rose old.report_faults new.report_faults
+  pub result_calm : new.result_faults ≡ old.result_faults
 
 -- printing the texts of a run
 abbrev pub TextsSay : List ℕ → List ℕ → Sinks → Sinks → Status → Type 0
@@ -94,7 +95,7 @@ PlanSays command plan old new WriteFault = (results : List ℕ) × (report : Lis
     × (ResultsFailed results old new ⊎ ReportFailed results report old new)
 PlanSays command plan old new Memory = Unit {0}
 
--- refusing a plan with a line, unless memory was wanting
+-- refusing a plan with a line, unless memory ran out
 abbrev pub RefusalSays : Refusal → Option (List ℕ) → Option (List ℕ) → ℕ → ℕ → Status → Type 0
 RefusalSays refusal old new faults now Done = ⊥
 RefusalSays refusal old new faults now Usage = ⊥
@@ -115,7 +116,7 @@ BytesSay command bytes before after old new WriteFault =
     ⊎ ((plan : Tree) × IsAccepted command bytes before after plan × PlanSays command plan old new WriteFault)
 BytesSay command bytes before after old new Memory = Unit {0}
 
--- the status behind texts that are printed whole: done, or 7 where memory was wanting
+-- the status after texts that are printed: done, or 7 where memory ran out before they were whole
 abbrev pub WholeSays : Bool → Status → Type 0
 WholeSays whole Done = whole ≡ true
 WholeSays whole Usage = ⊥

@@ -86,7 +86,7 @@ counted plan items = record { interval = 0; rows = sum_of (length (labels_of pla
 abbrev pub report_of : Tree → ℕ → List Item → List ℕ
 report_of plan thread items = summary_text plan (counted plan items) ++ option_map_or (end_text plan thread) (last_end items) []
 
--- the items are those of the plan's meaning; of a thread that was cut for want of memory nothing is said
+-- the items are those of the plan's meaning; of a thread that was cut short because memory ran out nothing is said
 abbrev pub IsWhole : Tree → Solo → List Item → End → Type 0
 IsWhole plan s items Completed = items ≡ shown_of plan s
 IsWhole plan s items StopThread = items ≡ shown_of plan s
@@ -102,7 +102,7 @@ pub record IsShown (plan : Tree) (s : Solo) (items : List Item) (end : End) : Ty
   pub last : last_end items ≡ Some end
   pub whole : IsWhole plan s items end
 
--- a thread that ended so was not cut for want of memory
+-- a thread that ended so was not cut short because memory ran out
 abbrev pub end_is_whole : End → Bool
 end_is_whole Completed = true
 end_is_whole StopThread = true
@@ -133,13 +133,13 @@ pub record HasShown (plan : Tree) (s : Solo) (items : List Item) (report : List 
   pub shown_as : IsShown plan s items end
   pub report_is : report ≡ report_of plan s.thread items
 
--- These texts may be printed: those of the plan itself, or those of a thread that has run, maybe cut for want of memory.
+-- These texts may be printed: those of the plan itself, or those of a thread that has run, maybe cut short because memory ran out.
 abbrev pub MayPrint : Command → Tree → List ℕ → List ℕ → Type 0
 MayPrint Check plan results report = (results ≡ results_for Check plan) × (report ≡ [])
 MayPrint (Make m) plan results report = (results ≡ []) × ((items : List Item) × HasShown plan default_solo items report)
 MayPrint (SoloCommand s) plan results report = (items : List Item) × (results ≡ results_of plan s.thread items) × HasShown plan s items report
 
--- the texts of a command on a plan; where they are not whole, memory was wanting
+-- the texts of a command on a plan; where they are not whole, memory ran out
 pub record AreTexts (command : Command) (plan : Tree) (results report : List ℕ) (whole : Bool) : Type 0 where
   pub may : MayPrint command plan results report
   pub results_whole : whole ≡ true → results ≡ results_for command plan

@@ -20,7 +20,7 @@ pub enum Judged {
     Fit(Plan),
     /// They are refused.
     Unfit(Refusal),
-    /// Memory was wanting.
+    /// Memory ran out.
     NoMemory,
 }
 

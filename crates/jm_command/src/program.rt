@@ -53,7 +53,7 @@ pub fn plain_command<S: Source, O: Sink, E: Sink, G: Patterns>(
         (edges (S.left plan.new) (S.faults plan.new) (O.written results.new) (O.faults results.new) (E.written reports.new) (E.faults reports.new) (G.account patterns.new)) }
 
     // With no fault, no pattern too large and every pattern a regular expression, the words and the bytes alone decide,
-    // unless memory was wanting.
+    // unless memory runs out.
     ensures exact { (bytes : List ℕ) → S.left plan.old ≡ Some bytes → HasPatterns bytes → NoRise
         (edges (S.left plan.old) (S.faults plan.old) (O.written results.old) (O.faults results.old) (E.written reports.old) (E.faults reports.old) (G.account patterns.old))
         (edges (S.left plan.new) (S.faults plan.new) (O.written results.new) (O.faults results.new) (E.written reports.new) (E.faults reports.new) (G.account patterns.new))
@@ -187,7 +187,7 @@ fn run_plan<O: Sink, E: Sink>(
     }
 }
 
-// The status behind texts that are printed whole.
+// The status after texts that are printed.
 fn status_of(whole: bool) -> Status
     ensures { WholeSays whole result }
 {

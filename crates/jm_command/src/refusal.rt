@@ -14,9 +14,9 @@ use std::alloc::Global;
 pub enum Refusal {
     /// The plan has more bytes than its limit.
     TooLong,
-    /// The bytes are no tree of elements.
+    /// The bytes are not a tree of elements.
     Shape(TreeError),
-    /// The tree is no plan.
+    /// The tree is not a plan.
     Build(BuildError),
     /// The element or the property at this path does not run yet.
     NotBuilt(Path),

@@ -8,7 +8,7 @@ ghost use Rattle.jm_command.specs.Command.{number_of};
 pub enum Status {
     /// Everything is printed.
     Done,
-    /// The words are no command, and the usage line is printed.
+    /// The words are not a command, and the usage line is printed.
     Usage,
     /// The plan is refused, and the refusal line is printed.
     Refused,
@@ -16,7 +16,7 @@ pub enum Status {
     ReadFault,
     /// A text could not be written whole.
     WriteFault,
-    /// Memory was wanting.
+    /// Memory ran out.
     Memory,
 }
 

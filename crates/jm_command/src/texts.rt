@@ -18,7 +18,7 @@ use output_lines::{header_line, result_line};
 use outside_world::ScriptOutside;
 use std::alloc::Global;
 use thread_machine::{Solo as Ran, TraceItem, run_alone};
-use var_functions::Props;
+use var_functions::{Props, PropsError};
 
 /// What is printed of a plan.
 #[derive(Drop)]
@@ -27,7 +27,7 @@ pub struct Texts {
     pub results: Vec<u8>,
     /// What goes to the reports.
     pub report: Vec<u8>,
-    /// Whether this is all: a thread that ran was not cut for want of memory.
+    /// Whether this is all: no thread was cut short because memory ran out.
     pub whole: bool,
 }
 
@@ -81,7 +81,8 @@ fn default_solo(alloc: Global) -> M<Solo>
             samples: 65_536,
             thread: 0,
         }),
-        Err(_) => Err(NoMemory),
+        Err(PropsError::BadProps) => unreachable!(),
+        Err(PropsError::NoMemory) => Err(NoMemory),
     }
 }
 
@@ -117,7 +118,7 @@ fn run_thread(alloc: Global, solo: &Solo, plan: &Plan) -> M<Ran>
     )
 }
 
-// Whether a thread that ended so was not cut for want of memory.
+// Whether a thread that ended so was not cut short because memory ran out.
 fn is_whole(end: End) -> bool
     ensures { result ≡ end_is_whole end }
 {

@@ -9,7 +9,7 @@ use std::alloc::Global;
 use std::process::ExitCode;
 use std::{env, io};
 
-// The words of the command line without the program's own name. Where one of them is no text, there are none.
+// The words of the command line without the program's own name. Where one of them is not a text, there are none.
 fn words_of(rt: &HostRuntime, alloc: Global) -> M<Vec<String>> {
     let mut words = Vec::new(alloc);
     let all = match env::args(rt) {
