@@ -48,7 +48,7 @@ pub words_are_texts : (words : List Word) → list_all is_word words ≡ list_al
 words_are_texts [] = refl
 words_are_texts (word ∷ words) = ap₂ (λ (a b : Bool). a && b) (word_is_text word) (words_are_texts words)
 
--- ---- options behind those that are done
+-- ---- options after those that are done
 
 -- each is known, has a value, and is given neither before it nor among those that are done
 abbrev all_new : Options → Given → Given → Bool
@@ -56,7 +56,7 @@ all_new options done [] = true
 all_new options done (p ∷ given) =
     (is_known options p.0 && (not (has p.0 done) && nat_lt 0 (length p.1))) && all_new options (done ++ p ∷ []) given
 
--- all of them, where those behind are right
+-- all of them, where those after are right
 abbrev rest_of : Options → Given → Option Given → Option Given
 rest_of options done None = None
 rest_of options done (Some given) = cond (all_new options done given && has_required options (done ++ given)) (Some (done ++ given)) None

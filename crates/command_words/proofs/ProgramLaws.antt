@@ -63,7 +63,7 @@ TopAgrees fits found (Some q) = (fits ≡ true) × (found ≡ Some (q.0, rows_of
 abbrev start : Walk
 start = walk_from nothing_held
 
--- the first word is no command
+-- the first word is not a command
 stray_word : (word : Text) (o : Option (Text × Option Text)) → is_text word ≡ true → long_of word ≡ o → entry_named word ≡ None
     → free (turn_fault top (names_of (built jm_app)) start word) ≡ false
 stray_word word None ok e none =

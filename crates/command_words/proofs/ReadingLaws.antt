@@ -152,7 +152,7 @@ answer_is m words answer are shown e =
     ∙ (ap (λ (o : Option (CommandRule × Given)). option_and_then meant_by o) shown.1
     ∙ (ap shown.0.0.meaning (sym values) ∙ e)))
 
--- words that give nothing are no command line
+-- words that give nothing are not a command line
 pub no_answer : (words : List Word) → list_all is_word words ≡ true → asked_by words ≡ None → command_of words ≡ None
 no_answer words are none =
     of_words words are ∙ (asked_is words ∙ ap (λ (o : Option (CommandRule × Given)). option_and_then meant_by o) none)

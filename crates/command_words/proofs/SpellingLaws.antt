@@ -24,7 +24,7 @@ abbrev joined : Word → Option Word → Word
 joined name None = name
 joined name (Some value) = name ++ equals_sign ∷ value
 
--- a byte more in front of the name
+-- a byte more before the name
 name_and_value-step : (x : ℕ) (text : Word) → (x == equals_sign) ≡ false → name_and_value (x ∷ text) ≡ (x ∷ (name_and_value text).0, (name_and_value text).1)
 name_and_value-step x text e =
     let place = position_or_len (λ b. b == equals_sign) text in
@@ -82,7 +82,7 @@ behind_is (z ∷ zs) q e =
     let cut = subst (λ (r : Word × Option Word). IsName r.0 × (z ∷ zs ≡ joined r.0 r.1)) same (cut_was_joined (z ∷ zs)) in
     (cut.0, cut.1, λ f. cc)
 
--- a word that is an option is `--` and its name, and its value behind an `=` where it has one
+-- a word that is an option is `--` and its name, and its value after an `=` where it has one
 option_is : (word : Word) (q : Word × Option Word) → option_word word ≡ Some q → IsName q.0 × (word ≡ codes "--" ++ joined q.0 q.1) × (joined q.0 q.1 ≢ [])
 option_is [] q e = cc
 option_is (x ∷ []) q e = elim (cases_Bool (x == 45)) [

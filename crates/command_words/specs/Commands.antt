@@ -24,7 +24,7 @@ solo_from seed props samples thread =
     record { seed = s; props = p; samples = n; thread = t })
     (properties_of props)) (number_between 0 63 thread)) (number_between 1 262144 samples)) (number_between 0 (2 ^ 64 - 1) seed)
 
--- the options of `solo` by the values that are given; what is not given has the value behind its name
+-- the options of `solo` by the values that are given; what is not given has the value after its name
 abbrev pub solo_of : (Word → Option Word) → Option Solo
 solo_of value = solo_from
     (unwrap_or (value (codes "seed")) (codes "0"))
@@ -67,6 +67,6 @@ asked_of [] = None
 asked_of (word ∷ words) =
     option_and_then (λ c. option_and_then (λ given. c.meaning (value_of given)) (given_for c.options words)) (command_named word)
 
--- what a command line asks for; none of words that are no command line
+-- what a command line asks for; none of words that are not a command line
 abbrev pub command_of : List Word → Option Command
 command_of words = if list_all is_word words then asked_of words else None

@@ -18,14 +18,14 @@ Options = List (Word × Bool)
 abbrev pub equals_sign : ℕ
 equals_sign = 61
 
--- what stands before the first `=`, and, if there is one, what stands behind it
+-- what stands before the first `=`, and, if there is one, what stands after it
 abbrev pub name_and_value : Word → Word × Option Word
 name_and_value text = (
   before_first (λ b. b == equals_sign) text,
   if list_any (λ b. b == equals_sign) text then Some (after_first (λ b. b == equals_sign) text) else None,
 )
 
--- an option's name, and its value if there is one, of what stands behind `--`, where something does
+-- an option's name, and its value if there is one, of what stands after `--`, where something does
 abbrev pub option_behind : Word → Option (Word × Option Word)
 option_behind [] = None
 option_behind (b ∷ bs) = Some (name_and_value (b ∷ bs))
@@ -37,7 +37,7 @@ option_word word = if starts_with nat_eq word (codes "--") then option_behind (d
 abbrev pub begins_with_hyphen : Word → Bool
 begins_with_hyphen word = starts_with nat_eq word (codes "-")
 
--- a word is not empty, and is not `-`, `--` or another word that begins with a hyphen and is no option
+-- a word is not empty, and is not `-`, `--` or another word that begins with a hyphen and is not an option
 abbrev pub is_word : Word → Bool
 is_word word = nat_lt 0 (length word) && (not (begins_with_hyphen word) || is_some (option_word word))
 
@@ -82,7 +82,7 @@ has_required options given = list_all (λ p. not p.1 || has p.0 given) options
 abbrev pub fits : Options → Given → Bool
 fits options given = list_all (is_right options) given && (is_each_once given && has_required options given)
 
--- what the words behind a command give, where that is right for its options
+-- what the words after a command give, where that is right for its options
 abbrev pub given_for : Options → List Word → Option Given
 given_for options words = option_and_then (λ given. if fits options given then Some given else None) (given_in None words)
 

@@ -1,15 +1,16 @@
 // Why the words of a command line are not read.
 
 use std::alloc::AllocError;
-use std::error::Error;
-use std::fmt;
+use thiserror::Error;
 
 /// Why the words of a command line are not read.
-#[derive(Clone, Copy, PartialEq, Eq, Debug)]
+#[derive(Clone, Copy, PartialEq, Eq, Debug, Error)]
 pub enum WordsError {
-    /// The words are no command with its options.
+    /// The words are not a command with its options.
+    #[error("the words are no command")]
     BadWords,
-    /// Memory was wanting.
+    /// Memory ran out.
+    #[error("out of memory")]
     NoMemory,
 }
 
@@ -23,14 +24,3 @@ impl From<AllocError> for WordsError {
         WordsError::NoMemory
     }
 }
-
-impl fmt::Display for WordsError {
-    fn fmt<W: fmt::Write>(&self, f: &mut fmt::Formatter<W>) -> fmt::Result {
-        match self {
-            WordsError::BadWords => write!(f, "the words are no command"),
-            WordsError::NoMemory => write!(f, "out of memory"),
-        }
-    }
-}
-
-impl Error for WordsError {}

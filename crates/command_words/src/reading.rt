@@ -139,7 +139,7 @@ pub fn read_words(alloc: Global, words: &[String]) -> Result<Command, WordsError
     ensures command { IfOk result (λ c. command_of (map string_bytes words.now) ≡ Some c) }
     ensures bad_words { result ≡ Err WordsError.BadWords → command_of (map string_bytes words.now) ≡ None }
 
-    // And the other way round: a command line is not refused, and what is none is not taken.
+    // And the other way round: a command line is not refused, and what is not one is not taken.
     ensures not_refused { IsSome (command_of (map string_bytes words.now)) → result ≢ Err WordsError.BadWords }
     ensures not_taken { IsNone (command_of (map string_bytes words.now)) → IsErr result }
 
