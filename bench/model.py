@@ -1,4 +1,4 @@
-"""A model in Python of what `solo` prints: the meaning of a thread over its plan's own replies (docs/MEANING.md).
+"""A model in Python of what `solo` prints: the meaning of a thread over its plan's own replies (docs/inside/MEANING.md).
 
 It stands apart from the definitions and from the program, so that bench/compare.py can hold the program against it. It
 knows the elements that run, but of templates only variables, `${__counter(TRUE)}`, and in `__jexl3` `${name}==NUMBER`

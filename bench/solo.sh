@@ -1,7 +1,7 @@
 #!/bin/sh
 # Prints how fast `solo` runs: samples a second from the start of the process to its exit, the peak of its memory,
 # and how long a loop without end over an empty controller takes to meet its limit of rounds. Over nested Loops, an If
-# and a ForEach with templates at least 250,000 samples a second are wanted.
+# and a ForEach with templates at least 250,000 samples a second is the aim.
 # Usage: bench/solo.sh    (it needs python3, for the clock and the memory of a child process)
 cd "$(dirname "$0")/.." || exit 1
 ./jm solo </dev/null >/dev/null 2>&1
