@@ -163,7 +163,7 @@ def plans():
         yield f"{count} disabled children", whole(",".join([disabled] * count)), runs
     yield "100000 disabled children of a timer", whole(element("Listener", ",".join([disabled] * 100_000))), not_built
     yield "100000 disabled children, then an enabled one, of a timer", whole(element("Listener", ",".join([disabled] * 100_000) + "," + SCRIPT)), \
-        refused(f"10 WrongPlace {CHILD}/children/100000")
+        refused(f"10 WrongPlace {CHILD}")
     yield "100000 disabled groups", whole(SCRIPT, after="").replace('"children":[{"type":"ThreadGroup"', '"children":[' + (disabled + ",") * 100_000
                                                                    + '{"type":"ThreadGroup"', 1), runs
     yield "4 MiB of disabled children", whole(filled(disabled, "," + disabled, "")), runs
