@@ -245,7 +245,8 @@ def main():
         for command, line_wanted in zip(("check", "solo"), wanted):
             status, line, took = outcome(command, text)
             right = is_right(status, line, line_wanted)
-            said.append(f"{command} {status} in {took:.2f} s" + ("" if right else f" ({line[:120]}; by the rules {line_wanted})"))
+            rules = f"by the rules {'0' if line_wanted is None else line_wanted}"
+            said.append(f"{command} {status} in {took:.2f} s" + ("" if right else f" ({line[:120] or 'no line'}; {rules})"))
             fine &= right
         count, wrong = count + 1, wrong + (not fine)
         print(f"{'ok ' if fine else 'BAD'} {name}: {', '.join(said)}", flush=True)
