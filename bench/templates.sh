@@ -10,11 +10,8 @@ trap 'rm -rf "$work"' EXIT
 mkdir -p "$work/crates/template_bench/src" "$work/crates/template_bench/specs"
 cp -r "$top/crates/jm_base" "$top/crates/template_text" "$work/crates/"
 : > "$work/crates/template_bench/specs/Lib.antt"
-cat > "$work/crates.txt" <<'CRATES'
-jm_base:
-template_text: jm_base
-template_bench: jm_base template_text anyhow
-CRATES
+grep -E '^(jm_base|template_text)[ :]' crates.txt > "$work/crates.txt"
+echo "template_bench: jm_base template_text anyhow" >> "$work/crates.txt"
 cat > "$work/crates/template_bench/src/main.rt" <<'PROGRAM'
 //! Times the reading of templates.
 #![tactic(auto)]
