@@ -4,7 +4,8 @@
 Usage: bench/hostile.py [PROGRAM]    (crates/jm_program/out/jm_program where it is not given)
 Each plan has the status and the refusal line that must come by the rules (docs/use/PLAN_FORMAT.md); out of memory, 7, is
 taken too. A line for each plan says the statuses and the seconds. The last line says how many differed, and then the
-status is 1: a signal, no end within ten seconds, another status, or another line.
+status is 1: a signal, no end within ten seconds, another status, or another line; or some plans were not tried within two
+minutes.
 """
 import json
 import os
@@ -18,6 +19,7 @@ TOP = os.path.dirname(os.path.dirname(os.path.abspath(__file__)))
 PROGRAM = sys.argv[1] if len(sys.argv) > 1 else f"{TOP}/crates/jm_program/out/jm_program"
 STACK = 512 * 1024
 SECONDS = 10
+ALL_SECONDS = 110
 MOST = 4_194_304
 GROUP = "/children/0"
 CHILD = "/children/0/children/0"
@@ -101,13 +103,12 @@ def plans():
     asserts = lambda texts, test="contains": whole(element("ResponseAssertion", test=test, patterns=texts))
     yield "64 patterns", asserts(["a|b"] * 64, "matches"), not_built
     yield "65 patterns", asserts(["a|b"] * 65), bad("patterns")
-    yield "64 plain texts of 65536 bytes", asserts(["a" * 65_536] * 63, "equals"), not_built
+    yield "63 plain texts of 65536 bytes", asserts(["a" * 65_536] * 63, "equals"), not_built
 
     # Patterns: which of these regular expressions are too large or too deep is the crate's business.
     pattern = lambda text: whole(element("RegexExtractor", ref="x", pattern=text))
     either = ((None, f"11 BadPattern {CHILD}/props/pattern"), (f"15 NotBuilt {CHILD}", f"11 BadPattern {CHILD}/props/pattern"))
-    yield "a pattern of 4096 letters", pattern("a" * 4096), not_built
-    for name, text in (("65536 letters", "a" * 65_536), ("32768 alternatives", "|".join("a" * 32_768)), ("200 groups in one another", "(" * 200 + ")" * 200),
+    for name, text in (("4096 letters", "a" * 4096), ("65536 letters", "a" * 65_536), ("32768 alternatives", "|".join("a" * 32_768)), ("200 groups in one another", "(" * 200 + ")" * 200),
                        ("32768 groups in one another", "(" * 32_768 + ")" * 32_768), ("32768 groups", "()" * 32_768), ("65536 opened groups", "(" * 65_536),
                        ("counts in counts", "((((a{50}){50}){50}){50}){50}"), ("32768 classes", "[a]" * 21_845), ("classes in one another", "[" * 32_768 + "a" + "]" * 32_767)):
         yield f"a pattern of {name}", pattern(text), either
@@ -241,6 +242,10 @@ def main():
     count = wrong = 0
     began = time.perf_counter()
     for name, text, wanted in plans():
+        if time.perf_counter() - began > ALL_SECONDS:
+            print(f"BAD {name}, and all after it: not tried, since {ALL_SECONDS} seconds are over")
+            wrong += 1
+            break
         said, fine = [], True
         for command, line_wanted in zip(("check", "solo"), wanted):
             status, line, took = outcome(command, text)
