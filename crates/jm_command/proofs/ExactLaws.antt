@@ -1,14 +1,20 @@
 -- With no fault the words and the bytes alone decide the status.
-use Rattle.std.proofs.Common.{◌≡◌, ℕ, ◌+◌, ◌≤◌, Bool, true, false, List, length, Option, Some, None, refl, sym, ap, ◌∙◌, inl, inr, arith}
+use Rattle.std.proofs.Common.{◌≡◌, ℕ, ◌+◌, ◌≤◌, Bool, true, false, List, length, Option, Some, None, refl, sym, ap, ◌∙◌, subst, inl, inr, arith}
 use Rattle.std.specs.Prelude.{◌⊎◌, Result, Ok, Err, nat_le, if◌then◌else◌}
 use Rattle.std.proofs.lemmas.Bool.Decides.{nat_tests}
 use Rattle.jm_base.specs.Counts.{Rose}
 use Rattle.edge_io.specs.Edges.{TookAll, TookCount}
 use Rattle.plan_json.specs.Shape.{Raw, reading_of}
 use Rattle.plan_json.specs.declared.error.TreeError.{TreeError}
+use Rattle.plan_json.specs.Place.{Place}
 use Rattle.element_props.specs.declared.error.BuildError.{BuildError}
+use Rattle.element_props.specs.declared.error.BuildError.TheVariants as errors
+use Rattle.element_props.specs.declared.error.PatternFault.TheVariants.{Reference, Syntax, Size}
+use Rattle.element_props.specs.Answers.{is_of_maker}
 use Rattle.element_props.specs.Patterns.{Asked}
-use Rattle.element_props.specs.Reads.{Reads, over, outcome, Path, here, asked, Goes, Ends, refused, unread, too_large, Stops}
+use Rattle.element_props.specs.Reads.{judged, Stops}
+use Rattle.element_props.proofs.OwnLaws.{goes_judged, stops_judged, stops_size}
+use Rattle.element_tree.proofs.RefusalLaws.{own_reading}
 use Rattle.element_tree.specs.Tree.{Tree}
 use Rattle.element_tree.specs.Walk.{reading}
 use Rattle.command_words.specs.declared.command.Command.{Command}
@@ -18,29 +24,30 @@ use Rattle.jm_command.specs.declared.refusal.Refusal.TheVariants as refusals
 use Rattle.jm_command.specs.declared.status.Status.{Status}
 use Rattle.jm_command.specs.declared.status.Status.TheVariants.{Done, Usage, Refused, ReadFault, WriteFault, Memory}
 use Rattle.jm_command.specs.Refusals.{ReadsPlan, IsAccepted, IsPlanOf, IsFit, IsRefused, IsNotBuilt, IsUnfit, solo_fault}
-use Rattle.jm_command.specs.Command.{plan_limit, Edges, Accepts, HasPlan, Refuses, Says, NoRise, ArePatterns, HasPatterns, status_of_fault, status_of_plan, status_of_outcome, status_of_shape, status_of_bytes, status_for, number_of}
+use Rattle.jm_command.specs.Command.{plan_limit, Edges, Accepts, HasPlan, Refuses, Says, NoRise, status_of_fault, status_of_plan, status_of_outcome, status_of_shape, status_of_bytes, status_for, number_of}
 
--- what was asked and made does not change what a reading comes to
-path_outcome : {A : Type 0} {r s : Reads A} {texts : List (List ℕ)} → Path r texts s → outcome r ≡ outcome s
-path_outcome here = refl
-path_outcome (asked path) = path_outcome path
+-- a refusal is the plan's, or the maker of patterns finds one too large
+by_plan_or_size : (e : BuildError) → (is_of_maker e ≡ false) ⊎ ((place : Place) × (e ≡ errors.BadPattern place Size))
+by_plan_or_size (errors.BadPattern place Size) = inr (place, refl)
+by_plan_or_size (errors.BadPattern place Syntax) = inl refl
+by_plan_or_size (errors.BadPattern place Reference) = inl refl
+by_plan_or_size (errors.UnknownType place) = inl refl
+by_plan_or_size (errors.MissingProp place) = inl refl
+by_plan_or_size (errors.BadProp place) = inl refl
+by_plan_or_size (errors.TooMany place what) = inl refl
+by_plan_or_size (errors.TooDeep place) = inl refl
+by_plan_or_size (errors.WrongPlace place) = inl refl
+by_plan_or_size (errors.BadCond place n) = inl refl
+by_plan_or_size (errors.NoReplies place) = inl refl
+by_plan_or_size errors.NoThread = inl refl
+by_plan_or_size errors.NoMemory = inl refl
 
-goes_outcome : {A : Type 0} {a b : Asked} {r : Reads A} {x : A} → Goes a r (over x) b → outcome r ≡ Ok x
-goes_outcome g = path_outcome g.path
-
--- a refusal that is not the maker's is the first of the tree
-stops_ends : {A : Type 0} (m n : ℕ) (e : BuildError) (r : Reads A) (last : List (List ℕ)) → (Rose m n → ⊥) → ArePatterns r → Ends m n e r last → outcome r ≡ Err e
-stops_ends m n e r last calm good refused = refl
-stops_ends m n e r last calm good (unread is) = absurd (good.0 is)
-stops_ends m n e r last calm good (too_large more) = absurd (calm more)
-
-patterns_left : {A : Type 0} {r s : Reads A} {texts : List (List ℕ)} → Path r texts s → ArePatterns r → ArePatterns s
-patterns_left here good = good
-patterns_left (asked path) good = patterns_left path good.1
-
-stops_with : {A : Type 0} (before after : Asked) (r : Reads A) (e : BuildError) → (Rose before.oversize after.oversize → ⊥) → ArePatterns r → Stops before r e after → outcome r ≡ Err e
-stops_with before after r e calm good s =
-    path_outcome s.path ∙ stops_ends before.oversize after.oversize e s.rest s.last calm (patterns_left s.path good) s.ends
+-- where the maker found no pattern too large, a refusal is the first of the tree
+stops_with : (before after : Asked) (tree : Raw) (e : BuildError) → (Rose before.oversize after.oversize → ⊥) → Stops before (reading tree) e after → judged (reading tree) ≡ Err e
+stops_with before after tree e calm s = elim (by_plan_or_size e) [
+  | inl by ↦ stops_judged by s
+  | inr of ↦ let P : BuildError → Type 0 = λ x. Stops before (reading tree) x after in absurd (calm (stops_size of.0 (own_reading tree) (subst P of.1 s)))
+]
 
 abbrev status_within : Bool → Command → List ℕ → ℕ
 status_within b command bytes = if b then status_of_shape command (reading_of bytes) else 3
@@ -57,14 +64,14 @@ module _ (command : Command) (bytes : List ℕ) where
 
   at_plan : length bytes ≤ plan_limit → (before after : Asked) (tree : Raw) (plan : Tree) → IsPlanOf bytes before after tree plan
       → status_of_bytes command bytes ≡ status_of_plan command tree plan
-  at_plan within before after tree plan is = at_shape within (Ok tree) is.shape ∙ ap (status_of_outcome command tree) (goes_outcome is.built)
+  at_plan within before after tree plan is = at_shape within (Ok tree) is.shape ∙ ap (status_of_outcome command tree) (goes_judged is.built)
 
 fit_status : (command : Command) (tree : Raw) (plan : Tree) → IsFit command tree plan → status_of_plan command tree plan ≡ 0
 fit_status Check tree plan fit = refl
 fit_status (Make m) tree plan fit = absurd fit
 fit_status (Solo s) tree plan fit = rw (fit.built, fit.conditions) refl
 
-module _ (bytes : List ℕ) (within : length bytes ≤ plan_limit) (before after : Asked) (calm : Rose before.oversize after.oversize → ⊥) (good : HasPatterns bytes) where
+module _ (bytes : List ℕ) (within : length bytes ≤ plan_limit) (before after : Asked) (calm : Rose before.oversize after.oversize → ⊥) where
   accepted_status : (command : Command) (plan : Tree) → IsAccepted command bytes before after plan → status_of_bytes command bytes ≡ 0
   accepted_status command plan is = at_plan command bytes within before after is.tree plan is.is_plan ∙ fit_status command is.tree plan is.fit
 
@@ -83,7 +90,7 @@ module _ (bytes : List ℕ) (within : length bytes ≤ plan_limit) (before after
   refused_status command refusals.TooLong is = absurd is
   refused_status command (refusals.Shape e) is = at_shape command bytes within (Err e) is.0
   refused_status command (refusals.Build e) is = at_shape command bytes within (Ok is.0) is.1
-      ∙ ap (status_of_outcome command is.0) (stops_with before after (reading is.0) e calm (good is.0 is.1) is.2)
+      ∙ ap (status_of_outcome command is.0) (stops_with before after is.0 e calm is.2)
   refused_status command (refusals.NotBuilt path) is = not_built_status command path is
   refused_status command (refusals.Unfit e) is = unfit_status command e is
 
@@ -99,11 +106,11 @@ took_all left left' bytes took is h = sym (rw is at h).0
 took_more : (left left' : Option (List ℕ)) (bytes : List ℕ) → left ≡ Some bytes → TookCount left left' (plan_limit + 1) → plan_limit + 1 ≤ length bytes
 took_more left left' bytes is h = (rw is at h).0
 
-module _ (old new : Edges) (bytes : List ℕ) (told : old.left ≡ Some bytes) (good : HasPatterns bytes) (calm : NoRise old new) where
+module _ (old new : Edges) (bytes : List ℕ) (told : old.left ≡ Some bytes) (calm : NoRise old new) where
   accepts_status : (command : Command) (plan : Tree) → Accepts command old new plan → status_of_bytes command bytes ≡ 0
   accepts_status command plan a =
       let same : a.bytes ≡ bytes = took_all old.left new.left bytes a.bytes told a.read in
-      accepted_status bytes (rw same at a.within) old.asked new.asked calm.patterns good command plan (rw same at a.accepted)
+      accepted_status bytes (rw same at a.within) old.asked new.asked calm.patterns command plan (rw same at a.accepted)
 
   plan_status : (command : Command) (plan : Tree) → HasPlan command old new plan → status_for (Some command) bytes ≡ 0
   plan_status Check plan has = accepts_status Check plan has
@@ -115,7 +122,7 @@ module _ (old new : Edges) (bytes : List ℕ) (told : old.left ≡ Some bytes) (
     | inl long ↦ ap (λ b. status_within b command bytes) (past_is (length bytes) (took_more old.left new.left bytes told long.long))
     | inr a ↦
         let same : a.bytes ≡ bytes = took_all old.left new.left bytes a.bytes told a.read in
-        refused_status bytes (rw same at a.within) old.asked new.asked calm.patterns good command refusal (rw same at a.refused)
+        refused_status bytes (rw same at a.within) old.asked new.asked calm.patterns command refusal (rw same at a.refused)
   ]
 
   pub exactly : (words : Option Command) (status : Status) → Says words old new status → (number_of status ≡ status_for words bytes) ⊎ (number_of status ≡ 7)

@@ -6,8 +6,8 @@ use Rattle.edge_io.specs.Edges.{TookAll, TookCount, TookAtMost, AppendsFront}
 use Rattle.plan_json.specs.Shape.{Raw, reading_of}
 use Rattle.plan_json.specs.declared.error.TreeError.{TreeError}
 use Rattle.element_props.specs.declared.error.BuildError.{BuildError}
-use Rattle.element_props.specs.Patterns.{Asked, reading_of as pattern_of}
-use Rattle.element_props.specs.Reads.{Reads, over, refuse, ask, outcome}
+use Rattle.element_props.specs.Patterns.{Asked}
+use Rattle.element_props.specs.Reads.{judged}
 use Rattle.element_tree.specs.Tree.{Tree}
 use Rattle.element_tree.specs.Walk.{reading}
 use Rattle.jm_command.specs.declared.status.Status.{Status}
@@ -213,7 +213,7 @@ status_of_outcome command tree (Ok plan) = status_of_plan command tree plan
 status_of_outcome command tree (Err e) = 3
 
 abbrev pub status_of_shape : Command → Result Raw TreeError → ℕ
-status_of_shape command (Ok tree) = status_of_outcome command tree (outcome (reading tree))
+status_of_shape command (Ok tree) = status_of_outcome command tree (judged (reading tree))
 status_of_shape command (Err e) = 3
 
 -- the status of the bytes of a plan that the command reads
@@ -226,12 +226,3 @@ status_for None bytes = 2
 status_for (Some Check) bytes = status_of_bytes Check bytes
 status_for (Some (Make m)) bytes = 0
 status_for (Some (Solo s)) bytes = status_of_bytes (Solo s) bytes
-
--- each pattern that a reading asks for has a reading itself, in the grammar of regular expressions
-abbrev pub ArePatterns : {A : Type 0} → Reads A → Type 0
-ArePatterns (over x) = Unit {0}
-ArePatterns (refuse e) = Unit {0}
-ArePatterns (ask place pattern rest) = (pattern_of pattern ≡ None → ⊥) × ArePatterns rest
-
-abbrev pub HasPatterns : List ℕ → Type 0
-HasPatterns bytes = (tree : Raw) → reading_of bytes ≡ Ok tree → ArePatterns (reading tree)

@@ -4,7 +4,7 @@ ghost use Rattle.std.specs.Prelude.{◌≡◌, ◌⊎◌, map, string_bytes, Lis
 ghost use Rattle.command_words.specs.declared.command.Command.{Command};
 ghost use Rattle.command_words.specs.declared.command.Command.TheVariants.{Make as MakeCommand};
 ghost use Rattle.command_words.specs.Commands.{command_of};
-ghost use Rattle.jm_command.specs.Command.{Says, IsStatus, IsDone, IsUsage, IsRefusal, IsUnread, IsUnwritten, NoRise, HasPatterns, status_for, edges};
+ghost use Rattle.jm_command.specs.Command.{Says, IsStatus, IsDone, IsUsage, IsRefusal, IsUnread, IsUnwritten, NoRise, status_for, edges};
 ghost use Rattle.plan_maker.specs.Generated.{generated};
 ghost use Rattle.jm_command.specs.Refusals.{ReadsPlan};
 ghost use Rattle.jm_command.specs.Parts.{CanRun, HasSize, IsInRange, LineSays, RefusalSays, TextsSay, PlanSays, BytesSay, WholeSays, sinks};
@@ -52,9 +52,8 @@ pub fn plain_command<S: Source, O: Sink, E: Sink, G: Patterns>(
         (edges (S.left plan.old) (S.faults plan.old) (O.written results.old) (O.faults results.old) (E.written reports.old) (E.faults reports.old) (G.account patterns.old))
         (edges (S.left plan.new) (S.faults plan.new) (O.written results.new) (O.faults results.new) (E.written reports.new) (E.faults reports.new) (G.account patterns.new)) }
 
-    // With no fault, no pattern too large and every pattern a regular expression, the words and the bytes alone decide,
-    // unless memory runs out.
-    ensures exact { (bytes : List ℕ) → S.left plan.old ≡ Some bytes → HasPatterns bytes → NoRise
+    // With no fault and no pattern too large, the words and the bytes alone decide, unless memory runs out.
+    ensures exact { (bytes : List ℕ) → S.left plan.old ≡ Some bytes → NoRise
         (edges (S.left plan.old) (S.faults plan.old) (O.written results.old) (O.faults results.old) (E.written reports.old) (E.faults reports.old) (G.account patterns.old))
         (edges (S.left plan.new) (S.faults plan.new) (O.written results.new) (O.faults results.new) (E.written reports.new) (E.faults reports.new) (G.account patterns.new))
         → (result ≡ status_for (command_of (map string_bytes words.now.items)) bytes) ⊎ (result ≡ 7) }
