@@ -10,6 +10,3 @@ mod value;
 pub use command::{Command, Make, Solo};
 pub use error::WordsError;
 pub use reading::read_words;
-
-#[cfg(test)]
-mod tests;

@@ -133,7 +133,7 @@ fn command(alloc: Global, matches: &ArgMatches) -> Result<Command, WordsError>
     }
 }
 
-/// What the words of a command line ask for. The program's own name is not among them. docs/COMMANDS.md has the
+/// What the words of a command line ask for. The program's own name is not among them. docs/use/COMMANDS.md has the
 /// commands with their options.
 pub fn read_words(alloc: Global, words: &[String]) -> Result<Command, WordsError>
     ensures command { IfOk result (λ c. command_of (map string_bytes words.now) ≡ Some c) }

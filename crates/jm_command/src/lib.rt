@@ -12,6 +12,3 @@ mod words;
 
 pub use program::plain_command;
 pub use status::Status;
-
-#[cfg(test)]
-mod tests;

@@ -1,0 +1,71 @@
+// What the words of a command line are read as.
+
+use crate::show::print_sink;
+use crate::texts::words_of;
+use command_words::{Command, Solo, WordsError, read_words};
+use jm_base::{M, NoMemory, Outcome, Outside, Request, Text};
+use std::alloc::Global;
+use template_text::{Template, parse_template};
+use var_functions::{FnState, Props, UserState, Vars, expand};
+
+/// Reads words and prints the command with its options, or the error. Of the properties it prints the values of `a` and
+/// `b`, which is `1` where there is none.
+pub fn print_words(rt: &impl Print, alloc: Global, line: &str) -> anyhow::Result<()> {
+    match read_words(alloc, &words_of(alloc, line)?) {
+        Ok(Command::Check) => println!(rt; "check")?,
+        Ok(Command::Make(make)) => println!(rt; "make size={}", make.size)?,
+        Ok(Command::Solo(solo)) => print_solo(rt, alloc, &solo)?,
+        Err(error) => println!(rt; "error: {error}")?,
+    }
+    Ok(())
+}
+
+fn print_solo(rt: &impl Print, alloc: Global, solo: &Solo) -> anyhow::Result<()> {
+    println!(rt;
+        "solo seed={} samples={} thread={}",
+        solo.seed, solo.samples, solo.thread
+    )?;
+    let first = property(alloc, &solo.props, &parse_template(alloc, b"${__P(a)}")?)?;
+    print_sink(rt, alloc, "a", first.bytes())?;
+    let second = property(alloc, &solo.props, &parse_template(alloc, b"${__P(b)}")?)?;
+    print_sink(rt, alloc, "b", second.bytes())
+}
+
+// What a call of `__P` gives.
+fn property(alloc: Global, props: &Props, call: &Template) -> anyhow::Result<Text> {
+    let mut state = UserState {
+        vars: Vars::new(alloc),
+        fns: FnState::new(alloc, props, 1, 0, 0)?,
+    };
+    Ok(expand(alloc, call, &mut state, &mut Silence)?)
+}
+
+/// Prints the errors of words that are not read.
+pub fn print_errors(rt: &impl Print) -> anyhow::Result<()> {
+    for error in [WordsError::BadWords, WordsError::NoMemory] {
+        println!(rt; "{error:?}: {error}")?;
+    }
+    Ok(())
+}
+
+// An outside that nothing is asked of.
+#[derive(Drop)]
+struct Silence;
+
+impl Outside for Silence {
+    ghost use Rattle.std.specs.Prelude.{None};
+
+    ghost account = { λ _. record { origin = None; value = None; told = None; faults = 0 } };
+
+    fn now(&mut self) -> M<u64> {
+        Err(NoMemory)
+    }
+
+    fn pause(&mut self, _ms: u32) -> M<()> {
+        Err(NoMemory)
+    }
+
+    fn ask(&mut self, _sampler: u16, _request: &Request) -> M<Outcome> {
+        Err(NoMemory)
+    }
+}
