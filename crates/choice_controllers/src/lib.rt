@@ -14,6 +14,3 @@ pub use interleave_cursor::InterleaveCursor;
 pub use order_cursor::{OrderCursor, shuffle};
 pub use random_cursor::{RandomCursor, random_place};
 pub use switch_cursor::{SwitchCursor, picks};
-
-#[cfg(test)]
-mod tests;

@@ -20,6 +20,3 @@ pub use once_cursor::OnceCursor;
 pub use rounds::{Rounds, decimal_text, index_name};
 pub use simple_cursor::SimpleCursor;
 pub use while_cursor::{WhileCursor, goes_on, last_ok};
-
-#[cfg(test)]
-mod tests;

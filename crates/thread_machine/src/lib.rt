@@ -11,6 +11,3 @@ pub use solo::{Solo, run_alone};
 pub use step::Step;
 pub use trace::TraceItem;
 pub use worker::{Worker, a_trace_is_a_front};
-
-#[cfg(test)]
-mod tests;

@@ -1,9 +1,9 @@
 -- The element is a ForEach, and its row is the one of its properties.
 use Rattle.std.proofs.Common.{sym}
-use Rattle.logic_controllers.proofs.tests.enter_each.Goals as goal
+use Rattle.control_cases.proofs.controllers.enter_each.Goals as goal
 
 pub enter-requires : goal.enter-requires
-enter-requires g c = (
+enter-requires c = (
   c.in-Some.element.now,
   record { input = c.in-ForEach.input; separator = c.in-ForEach.separator; start = c.in-ForEach.start; end = c.in-ForEach.end },
   c.in-ForEach.output,

@@ -1,0 +1,227 @@
+// Cases of whole threads, of a thread a step at a time, and of the moves of a thread.
+
+ghost use Rattle.std.specs.Prelude.{◌≡◌, ◌<◌, IfOk, length, false, None};
+ghost use Rattle.element_tree.specs.Tree.{threads_of};
+
+use crate::outsides::Scarce;
+use crate::scenes::{plan_of, props_of};
+use crate::settings::{Settings, number_in};
+use crate::show::{Lines, trace};
+use anyhow::bail;
+use control_machine::{Leave, Machine, Move};
+use element_tree::Plan;
+use jm_base::{Sample, Text};
+use outside_world::ScriptOutside;
+use std::alloc::Global;
+use thread_machine::{Solo, Step, Worker, run_alone};
+use var_functions::{FnState, Props, UserState, Vars};
+
+// The numbers of a case: `thread`, `seed`, `budget`, and the calls for which the outside finds memory.
+#[derive(Clone, Copy)]
+struct Numbers {
+    thread: u16,
+    seed: u64,
+    budget: u32,
+    calls: u32,
+}
+
+fn numbers_of(plan: &Plan, rest: &str) -> anyhow::Result<Numbers>
+    ensures { IfOk result (λ n. n.thread < length (threads_of plan.now)) }
+{
+    let thread = number_in(rest, "thread", 0)?;
+    let seed = number_in(rest, "seed", 0)?;
+    let budget = number_in(rest, "budget", 65_536)?;
+    let calls = number_in(rest, "calls", u32::MAX)?;
+    if thread >= u32::from(plan.threads()) {
+        bail!("no such thread");
+    }
+    Ok(Numbers {
+        thread: thread as u16,
+        seed: u64::from(seed),
+        budget,
+        calls,
+    })
+}
+
+// Runs a thread of the plan. What the call promises is left out here, so that no proof above carries it along.
+fn ran(alloc: Global, plan: &Plan, props: &Props, numbers: Numbers) -> anyhow::Result<Solo>
+    requires { numbers.thread < length (threads_of plan.now) }
+{
+    let mut outside = Scarce {
+        inner: ScriptOutside::new(alloc, plan, false)?,
+        calls: numbers.calls,
+    };
+    let solo = run_alone(
+        alloc,
+        plan,
+        numbers.thread,
+        numbers.seed,
+        props,
+        numbers.budget,
+        &mut outside,
+    )?;
+    Ok(solo)
+}
+
+// The lines of a trace, and of its end.
+fn solo_text(alloc: Global, solo: &Solo) -> anyhow::Result<String> {
+    let mut lines = Lines::new(alloc);
+    trace(alloc, &solo.trace, &mut lines)?;
+    lines.add(alloc, format!(in alloc; "= {:?}", solo.end)?)?;
+    lines.into_text(alloc)
+}
+
+/// What a case `solo` prints: the whole trace, and how the thread ended.
+pub fn solo(alloc: Global, settings: &Settings, rest: &str) -> anyhow::Result<String> {
+    let plan = plan_of(alloc, settings.text("plan"))?;
+    let props = props_of(alloc, settings.text("properties"))?;
+    let numbers = numbers_of(&plan, rest)?;
+    let solo = ran(alloc, &plan, &props, numbers)?;
+    solo_text(alloc, &solo)
+}
+
+// Steps until the thread has ended, and counts each sample in the interval of its elapsed time.
+fn steps(
+    alloc: Global,
+    worker: &mut Worker<'_>,
+    outside: &mut ScriptOutside,
+    lines: &mut Lines,
+) -> anyhow::Result<()>
+    requires owed { worker.old.owed ≡ None }
+    requires going { worker.old.ended ≡ false }
+{
+    'steps: loop {
+        match worker.step(outside) {
+            Step::Sampled(entry) => {
+                worker.noted(u64::from(entry.elapsed));
+                lines.add(alloc, format!(in alloc; "step: {entry:?}")?)?;
+            }
+            Step::Null => lines.add(alloc, "step: null".to_string(alloc)?)?,
+            Step::Enter(_) | Step::Leave(_) => unreachable!(),
+            Step::Ended(end) => {
+                return lines.add(alloc, format!(in alloc; "step: ended {end:?}")?);
+            }
+        }
+    }
+}
+
+// A worker of the thread, from its start to its end: its steps, its trace as it is read, and how many items the trace has
+// when it is taken.
+fn worked(
+    alloc: Global,
+    plan: &Plan,
+    props: &Props,
+    numbers: Numbers,
+    outside: &mut ScriptOutside,
+    lines: &mut Lines,
+) -> anyhow::Result<usize>
+    requires { numbers.thread < length (threads_of plan.now) }
+{
+    let mut worker = Worker::new(
+        alloc,
+        plan,
+        numbers.thread,
+        numbers.seed,
+        props,
+        numbers.budget,
+    )?;
+    steps(alloc, &mut worker, outside, lines)?;
+    trace(alloc, worker.trace(), lines)?;
+    Ok(worker.into_trace().len())
+}
+
+// How many calls an outside tells of.
+fn told(outside: &ScriptOutside) -> usize {
+    match outside.told() {
+        Some(told) => told.len(),
+        None => 0,
+    }
+}
+
+// The lines of a case `worker`.
+fn worker_lines(
+    alloc: Global,
+    plan: &Plan,
+    props: &Props,
+    numbers: Numbers,
+    lines: &mut Lines,
+) -> anyhow::Result<()>
+    requires { numbers.thread < length (threads_of plan.now) }
+{
+    let mut outside = ScriptOutside::new(alloc, plan, true)?;
+    let items = worked(alloc, plan, props, numbers, &mut outside, lines)?;
+    let told = told(&outside);
+    lines.add(
+        alloc,
+        format!(in alloc; "= {items} items, {told} calls told")?,
+    )
+}
+
+/// What a case `worker` prints: each step, the trace as it is read, how many items it has when it is taken, and how many
+/// calls the outside was told of.
+pub fn worker(alloc: Global, settings: &Settings, rest: &str) -> anyhow::Result<String> {
+    let plan = plan_of(alloc, settings.text("plan"))?;
+    let props = props_of(alloc, settings.text("properties"))?;
+    let numbers = numbers_of(&plan, rest)?;
+    let mut lines = Lines::new(alloc);
+    worker_lines(alloc, &plan, &props, numbers, &mut lines)?;
+    lines.into_text(alloc)
+}
+
+fn good_sample(alloc: Global) -> anyhow::Result<Sample> {
+    Ok(Sample {
+        stamp: 3,
+        elapsed: 5,
+        label: 1,
+        code: 200,
+        message: Text::new(alloc, b"")?,
+        ok: true,
+        failure: Text::new(alloc, b"")?,
+        bytes: 7,
+        listeners: 0,
+    })
+}
+
+fn leave_of(word: &str) -> anyhow::Result<Leave> {
+    match word {
+        "NextLoop" => Ok(Leave::NextLoop),
+        "StopThread" => Ok(Leave::StopThread),
+        "StopTest" => Ok(Leave::StopTest),
+        _ => bail!("no way out"),
+    }
+}
+
+// The first two moves of a plan's first thread, and two more after a good sample of 5 ms and 7 bytes at 3, and a way out.
+fn four_moves(alloc: Global, plan: &Plan, props: &Props, how: Leave) -> anyhow::Result<[Move; 4]>
+    requires { 0 < length (threads_of plan.now) }
+{
+    let mut outside = ScriptOutside::new(alloc, plan, false)?;
+    let mut state = UserState {
+        vars: Vars::new(alloc),
+        fns: FnState::new(alloc, props, 0, 0, 0)?,
+    };
+    let mut machine = Machine::new(alloc, plan, 0)?;
+    let first = machine.next(alloc, plan, &mut state, &mut outside)?;
+    let second = machine.next(alloc, plan, &mut state, &mut outside)?;
+    machine.after(&good_sample(alloc)?);
+    machine.leave(how);
+    let third = machine.next(alloc, plan, &mut state, &mut outside)?;
+    let fourth = machine.next(alloc, plan, &mut state, &mut outside)?;
+    Ok([first, second, third, fourth])
+}
+
+/// What a case `moves` prints: a line for each move.
+pub fn moves(alloc: Global, settings: &Settings, rest: &str) -> anyhow::Result<String> {
+    let plan = plan_of(alloc, settings.text("plan"))?;
+    let props = props_of(alloc, settings.text("properties"))?;
+    let how = leave_of(rest)?;
+    if plan.threads() == 0 {
+        bail!("no thread");
+    }
+    let moves = four_moves(alloc, &plan, &props, how)?;
+    let mut lines = Lines::new(alloc);
+    for one in moves {
+        lines.add(alloc, format!(in alloc; "= {one:?}")?)?;
+    }
+    lines.into_text(alloc)
+}
