@@ -8,8 +8,9 @@ use Rattle.std.proofs.lemmas.Bool.Decides.{nat_tests}
 use Rattle.jm_base.specs.declared.types.Entry.{Entry}
 use Rattle.interval_tables.specs.declared.row.Row.{Row}
 use Rattle.jm_base.specs.Totals.{total, one_if}
-use Rattle.interval_tables.specs.Rows.{failed, least_after, greatest_of, of_label, elapsed_of, tally_of, row_of, sum_of, AllLabels, no_samples}
-use Rattle.interval_tables.proofs.Bounds.{AllSmall as AllSmallEntries}
+use Rattle.interval_tables.specs.Rows.{failed, least_after, greatest_of, of_label, elapsed_of, tally_of, row_of, sum_of, AllLabels, no_samples, IsInBounds}
+use Rattle.interval_tables.specs.declared.report.Report.{Report}
+use Rattle.interval_tables.proofs.Bounds.{AllSmall as AllSmallEntries, sum_in_bounds}
 use Rattle.phaser_core.specs.declared.view.Numbers.{Numbers}
 use Rattle.phaser_core.specs.declared.view.Stage.{Stage}
 use Rattle.phaser_core.specs.declared.view.Stage.TheVariants.{Out, In, On}
@@ -17,7 +18,7 @@ use Rattle.phaser_core.specs.declared.view.Joined.{Joined}
 use Rattle.phaser_core.specs.declared.view.Reading.{Reading}
 use Rattle.phaser_core.specs.declared.view.View.{View}
 use Rattle.phaser_core.specs.declared.view.View.TheVariants.{Reporter, Writer, Gone}
-use Rattle.phaser_core.specs.Cells.{combine, vacant, gather, pick, part, adds, done, row_from, rows_from, report_from, table_cells}
+use Rattle.phaser_core.specs.Cells.{combine, vacant, gather, pick, part, adds, done, row_from, rows_from, report_from, table_cells, no_report}
 use Rattle.phaser_core.specs.Views.{Pair, uses, current, entry_at, stage_at, list_at, joined_at, value, worth}
 use Rattle.phaser_core.specs.Shares.{entries_of, joined_share, view_share, share_of, AllInRange, SumsOfLists}
 use Rattle.phaser_core.specs.Invariant.{AllKept, Fits, AllSmall}
@@ -25,7 +26,7 @@ use Rattle.phaser_core.proofs.Halves.{TimelyStage, AllTimely, Timely, Sound, wor
 use Rattle.phaser_core.proofs.PhaseSteps.{bound_exact}
 use Rattle.phaser_core.proofs.CellSteps.{may_low, last_is, before_last, report_same}
 use Rattle.phaser_core.proofs.Folds.{combine_comm, combine_assoc, gather_cap, gather_sum}
-use Rattle.jm_base.proofs.Totals.{total_snoc}
+use Rattle.jm_base.proofs.Totals.{total_snoc, total_at}
 
 -- what entries sum to in cell j
 abbrev pub sum_at : ℕ → ℕ → List Entry → ℕ
@@ -291,15 +292,47 @@ lists_at (suc k) vs m lt = let len = lists_length k vs in dite (ℕ_discrete m k
     (λ e. subst (λ (z : ℕ). get_or (lists_to k vs ++ share_of k vs ∷ []) z [] ≡ share_of z vs) (sym e) (last_is (lists_to k vs) (share_of k vs) [] k len))
     (λ ne. before_last (lists_to k vs) (share_of k vs) [] m (omega arith) ∙ lists_at k vs m (omega arith))
 
+part_length : (ls : List (List Entry)) (m : ℕ) → length (get_or ls m []) ≤ total (λ (l : List Entry). length l) ls
+part_length [] m = omega arith
+part_length (l ∷ ls) zero = omega arith
+part_length (l ∷ ls) (suc m) = let h : length (get_or ls m []) ≤ total (λ (l : List Entry). length l) ls = part_length ls m in omega arith
+
+-- the report that sums few entries is in bounds
+report_bounds : (n : Numbers) (report : Report) (m : ℕ) (es : List Entry) → report ≡ record { interval = m; rows = sum_of n.labels es } → AllLabels n.labels es → AllSmallEntries es → length es ≤ 4194304 → IsInBounds report.rows
+report_bounds n report m es is labels small few = subst (λ (q : Report). IsInBounds q.rows) (sym is) (sum_in_bounds n.labels es labels small few)
+
 pub sums_of_lists : (n : Numbers) (ws : List ℕ) (vs : List View) (k : Sound n ws vs) → SumsOfLists n k.phased.reader
 sums_of_lists n ws vs k =
     let r : Reading = k.phased.reader in
     let t = lists_total r.interval vs in let u = share_upto r.interval vs in let b = bound_exact n ws vs k.phased in let closed = k.counted.reports in
+    let labels_in : (m : ℕ) → AllLabels n.labels (share_of m vs) = λ m. share_labels n k.phased.made m vs (λ id v e. (id, k.phased.each id v e)) in
+    let sum_is : (m : ℕ) → m < length r.closed → get_or r.closed m no_report ≡ record { interval = m; rows = sum_of n.labels (share_of m vs) } = λ m lt. k.counted.sums_are m (omega arith) ∙ worth_share n r m vs k.counted.timely (omega arith) in
+    let most : n.writers * n.budget ≤ 4194304 = k.phased.sizes.3 in
     record {
       lists = lists_to r.interval vs;
       count = lists_length r.interval vs ∙ sym closed;
       few = omega arith;
-      labels = λ m lt. subst (AllLabels n.labels) (sym (lists_at r.interval vs m (omega arith))) (share_labels n k.phased.made m vs (λ id v e. (id, k.phased.each id v e)));
-      sums = λ m lt. k.counted.sums_are m (omega arith) ∙ worth_share n r m vs k.counted.timely (omega arith)
-          ∙ ap (λ (es : List Entry). record { interval = m; rows = sum_of n.labels es }) (sym (lists_at r.interval vs m (omega arith)));
+      labels = λ m lt. subst (AllLabels n.labels) (sym (lists_at r.interval vs m (omega arith))) (labels_in m);
+      sums = λ m lt. sum_is m lt ∙ ap (λ (es : List Entry). record { interval = m; rows = sum_of n.labels es }) (sym (lists_at r.interval vs m (omega arith)));
+      bounds = λ m lt.
+          let part : length (get_or (lists_to r.interval vs) m []) ≤ total (λ (l : List Entry). length l) (lists_to r.interval vs) = part_length (lists_to r.interval vs) m in
+          let here : length (get_or (lists_to r.interval vs) m []) ≡ length (share_of m vs) = ap length (lists_at r.interval vs m (omega arith)) in
+          report_bounds n (get_or r.closed m no_report) m (share_of m vs) (sum_is m lt) (labels_in m) (share_small n r m vs k.counted.timely) (omega arith);
     }
+
+list_few : (m : ℕ) (l : List Pair) → length (entries_of m l) ≤ length l
+list_few m [] = omega arith
+list_few m (x ∷ xs) = let r = list_few m xs in let s = kept_length (x.0 == m) x (filter (λ (p : Pair). p.0 == m) xs) in let b = bool_low (x.0 == m) in omega arith
+
+joined_few : (m : ℕ) (js : List Joined) → length (joined_share m js) ≤ total (λ (j : Joined). length j.list) js
+joined_few m [] = omega arith
+joined_few m (x ∷ xs) = let r = joined_few m xs in let t = list_few m x.list in let s = length-append (entries_of m x.list) (joined_share m xs) in omega arith
+
+-- what joined writers recorded in an interval sums to rows in bounds
+pub joined_low : (n : Numbers) (ws : List ℕ) (vs : List View) (k : Sound n ws vs) (id : ℕ) (r : Reading) → get_elem? vs id ≡ some (Reporter r) → (m : ℕ) → IsInBounds (sum_of n.labels (joined_share m r.joined))
+joined_low n ws vs k id r at m =
+    let mine : Fits n k.phased.made id (Reporter r) = k.phased.each id (Reporter r) at in
+    let few = joined_few m r.joined in
+    let here : uses (Reporter r) ≤ total uses vs = total_at uses vs id (Reporter r) at in
+    let b = bound_exact n ws vs k.phased in let most : n.writers * n.budget ≤ 4194304 = k.phased.sizes.3 in
+    sum_in_bounds n.labels (joined_share m r.joined) (joined_labels n k.phased.made m r.joined mine.1) (joined_small _ m r.joined (k.counted.timely id (Reporter r) at)) (omega arith)

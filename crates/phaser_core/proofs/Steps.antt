@@ -3,6 +3,7 @@ use Rattle.std.proofs.Common.{◌≡◌, ◌≢◌, ℕ, ◌<◌, ◌≤◌, Boo
 use mathlib.Core.Option.{some}
 use lib.ListN.{get_elem?}
 use Rattle.jm_base.specs.declared.types.Entry.{Entry}
+use Rattle.interval_tables.specs.Rows.{sum_of, IsInBounds}
 use Rattle.phaser_core.specs.declared.view.Numbers.{Numbers}
 use Rattle.phaser_core.specs.declared.view.Stage.TheVariants.{Out, In, On}
 use Rattle.phaser_core.specs.declared.view.Writing.{Writing}
@@ -12,14 +13,14 @@ use Rattle.phaser_core.specs.declared.view.View.{View}
 use Rattle.phaser_core.specs.declared.view.View.TheVariants.{Reporter, Writer, Gone}
 use Rattle.phaser_core.specs.Cells.{is_odd, end_at, sums, table_cells}
 use Rattle.phaser_core.specs.Views.{IsSized, writer_zero, first_reading, ready_reading, AllJoined, active}
-use Rattle.phaser_core.specs.Shares.{AllUpTo, SumsOfLists}
+use Rattle.phaser_core.specs.Shares.{AllUpTo, SumsOfLists, joined_share}
 use Rattle.phaser_core.specs.Moves.{entering, loading, adding, leaving, swapping, clearing, flipping, looking, taking, looking_stop, raising_stop, raising_as_reporter, splitting, split_off, joining, first_words}
 use Rattle.phaser_core.specs.Invariant.{RecorderInvariant, Keeps, InTable}
 use Rattle.phaser_core.proofs.Halves.{AllTimely}
 use Rattle.phaser_core.proofs.PhaseSteps.{is_reader, at_front}
 use Rattle.phaser_core.proofs.Members.{all_gone}
 use Rattle.phaser_core.proofs.Sounds.{enter_sound, load_sound, add_sound, exit_sound, swap_sound, clear_sound, flip_sound, look_sound, take_sound, split_first_sound, split_more_sound, join_sound, opens_sound, raise_sound, look_stop_sound, raise_reporter_sound, look_knows, stop_knows}
-use Rattle.phaser_core.proofs.Sharing.{sums_of_lists}
+use Rattle.phaser_core.proofs.Sharing.{sums_of_lists, joined_low}
 use Rattle.phaser_core.proofs.Whole.{whole, halves, timely}
 
 -- Steps of a writer
@@ -102,6 +103,10 @@ module _ (n : Numbers) (ws : List ℕ) (vs : List View) (k : RecorderInvariant n
   -- each closed report is the sum of some list of entries
   pub reports_sum : SumsOfLists n r
   reports_sum = subst (SumsOfLists n) reader_is (sums_of_lists n ws vs (halves n ws vs k))
+
+  -- what joined writers recorded in an interval sums to rows in bounds
+  pub joined_bounds : (m : ℕ) → IsInBounds (sum_of n.labels (joined_share m r.joined))
+  joined_bounds m = joined_low n ws vs (halves n ws vs k) id r at m
 
   pub joined_in_time : AllTimely (active r) r.joined
   joined_in_time = subst (λ (q : Reading). AllTimely (active q) r.joined) reader_is (timely n ws vs k id (Reporter r) at)

@@ -3,7 +3,7 @@ use Rattle.std.specs.Prelude.{◌≡◌, ℕ, ◌-◌, ◌*◌, ◌<◌, ◌≤�
 use Rattle.jm_base.specs.declared.types.Entry.{Entry}
 use Rattle.interval_tables.specs.declared.report.Report.{Report}
 use Rattle.jm_base.specs.Totals.{total}
-use Rattle.interval_tables.specs.Rows.{sum_of, AllLabels}
+use Rattle.interval_tables.specs.Rows.{sum_of, AllLabels, IsInBounds}
 use Rattle.phaser_core.specs.declared.view.Numbers.{Numbers}
 use Rattle.phaser_core.specs.declared.view.Joined.{Joined}
 use Rattle.phaser_core.specs.declared.view.Reading.{Reading}
@@ -65,10 +65,11 @@ pub record Partition (labels : ℕ) (lists : List (List Pair)) (reports : List R
   pub timed : AllTimed (length reports - 1) lists
   pub sums : (m : ℕ) → m < length reports → slice_index_or reports m no_report ≡ record { interval = m; rows = sum_of labels (entries_in m lists) }
 
--- Each closed report of the reporter is the sum of some list of entries with labels in range, and these lists have together no more entries than all writers may record.
+-- Each closed report of the reporter is the sum of some list of entries with labels in range, and these lists have together no more entries than all writers may record. So each is in bounds.
 pub record SumsOfLists (n : Numbers) (r : Reading) : Type 0 where
   pub lists : List (List Entry)
   pub count : length lists ≡ length r.closed
   pub few : total (λ (l : List Entry). length l) lists ≤ n.writers * n.budget
   pub labels : (m : ℕ) → m < length r.closed → AllLabels n.labels (slice_index_or lists m [])
   pub sums : (m : ℕ) → m < length r.closed → slice_index_or r.closed m no_report ≡ record { interval = m; rows = sum_of n.labels (slice_index_or lists m []) }
+  pub bounds : (m : ℕ) → m < length r.closed → IsInBounds (slice_index_or r.closed m no_report).rows

@@ -8,6 +8,7 @@ use Rattle.std.proofs.lemmas.List.{set-get_or}
 use Rattle.atomic_table.specs.Table.{Me, Act, Valid, carried_after, stepped, step, keeps, Allows, Splits, Joins, opening, Final, Seen}
 use Rattle.jm_base.specs.declared.types.Entry.{Entry}
 use Rattle.jm_base.specs.Totals.{one_if}
+use Rattle.interval_tables.specs.Rows.{sum_of, IsInBounds}
 use Rattle.phaser_core.specs.declared.view.Numbers.{Numbers}
 use Rattle.phaser_core.specs.declared.view.Stage.{Stage}
 use Rattle.phaser_core.specs.declared.view.Stage.TheVariants.{Out, In, On}
@@ -18,14 +19,14 @@ use Rattle.phaser_core.specs.declared.view.View.{View}
 use Rattle.phaser_core.specs.declared.view.View.TheVariants.{Reporter, Writer, Gone}
 use Rattle.phaser_core.specs.Cells.{is_odd, end_at, sums, column, part, folded, skips, vacant, place, cell_at, table_cells, word_count, row_at, report_from}
 use Rattle.phaser_core.specs.Views.{IsSized, AllJoined, joined_at}
-use Rattle.phaser_core.specs.Shares.{Partition}
+use Rattle.phaser_core.specs.Shares.{entries_in, Partition}
 use Rattle.phaser_core.specs.Moves.{Move, entering, loading, adding, leaving, swapping, clearing, flipping, looking, taking, looking_stop, raising_stop, raising_as_reporter, splitting, split_off, joining, no_one, first_words, first_cells}
 use Rattle.phaser_core.specs.Invariant.{RecorderInvariant, Keeps}
 use Rattle.phaser_core.proofs.Lists.{set_again}
 use Rattle.phaser_core.proofs.PhaseSteps.{end_low}
 use Rattle.phaser_core.proofs.CellSteps.{place_in, place_cell, cell_in, column_low as column_six}
-use Rattle.phaser_core.proofs.Steps.{enter_keeps, load_keeps, add_keeps, exit_keeps, look_stop_keeps, raise_keeps, split_keeps, load_knows, look_stop_knows, reader_is, labels_are, swap_keeps, clear_keeps, flip_keeps, look_keeps, take_keeps, raise_as_reporter_keeps, split_first_keeps, join_keeps, look_finds, reports_sum, others_gone, opens_keeps}
-use Rattle.phaser_core.proofs.Ends.{read_knows, partition_of}
+use Rattle.phaser_core.proofs.Steps.{enter_keeps, load_keeps, add_keeps, exit_keeps, look_stop_keeps, raise_keeps, split_keeps, load_knows, look_stop_knows, reader_is, labels_are, swap_keeps, clear_keeps, flip_keeps, look_keeps, take_keeps, raise_as_reporter_keeps, split_first_keeps, join_keeps, look_finds, reports_sum, joined_bounds, others_gone, opens_keeps}
+use Rattle.phaser_core.proofs.Ends.{read_knows, partition_of, share_in}
 use Rattle.phaser_words.proofs.Counts.{writers_counted}
 use Rattle.phaser_words.specs.Kinds.{holds_of, first_view, writing_of, reading_of, waited_for, parity_in, taken_in, moved, adds_of, exits_of, enters, loads, adds, exits, swaps, clears, flips, looks, takes, watches, raises, reporter_raises, recalls, reads, CanEnd, Recalled, lists_of}
 
@@ -241,11 +242,14 @@ parted n ws vs id r k at idle all f cells =
     subst (λ (l : ℕ). Partition l (lists_of r.joined) (r.closed ++ report_from l r.interval f ∷ [])) (sym labels)
     (partition_of n.labels r f e.0 e.1 (subst (λ (l : ℕ). (j : ℕ) → j < table_cells l → f j ≡ joined_at l r.interval j r.joined) labels cells) e.3)
 
+in_bounds : (n : Numbers) (ws : List ℕ) (vs : List View) (id : ℕ) (r : Reading) → RecorderInvariant n ws vs → get_elem? vs id ≡ some (Reporter r) → (m : ℕ) → IsInBounds (sum_of n.labels (entries_in m (lists_of r.joined)))
+in_bounds n ws vs id r k at m = subst (λ (es : List Entry). IsInBounds (sum_of n.labels es)) (share_in m r.joined) (joined_bounds n ws vs k id r at m)
+
 pub recall_allowed : (n : Numbers) (m : Numbers) (slots id : ℕ) (me : Sat) → m ≡ n → me.0 ≡ Reporter (reading_of me.0) → Allows (holds_of n) slots id me 0 (λ x. x) (recalls m (step slots 0 0 0 none) me)
 recall_allowed n m slots id me same is s k _ at _ =
     let r : Reading = reading_of me.0 in
     let at_r : get_elem? s.views id ≡ some (Reporter r) = subst (λ (u : View). get_elem? s.views id ≡ some u) is at in
-    let knows : Recalled n r = record { sums = reports_sum n s.words s.views k id r at_r; counts = writers_counted n s.words s.views k id r at_r; ends = parted n s.words s.views id r k at_r } in
+    let knows : Recalled n r = record { sums = reports_sum n s.words s.views k id r at_r; counts = writers_counted n s.words s.views k id r at_r; bounds = in_bounds n s.words s.views id r k at_r; ends = parted n s.words s.views id r k at_r } in
     (me.0, keeps, tt, unmoved n s.words s.views 0 id me.0 k at, (refl, subst (λ (z : Numbers). Recalled z r) (sym same) knows))
 
 pub read_allowed : (n : Numbers) (slots id : ℕ) (me : Sat) (j p word : ℕ) → p ≡ j → me.0 ≡ Reporter (reading_of me.0) → (reading_of me.0).closing ≡ Idle → AllJoined (reading_of me.0) → j < table_cells n.labels

@@ -3,6 +3,7 @@ use Rattle.std.specs.Prelude.{◌≡◌, ℕ, ◌+◌, ◌<◌, ◌≤◌, not, 
 use Rattle.atomic_table.specs.Table.{State, Me, Step}
 use Rattle.jm_base.specs.declared.types.Entry.{Entry}
 use Rattle.jm_base.specs.Totals.{one_if}
+use Rattle.interval_tables.specs.Rows.{sum_of, IsInBounds}
 use Rattle.phaser_core.specs.declared.view.Numbers.{Numbers}
 use Rattle.phaser_core.specs.declared.view.Stage.{Stage}
 use Rattle.phaser_core.specs.declared.view.Stage.TheVariants.{Out, In, On}
@@ -15,7 +16,7 @@ use Rattle.phaser_core.specs.declared.view.View.{View}
 use Rattle.phaser_core.specs.declared.view.View.TheVariants.{Reporter, Writer, Gone}
 use Rattle.phaser_core.specs.Cells.{sums, table_cells, report_from}
 use Rattle.phaser_core.specs.Views.{Pair, first_reading, made_known, AllJoined, joined_at}
-use Rattle.phaser_core.specs.Shares.{AllUpTo, Partition, SumsOfLists}
+use Rattle.phaser_core.specs.Shares.{AllUpTo, entries_in, Partition, SumsOfLists}
 use Rattle.phaser_core.specs.Moves.{Move, entering, loading, adding, leaving, swapping, clearing, flipping, looking, taking, looking_stop, raising_stop, raising_as_reporter}
 use Rattle.phaser_core.specs.Invariant.{RecorderInvariant}
 
@@ -202,10 +203,11 @@ pub record CountsWriters (n : Numbers) (r : Reading) : Type 0 where
   pub made : made_known r.joined ≤ n.writers
   pub order : 0 < made_known r.joined → length r.joined ≤ made_known r.joined
 
--- what the rule says of the reporter's own view
+-- what the rule says of the reporter's own view; what joined writers recorded in an interval sums to rows in bounds
 pub record Recalled (n : Numbers) (r : Reading) : Type 0 where
   pub sums : SumsOfLists n r
   pub counts : CountsWriters n r
+  pub bounds : (m : ℕ) → IsInBounds (sum_of n.labels (entries_in m (lists_of r.joined)))
   pub ends : r.closing ≡ Idle → AllJoined r → CanEnd r
 
 abbrev pub recalls : Numbers → Step (Unit {0}) → Sat → ℕ → Sat → Type 0

@@ -1,2 +1,3 @@
 pub mod Cellwise
 pub mod Joining
+pub mod Ending

@@ -1,10 +1,14 @@
 -- What a contract says of the recorder and its seats.
-use Rattle.std.specs.Prelude.{◌≡◌, ◌<◌, Bool, true, false}
+use Rattle.std.specs.Prelude.{◌≡◌, ◌+◌, ◌<◌, Bool, true, false, List, [], ◌∷◌, ◌++◌, length}
+use Rattle.interval_tables.specs.declared.report.Report.{Report}
+use Rattle.interval_tables.specs.Rows.{sum_of, IsInBounds}
 use Rattle.phaser_core.specs.declared.view.Numbers.{Numbers}
 use Rattle.phaser_core.specs.declared.view.Writing.{Writing}
 use Rattle.phaser_core.specs.declared.view.Reading.{Reading}
 use Rattle.phaser_core.specs.declared.view.Closing.TheVariants.{Waiting}
 use Rattle.phaser_core.specs.Views.{AllJoined}
+use Rattle.phaser_core.specs.Shares.{entries_in, Partition}
+use Rattle.phaser_words.specs.Kinds.{lists_of}
 use Rattle.phaser_words.specs.Seats.{writing, reading, numbers, IsWriterOf, IsReporterOf}
 use Rattle.recorder_core.specs.declared.places.Recorder.{Recorder}
 use Rattle.recorder_core.specs.declared.places.WriterSeat.{WriterSeat}
@@ -50,3 +54,19 @@ IsPoll r (NotYet seen want) s settled = (settled ≡ false) × (s ≡ r) × (r.c
 -- what the reporter knew at the end: every writer's list and marks, its own mark, and every report but the last
 abbrev pub books_of : Books → Reading
 books_of b = reading b.seat
+
+-- the report of the interval that is open: it sums what joined writers recorded in it
+abbrev pub last_report : Reading → Report
+last_report r = record { interval = r.interval; rows = sum_of r.labels (entries_in r.interval (lists_of r.joined)) }
+
+-- every report, with that of the interval that was open at the end as the last
+abbrev pub all_reports_of : Books → List Report
+all_reports_of b = (books_of b).closed ++ last_report (books_of b) ∷ []
+
+-- The report is that of the open interval, and with it the closed ones count each entry of the joined lists in exactly one report.
+pub record EndsWith (n : Numbers) (r : Reading) (last : Report) : Type 0 where
+  pub is : last ≡ last_report r
+  pub parted : Partition n.labels (lists_of r.joined) (r.closed ++ last ∷ [])
+  pub count : length (r.closed ++ last ∷ []) ≡ r.interval + 1
+  pub rows : length last.rows ≡ n.labels
+  pub bounds : IsInBounds last.rows

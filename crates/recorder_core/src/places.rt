@@ -50,7 +50,7 @@ pub struct Closing {
 }
 
 /// What is left at the end: how many intervals there were, the last one among them, and how many writers. To contracts it
-/// shows every writer's list and marks, and every report that was closed. `Recorder::finish` alone makes it.
+/// shows every writer's list and marks, and every report, the last one among them. `Recorder::finish` alone makes it.
 #[derive(Drop)]
 pub struct Books {
     pub intervals: u64,

@@ -1,16 +1,17 @@
 //! The calls of a recorder.
 ghost use Rattle.std.specs.Prelude.{◌≡◌, ◌+◌, ◌<◌, ◌≤◌, ◌↔◌, not, [], ◌∷◌, ◌++◌, length, false, true, IfOk};
 ghost use Rattle.jm_base.specs.Totals.{one_if};
+ghost use Rattle.interval_tables.specs.Rows.{IsInBounds};
 ghost use Rattle.phaser_core.specs.Views.{IsSized, at_stage, ready_reading, writer_zero, further, AllJoined};
 ghost use Rattle.phaser_core.specs.Shares.{AllUpTo, Partition, SumsOfLists};
 ghost use Rattle.phaser_core.specs.Moves.{splitting, taking_in, marked, or, reporter_raised};
 ghost use Rattle.phaser_core.specs.declared.view.Stage.TheVariants.{Out};
-ghost use Rattle.phaser_core.specs.declared.view.Closing.TheVariants.{Harvest};
+ghost use Rattle.phaser_core.specs.declared.view.Closing.TheVariants.{Idle, Harvest};
 ghost use Rattle.phaser_core.specs.declared.view.View.TheVariants.{Writer};
 ghost use Rattle.phaser_words.specs.Kinds.{lists_of};
 ghost use Rattle.phaser_words.specs.Seats.{writing, reading, numbers, IsWriterOf, IsReporterOf};
 ghost use Rattle.recorder_core.specs.Stands.{Same, closed_as, open_count};
-ghost use Rattle.recorder_core.specs.Seats.{writes, reports, closes, is_settled, numbers_of, IsWriter, IsReporter, IsClosing, IsPoll, books_of};
+ghost use Rattle.recorder_core.specs.Seats.{writes, reports, closes, is_settled, numbers_of, IsWriter, IsReporter, IsClosing, IsPoll, books_of, all_reports_of, EndsWith};
 
 use crate::places::{Books, Closing, Recorder, ReporterSeat, WriterSeat};
 use crate::rows::{read_rows, take_rows};
@@ -162,7 +163,8 @@ impl Recorder {
         }
     }
 
-    /// Takes all cells of the interval into a report, with which it is closed.
+    /// Takes all cells of the interval into a report, with which it is closed. The report is in bounds.
+    #[tactic(auto, using(crate::proofs::Ending::harvested_bounds))]
     pub fn harvest(&self, closing: Closing, into: &mut Report) -> ReporterSeat
         requires seat { IsClosing self.now closing }
         requires settled { is_settled closing ≡ true }
@@ -172,6 +174,7 @@ impl Recorder {
         ensures interval { into.new.interval ≡ (closes closing).interval }
         ensures rows { length into.new.rows ≡ (numbers_of self.now).labels }
         ensures sums { SumsOfLists (numbers_of self.now) (reports result) }
+        ensures bounds { IsInBounds into.new.rows }
     {
         let Closing {
             mut words,
@@ -224,36 +227,54 @@ impl Recorder {
         into.made += made;
     }
 
-    /// The books, once every writer was joined, and the report of the interval that was open. Each entry that a writer
-    /// recorded counts in exactly one of the reports.
+    /// The books, once every writer was joined, and the report of the interval that was open, which is the last of the
+    /// reports and in bounds. Each entry that a writer recorded counts in exactly one of the reports.
     pub fn finish(self, seat: ReporterSeat, into: &mut Report) -> Books
         requires seat { IsReporter self seat }
         requires joined { AllJoined (reports seat) }
         requires rows { length into.old.rows ≡ (numbers_of self).labels }
         ensures lists { books_of result ≡ reports seat }
+        ensures reports { all_reports_of result ≡ (reports seat).closed ++ into.new ∷ [] }
+        ensures parted { Partition (numbers_of self).labels (lists_of (books_of result).joined) (all_reports_of result) }
         ensures intervals { result.intervals ≡ (reports seat).interval + 1 }
+        ensures count { result.intervals ≡ length (all_reports_of result) }
         ensures writers { result.writers ≡ length (reports seat).joined }
-        ensures parted { Partition (numbers_of self).labels (lists_of (reports seat).joined) ((reports seat).closed ++ into.new ∷ []) }
+        ensures interval { into.new.interval ≡ (reports seat).interval }
+        ensures rows { length into.new.rows ≡ (numbers_of self).labels }
+        ensures bounds { IsInBounds into.new.rows }
     {
         let ReporterSeat {
             words: mut seat,
             joined,
             made: _,
         } = seat;
-        let rows = mem::replace(&mut into.rows, Rows::of(Vec::new(self.alloc)));
-        let mut rows = rows.into_vec();
-        read_rows(&self.words, &mut seat, rows.as_mut_slice());
-        self.words.recall(&mut seat);
-        let interval = seat.interval();
-        into.interval = interval;
-        into.rows = Rows::of(rows);
+        self.read_into(&mut seat, into);
+        let intervals = seat.interval() + 1;
         let Recorder { words, alloc: _ } = self;
         Books {
-            intervals: interval + 1,
+            intervals,
             writers: joined,
             words,
             seat,
         }
+    }
+
+    // Reads all cells of the open interval into the report, once every writer was joined.
+    fn read_into(&self, words: &mut ReporterWordSeat, into: &mut Report)
+        requires seat { IsReporterOf self.now.words words.old }
+        requires idle { (reading words.old).closing ≡ Idle }
+        requires joined { AllJoined (reading words.old) }
+        requires rows { length into.old.rows ≡ (numbers_of self.now).labels }
+        ensures seat { IsReporterOf self.now.words words.new }
+        ensures same { reading words.new ≡ reading words.old }
+        ensures ends { EndsWith (numbers_of self.now) (reading words.old) into.new }
+    {
+        let rows = mem::replace(&mut into.rows, Rows::of(Vec::new(self.alloc)));
+        let mut rows = rows.into_vec();
+        read_rows(&self.words, words, rows.as_mut_slice());
+        self.words.recall(words);
+        into.interval = words.interval();
+        into.rows = Rows::of(rows);
     }
 }
 
