@@ -1,1 +1,3 @@
 pub mod Scripted
+pub mod Worlds
+pub mod Tickers

@@ -21,10 +21,14 @@ told_when false heard = None
 abbrev pub told_after : Option (List Heard) → Heard → Option (List Heard)
 told_after told item = option_map (λ t. t ++ item ∷ []) told
 
-abbrev pub account_of : List (List ScriptReply) → ℕ → List ℕ → Bool → List Heard → ℕ → Account
-account_of replies clock places keep heard faults =
-    record { origin = None; value = Some (scripts replies clock places); told = told_when keep heard; faults = faults }
+abbrev pub account_of : Option (ℕ × ℕ) → List (List ScriptReply) → ℕ → List ℕ → Bool → List Heard → ℕ → Account
+account_of origin replies clock places keep heard faults =
+    record { origin = origin; value = Some (scripts replies clock places); told = told_when keep heard; faults = faults }
 
 -- an outside of no world before its first call, with this value, which tells where it is to keep its list
 abbrev pub scripted_account : Scripts → Bool → Account
 scripted_account v keep = record { origin = None; value = Some v; told = told_when keep []; faults = 0 }
+
+-- an outside that a world opened for a number, before its first call, with this value: it tells
+abbrev pub opened_account : ℕ → ℕ → Scripts → Account
+opened_account identity number v = record (scripted_account v true) { origin = Some (identity, number) }

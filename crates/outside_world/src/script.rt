@@ -6,8 +6,10 @@ ghost use Rattle.element_tree.specs.Tree.{replies_of_kind, replies_of_element};
 ghost use Rattle.jm_base.specs.declared.types.Outcome.{Outcome};
 ghost use Rattle.jm_base.specs.declared.types.Outcome.TheVariants.{Fault};
 ghost use Rattle.jm_base.specs.Outside.{fault_count, later, outcome_of_reply, request_text};
-ghost use Rattle.outside_world.specs.Scripted.{scripted_account, scripts_of, told_when, told_after};
+ghost use Rattle.outside_world.specs.Worlds.{origin_of};
+ghost use Rattle.outside_world.specs.Scripted.{scripted_account, opened_account, scripts_of, told_when, told_after};
 
+use crate::closed::Closed;
 use crate::copies::{copy_outcome, copy_replies, copy_request};
 use element_tree::{Element, Kind, Plan};
 use jm_base::{Heard, Items, M, Outcome, Outside, Reply, Request, ScriptReply, Text};
@@ -25,15 +27,25 @@ pub struct ScriptOutside {
     keep: bool,
     heard: Vec<Heard>,
     faults: u64,
+    opening: Option<Opening>,
+}
+
+/// Which world opened an outside for which number, and the place that the outside takes there when it is closed.
+#[derive(Drop)]
+pub(crate) struct Opening {
+    pub(crate) identity: u64,
+    pub(crate) number: u16,
+    pub(crate) place: Box<Closed>,
 }
 
 impl Model for ScriptOutside {
     ghost use Rattle.jm_base.specs.Outside.{Account};
     ghost use Rattle.outside_world.specs.Scripted.{account_of};
+    ghost use Rattle.outside_world.specs.Worlds.{origin_of};
 
     ghost Value = { Account };
 
-    ghost view = { λ o. account_of o.replies o.clock o.places.items o.keep o.heard.items o.faults };
+    ghost view = { λ o. account_of (origin_of o.opening) o.replies o.clock o.places.items o.keep o.heard.items o.faults };
 }
 
 impl Outside for ScriptOutside {
@@ -96,7 +108,32 @@ impl ScriptOutside {
             keep,
             heard: Vec::new(alloc),
             faults: 0,
+            opening: None,
         })
+    }
+
+    // The outside of a plan's own replies, before its first call, opened by a world. It tells.
+    pub(crate) fn opened(alloc: Global, plan: &Plan, opening: Opening) -> M<ScriptOutside>
+        ensures { IfOk result (λ o. o ≡ opened_account opening.identity opening.number (scripts_of plan.now)) }
+    {
+        let mut outside = ScriptOutside::new(alloc, plan, true)?;
+        outside.opening = Some(opening);
+        Ok(outside)
+    }
+
+    // What it was told, where it tells, and which world opened it.
+    pub(crate) fn into_told(self) -> (Option<Items<Heard>>, Option<Opening>)
+        ensures told { result.0 ≡ self.told }
+        ensures origin { origin_of result.1 ≡ self.origin }
+    {
+        let ScriptOutside {
+            keep,
+            heard,
+            opening,
+            ..
+        } = self;
+        let told = if keep { Some(Items::of(heard)) } else { None };
+        (told, opening)
     }
 
     /// What it was told, in order, where it tells.

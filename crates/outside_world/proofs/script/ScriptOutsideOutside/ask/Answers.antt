@@ -5,12 +5,12 @@ use Rattle.outside_world.proofs.script.ScriptOutsideOutside.ask.Goals as goal
 
 pub returns-in_default-clause-ok : goal.returns-in_default-clause-ok
 returns-in_default-clause-ok c = rw (← c.self.view_is)
-    (goes_asking (scripts c.self.inside.replies c.self.inside.clock c.self.inside.places.items) _ _ _ c.self.inside.faults c.self.inside.faults c.args.sampler c.args.request.now _
+    (goes_asking _ (scripts c.self.inside.replies c.self.inside.clock c.self.inside.places.items) _ _ _ c.self.inside.faults c.self.inside.faults c.args.sampler c.args.request.now _
     (asked_none _ c.args.sampler c.args.request.now (rw (← c.replies_at-replies.ensures, ← c.place_of-place.ensures) (sym c.in_default.ensures))) c.in_ok-note_asked.ensures.ok refl)
 
 pub returns-clause-ok : goal.returns-clause-ok
 returns-clause-ok c = rw (← c.self.view_is)
-    (goes_asking (scripts c.self.inside.replies c.self.inside.clock c.self.inside.places.items) _ _ _ c.self.inside.faults c.faults_after-self-inside.result c.args.sampler c.args.request.now _
+    (goes_asking _ (scripts c.self.inside.replies c.self.inside.clock c.self.inside.places.items) _ _ _ c.self.inside.faults c.faults_after-self-inside.result c.args.sampler c.args.request.now _
     (asked_some (scripts c.self.inside.replies c.self.inside.clock c.self.inside.places.items) c.args.sampler c.later-self-inside.result c.set_place.new.places.items c.args.request.now
     c.in-Some.reply.now c.in_ok-outcome.outcome
     (rw (← c.replies_at-replies.ensures, ← c.place_of-place.ensures) (sym c.in-Some.ensures)) c.in_ok-outcome.ensures c.later-self-inside.ensures
