@@ -1,5 +1,5 @@
 -- Which outsides a world has opened and closed.
-use Rattle.std.specs.Prelude.{ℕ, nat_eq, List, [], ◌∷◌, ◌++◌, Option, Some, None, if◌then◌else◌}
+use Rattle.std.specs.Prelude.{ℕ, nat_eq, List, [], ◌∷◌, ◌++◌, Option, None, if◌then◌else◌}
 use Rattle.std.specs.Option.{option_map}
 use Rattle.jm_base.specs.declared.types.Heard.{Heard}
 use Rattle.outside_world.specs.declared.closed.Closed.{Closed, Empty, More'}
