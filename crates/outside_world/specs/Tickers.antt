@@ -1,5 +1,6 @@
 -- How often a ticker was asked, and what it answered.
-use Rattle.std.specs.Prelude.{ℕ, ◌+◌, ◌-◌, ◌^◌, min, Bool, true, false, List, [], ◌∷◌}
+use Rattle.std.specs.Prelude.{ℕ, ◌+◌, ◌-◌, ◌^◌, min, Bool, false, List, [], ◌∷◌}
+use Rattle.jm_base.specs.Totals.{one_if}
 
 -- the milliseconds last given to `every`, 0 before; how many answers were true; how many answers there were, a count that
 -- stands still at the end of 64 bits
@@ -7,10 +8,6 @@ pub record Ticks : Type 0 where
   pub period : ℕ
   pub trues : ℕ
   pub asks : ℕ
-
-abbrev pub one_if : Bool → ℕ
-one_if true = 1
-one_if false = 0
 
 -- from now on an interval lasts this many milliseconds
 abbrev pub with_period : ℕ → Ticks → Ticks
