@@ -2,7 +2,7 @@
 
 use crate::show::print_sink;
 use crate::texts::words_of;
-use command_words::{Command, Solo, WordsError, read_words};
+use command_words::{Command, Run, Solo, WordsError, read_words};
 use jm_base::{M, NoMemory, Outcome, Outside, Request, Text};
 use std::alloc::Global;
 use template_text::{Template, parse_template};
@@ -15,6 +15,7 @@ pub fn print_words(rt: &impl Print, alloc: Global, line: &str) -> anyhow::Result
         Ok(Command::Check) => println!(rt; "check")?,
         Ok(Command::Make(make)) => println!(rt; "make size={}", make.size)?,
         Ok(Command::Solo(solo)) => print_solo(rt, alloc, &solo)?,
+        Ok(Command::Run(run)) => print_run_options(rt, alloc, &run)?,
         Err(error) => println!(rt; "error: {error}")?,
     }
     Ok(())
@@ -25,9 +26,21 @@ fn print_solo(rt: &impl Print, alloc: Global, solo: &Solo) -> anyhow::Result<()>
         "solo seed={} samples={} thread={}",
         solo.seed, solo.samples, solo.thread
     )?;
-    let first = property(alloc, &solo.props, &parse_template(alloc, b"${__P(a)}")?)?;
+    print_props(rt, alloc, &solo.props)
+}
+
+fn print_run_options(rt: &impl Print, alloc: Global, run: &Run) -> anyhow::Result<()> {
+    println!(rt;
+        "run seed={} samples={} every={}",
+        run.seed, run.samples, run.every
+    )?;
+    print_props(rt, alloc, &run.props)
+}
+
+fn print_props(rt: &impl Print, alloc: Global, props: &Props) -> anyhow::Result<()> {
+    let first = property(alloc, props, &parse_template(alloc, b"${__P(a)}")?)?;
     print_sink(rt, alloc, "a", first.bytes())?;
-    let second = property(alloc, &solo.props, &parse_template(alloc, b"${__P(b)}")?)?;
+    let second = property(alloc, props, &parse_template(alloc, b"${__P(b)}")?)?;
     print_sink(rt, alloc, "b", second.bytes())
 }
 

@@ -5,3 +5,4 @@ pub mod Agreement
 pub mod Numerals
 pub mod ReadingLaws
 pub mod SpellingLaws
+pub mod RunLaws

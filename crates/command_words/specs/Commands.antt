@@ -1,11 +1,13 @@
 -- The commands, their options, and what they ask for.
-use Rattle.std.specs.Prelude.{true, false, ◌^◌, ◌-◌, List, [], ◌∷◌, Option, Some, None, option_map, option_and_then, unwrap_or, if◌then◌else◌, codes, find}
+use Rattle.std.specs.Prelude.{Bool, true, false, ◌^◌, ◌-◌, List, [], ◌∷◌, Option, Some, None, option_map, option_and_then, unwrap_or, if◌then◌else◌, codes, find}
 use Rattle.std.specs.List.{list_all}
 use Rattle.std.specs.Str.{bytes_eq}
 use Rattle.command_words.specs.declared.command.Command.{Command}
-use Rattle.command_words.specs.declared.command.Command.TheVariants.{Check, Make as RunMake, Solo as RunSolo}
+use Rattle.command_words.specs.declared.command.Command.TheVariants.{Check, Make as RunMake, Solo as RunSolo, Run as RunAll}
 use Rattle.command_words.specs.declared.command.Make.{Make}
 use Rattle.command_words.specs.declared.command.Solo.{Solo}
+use Rattle.command_words.specs.declared.command.Run.{Run}
+use Rattle.command_words.specs.declared.value.Shared.{Shared}
 use Rattle.command_words.specs.Grammar.{Word, Options, is_word, given_for, value_of}
 use Rattle.command_words.specs.Values.{number_between, properties_of}
 
@@ -17,20 +19,35 @@ make_from size = option_map (λ n. record { size = n }) (number_between 1 2047 s
 abbrev pub make_of : (Word → Option Word) → Option Make
 make_of value = option_and_then make_from (value (codes "size"))
 
--- the options of `solo` by the texts of their values
-abbrev pub solo_from : Word → Word → Word → Word → Option Solo
-solo_from seed props samples thread =
-    option_and_then (λ s. option_and_then (λ n. option_and_then (λ t. option_map (λ p.
-    record { seed = s; props = p; samples = n; thread = t })
-    (properties_of props)) (number_between 0 63 thread)) (number_between 1 262144 samples)) (number_between 0 (2 ^ 64 - 1) seed)
+-- the options that `solo` and `run` share, by the texts of their values
+abbrev pub shared_from : Word → Word → Word → Option Shared
+shared_from seed props samples =
+    option_and_then (λ s. option_and_then (λ n. option_map (λ p.
+    record { seed = s; props = p; samples = n })
+    (properties_of props)) (number_between 1 262144 samples)) (number_between 0 (2 ^ 64 - 1) seed)
 
--- the options of `solo` by the values that are given; what is not given has the value after its name
-abbrev pub solo_of : (Word → Option Word) → Option Solo
-solo_of value = solo_from
+-- the same by the values that are given; what is not given has the value after its name
+abbrev pub shared_of : (Word → Option Word) → Option Shared
+shared_of value = shared_from
     (unwrap_or (value (codes "seed")) (codes "0"))
     (unwrap_or (value (codes "props")) (codes ""))
     (unwrap_or (value (codes "samples")) (codes "65536"))
-    (unwrap_or (value (codes "thread")) (codes "0"))
+
+abbrev pub solo_from : Shared → Word → Option Solo
+solo_from shared thread =
+    option_map (λ t. record { seed = shared.seed; props = shared.props; samples = shared.samples; thread = t }) (number_between 0 63 thread)
+
+-- the options of `solo`: those that are shared, and the thread
+abbrev pub solo_of : (Word → Option Word) → Option Solo
+solo_of value = option_and_then (λ shared. solo_from shared (unwrap_or (value (codes "thread")) (codes "0"))) (shared_of value)
+
+abbrev pub run_from : Shared → Word → Option Run
+run_from shared every =
+    option_map (λ e. record { seed = shared.seed; props = shared.props; samples = shared.samples; every = e }) (number_between 1 3600000 every)
+
+-- the options of `run`: those that are shared, and how long an interval lasts
+abbrev pub run_of : (Word → Option Word) → Option Run
+run_of value = option_and_then (λ shared. run_from shared (unwrap_or (value (codes "every")) (codes "1000"))) (shared_of value)
 
 -- a command: its name, its options, and what it asks for where these values are given
 pub record CommandRule : Type 0 where
@@ -55,8 +72,15 @@ solo = record {
   meaning = λ value. option_map RunSolo (solo_of value);
 }
 
+abbrev pub run : CommandRule
+run = record {
+  name = codes "run";
+  options = (codes "seed", false) ∷ (codes "props", false) ∷ (codes "samples", false) ∷ (codes "every", false) ∷ [];
+  meaning = λ value. option_map RunAll (run_of value);
+}
+
 abbrev pub commands : List CommandRule
-commands = check ∷ make ∷ solo ∷ []
+commands = check ∷ make ∷ solo ∷ run ∷ []
 
 abbrev pub command_named : Word → Option CommandRule
 command_named name = find (λ c. bytes_eq c.name name) commands
@@ -66,6 +90,11 @@ abbrev pub asked_of : List Word → Option Command
 asked_of [] = None
 asked_of (word ∷ words) =
     option_and_then (λ c. option_and_then (λ given. c.meaning (value_of given)) (given_for c.options words)) (command_named word)
+
+-- the first word is `run`
+abbrev pub names_run : List Word → Bool
+names_run [] = false
+names_run (word ∷ words) = bytes_eq run.name word
 
 -- what a command line asks for; none of words that are not a command line
 abbrev pub command_of : List Word → Option Command

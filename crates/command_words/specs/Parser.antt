@@ -26,14 +26,20 @@ make_app = with_rule (new_app (codes "make")) (required_rule (codes "size"))
 abbrev pub solo_app : App
 solo_app = with_options (new_app (codes "solo")) (codes "seed" ∷ codes "props" ∷ codes "samples" ∷ codes "thread" ∷ [])
 
+abbrev pub run_app : App
+run_app = with_options (new_app (codes "run")) (codes "seed" ∷ codes "props" ∷ codes "samples" ∷ codes "every" ∷ [])
+
 abbrev pub bare_shape : Shape → Shape
 bare_shape s = record s { no_binary_name = true; disable_help_flag = true; disable_help_subcommand = true; subcommand_required = true }
 
 abbrev pub bare_app : App
 bare_app = record (new_app (codes "jm")) { top = bare_shape (new_app (codes "jm")).top }
 
+abbrev pub plain_app : App
+plain_app = with_subcommand (with_subcommand (with_subcommand bare_app check_app.top) make_app.top) solo_app.top
+
 abbrev pub jm_app : App
-jm_app = with_subcommand (with_subcommand (with_subcommand bare_app check_app.top) make_app.top) solo_app.top
+jm_app = with_subcommand plain_app run_app.top
 
 -- `clap` takes the words
 abbrev pub AreTaken : List Text → Type 0

@@ -11,6 +11,8 @@ pub enum Command {
     Make(Make),
     /// `solo`: run one thread of a plan over the plan's own replies.
     Solo(Solo),
+    /// `run`: run all threads of a plan.
+    Run(Run),
 }
 
 /// The option of `make`.
@@ -31,4 +33,17 @@ pub struct Solo {
     pub samples: u32,
     /// `--thread`, which one is run, counted from 0 over all groups: at most 63.
     pub thread: u16,
+}
+
+/// The options of `run`.
+#[derive(Drop)]
+pub struct Run {
+    /// `--seed`, of the random words. Each number of 64 bits is one.
+    pub seed: u64,
+    /// `--props`, which `__P` reads.
+    pub props: Props,
+    /// `--samples`, the most that each thread may take: 1 to 262,144.
+    pub samples: u32,
+    /// `--every`, how long an interval lasts: 1 to 3,600,000 milliseconds.
+    pub every: u32,
 }

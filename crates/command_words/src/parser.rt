@@ -4,7 +4,7 @@ ghost use Rattle.std.specs.Prelude.{◌≡◌, [], map, false, true, IfOk, Some,
 ghost use Rattle.clap.specs.Words.{app_of, rule_of, shape_of, subcommand_rows_of, with_rule, with_subcommand, fault_of, subcommand_of, is_simple_and_free};
 ghost use Rattle.clap.specs.Simple.{is_simple};
 ghost use Rattle.clap.specs.declared.builder.command.Command.TheViews.{out-Command as fields_of};
-ghost use Rattle.command_words.specs.Parser.{option_rule, make_app, solo_app, bare_app, jm_app};
+ghost use Rattle.command_words.specs.Parser.{option_rule, make_app, solo_app, run_app, bare_app, plain_app, jm_app};
 
 use crate::error::WordsError;
 use clap::builder::ValueParser;
@@ -65,6 +65,18 @@ fn solo_command<'a>(alloc: Global) -> Result<Command<'a>, AllocError>
     with_option(alloc, command, "thread")
 }
 
+/// `run` with its options.
+fn run_command<'a>(alloc: Global) -> Result<Command<'a>, AllocError>
+    ensures app { IfOk result (λ c. app_of c ≡ run_app) }
+    ensures globals { IfOk result (λ c. (fields_of c).has_globals ≡ false) }
+{
+    let command = Command::new(alloc, "run");
+    let command = with_option(alloc, command, "seed")?;
+    let command = with_option(alloc, command, "props")?;
+    let command = with_option(alloc, command, "samples")?;
+    with_option(alloc, command, "every")
+}
+
 /// The program without a command: one is asked for, and there is no help.
 fn bare_command<'a>(alloc: Global) -> Command<'a>
     ensures { app_of result ≡ bare_app }
@@ -76,14 +88,22 @@ fn bare_command<'a>(alloc: Global) -> Command<'a>
         .subcommand_required(true)
 }
 
-/// The program with all of its commands.
-pub(crate) fn jm_command<'a>(alloc: Global) -> Result<Command<'a>, AllocError>
-    ensures { IfOk result (λ c. app_of c ≡ jm_app) }
+/// The program with the commands that start no threads.
+fn plain_program<'a>(alloc: Global) -> Result<Command<'a>, AllocError>
+    ensures { IfOk result (λ c. app_of c ≡ plain_app) }
 {
     let command = bare_command(alloc);
     let command = with_command(command, Command::new(alloc, "check"))?;
     let command = with_command(command, make_command(alloc)?)?;
     with_command(command, solo_command(alloc)?)
+}
+
+/// The program with all of its commands.
+pub(crate) fn jm_command<'a>(alloc: Global) -> Result<Command<'a>, AllocError>
+    ensures { IfOk result (λ c. app_of c ≡ jm_app) }
+{
+    let command = plain_program(alloc)?;
+    with_command(command, run_command(alloc)?)
 }
 
 /// What a program's commands read in words.

@@ -4,15 +4,15 @@ ghost use Rattle.std.specs.Prelude.{◌≡◌, ◌≢◌, IsSome, IsNone, IsErr,
 ghost use Rattle.std.specs.List.{list_all};
 ghost use Rattle.clap.specs.Words.{app_of, subcommand_rows_of};
 ghost use Rattle.command_words.specs.Grammar.{Given, is_word};
-ghost use Rattle.command_words.specs.Commands.{CommandRule, make_of, solo_of, command_of};
+ghost use Rattle.command_words.specs.Commands.{CommandRule, make_of, shared_of, solo_of, run_of, command_of, names_run};
 ghost use Rattle.command_words.specs.Parser.{AreTaken, taken_rows};
 ghost use Rattle.command_words.specs.Spelling.{IsCommandLine, IsNoCommandLine};
 ghost use Rattle.command_words.specs.Shown.{shown_name, shown_value, Shows, ShowsReading, asked_by};
 
-use crate::command::{Command, Make, Solo};
+use crate::command::{Command, Make, Run, Solo};
 use crate::error::WordsError;
 use crate::parser::{jm_command, parse};
-use crate::value::{make_from, solo_from};
+use crate::value::{Shared, make_from, run_from, shared_from, solo_from};
 use clap::ArgMatches;
 use std::alloc::Global;
 
@@ -89,17 +89,46 @@ fn make(matches: &ArgMatches) -> Option<Make>
     make_from(option_value(matches, "size")?)
 }
 
+/// The options that `solo` and `run` share.
+fn shared(alloc: Global, matches: &ArgMatches) -> Result<Shared, WordsError>
+    ensures ok { IfOk result (λ s. shared_of (shown_value matches.now) ≡ Some s) }
+    ensures bad { result ≡ Err WordsError.BadWords → shared_of (shown_value matches.now) ≡ None }
+{
+    let seed = value_or(matches, "seed", "0");
+    let props = value_or(matches, "props", "");
+    let samples = value_or(matches, "samples", "65536");
+    match shared_from(alloc, seed, props, samples) {
+        Ok(shared) => Ok(shared),
+        Err(WordsError::BadWords) => Err(WordsError::BadWords),
+        Err(WordsError::NoMemory) => Err(WordsError::NoMemory),
+    }
+}
+
 /// The options of `solo`.
 fn solo(alloc: Global, matches: &ArgMatches) -> Result<Solo, WordsError>
     ensures ok { IfOk result (λ s. solo_of (shown_value matches.now) ≡ Some s) }
     ensures bad { result ≡ Err WordsError.BadWords → solo_of (shown_value matches.now) ≡ None }
 {
-    let seed = value_or(matches, "seed", "0");
-    let props = value_or(matches, "props", "");
-    let samples = value_or(matches, "samples", "65536");
-    let thread = value_or(matches, "thread", "0");
-    match solo_from(alloc, seed, props, samples, thread) {
-        Ok(solo) => Ok(solo),
+    match shared(alloc, matches) {
+        Ok(shared) => match solo_from(shared, value_or(matches, "thread", "0")) {
+            Some(solo) => Ok(solo),
+            None => Err(WordsError::BadWords),
+        },
+        Err(WordsError::BadWords) => Err(WordsError::BadWords),
+        Err(WordsError::NoMemory) => Err(WordsError::NoMemory),
+    }
+}
+
+/// The options of `run`.
+fn run(alloc: Global, matches: &ArgMatches) -> Result<Run, WordsError>
+    ensures ok { IfOk result (λ r. run_of (shown_value matches.now) ≡ Some r) }
+    ensures bad { result ≡ Err WordsError.BadWords → run_of (shown_value matches.now) ≡ None }
+{
+    match shared(alloc, matches) {
+        Ok(shared) => match run_from(shared, value_or(matches, "every", "1000")) {
+            Some(run) => Ok(run),
+            None => Err(WordsError::BadWords),
+        },
         Err(WordsError::BadWords) => Err(WordsError::BadWords),
         Err(WordsError::NoMemory) => Err(WordsError::NoMemory),
     }
@@ -129,7 +158,22 @@ fn command(alloc: Global, matches: &ArgMatches) -> Result<Command, WordsError>
             Err(WordsError::BadWords) => Err(WordsError::BadWords),
             Err(WordsError::NoMemory) => Err(WordsError::NoMemory),
         },
+        Some("run") => match run(alloc, matches) {
+            Ok(run) => Ok(Command::Run(run)),
+            Err(WordsError::BadWords) => Err(WordsError::BadWords),
+            Err(WordsError::NoMemory) => Err(WordsError::NoMemory),
+        },
         _ => Err(WordsError::BadWords),
+    }
+}
+
+/// Whether the first word is `run`.
+pub fn names_run(words: &[String]) -> bool
+    ensures { result ≡ names_run (map string_bytes words.now) }
+{
+    match words {
+        [word, ..] => word.as_str() == "run",
+        [] => false,
     }
 }
 

@@ -2,9 +2,9 @@
 
 ghost use Rattle.std.specs.Prelude.{◌≡◌, ◌≤◌, IfOk, IfSome, Some, None};
 ghost use Rattle.command_words.specs.Values.{number_between, properties_of};
-ghost use Rattle.command_words.specs.Commands.{make_from, solo_from};
+ghost use Rattle.command_words.specs.Commands.{make_from, shared_from, solo_from, run_from};
 
-use crate::command::{Make, Solo};
+use crate::command::{Make, Run, Solo};
 use crate::error::WordsError;
 use std::alloc::Global;
 use var_functions::{Props, PropsError};
@@ -56,16 +56,26 @@ pub(crate) fn make_from(size: &str) -> Option<Make>
     Some(Make { size: size as u16 })
 }
 
-/// The options of `solo` by the texts of their values.
-pub(crate) fn solo_from(
+/// The options that `solo` and `run` share.
+#[derive(Drop)]
+pub struct Shared {
+    /// `--seed`.
+    pub seed: u64,
+    /// `--props`.
+    pub props: Props,
+    /// `--samples`.
+    pub samples: u32,
+}
+
+/// The options that `solo` and `run` share, by the texts of their values.
+pub(crate) fn shared_from(
     alloc: Global,
     seed: &str,
     props: &str,
     samples: &str,
-    thread: &str,
-) -> Result<Solo, WordsError>
-    ensures ok { IfOk result (λ s. solo_from seed.now props.now samples.now thread.now ≡ Some s) }
-    ensures bad { result ≡ Err WordsError.BadWords → solo_from seed.now props.now samples.now thread.now ≡ None }
+) -> Result<Shared, WordsError>
+    ensures ok { IfOk result (λ s. shared_from seed.now props.now samples.now ≡ Some s) }
+    ensures bad { result ≡ Err WordsError.BadWords → shared_from seed.now props.now samples.now ≡ None }
 {
     let Some(seed) = number_between(0, u64::MAX, seed.as_bytes()) else {
         return Err(WordsError::BadWords);
@@ -73,17 +83,39 @@ pub(crate) fn solo_from(
     let Some(samples) = number_between(1, 262_144, samples.as_bytes()) else {
         return Err(WordsError::BadWords);
     };
-    let Some(thread) = number_between(0, 63, thread.as_bytes()) else {
-        return Err(WordsError::BadWords);
-    };
     match properties_of(alloc, props.as_bytes()) {
-        Ok(props) => Ok(Solo {
+        Ok(props) => Ok(Shared {
             seed,
             props,
             samples: samples as u32,
-            thread: thread as u16,
         }),
         Err(WordsError::BadWords) => Err(WordsError::BadWords),
         Err(WordsError::NoMemory) => Err(WordsError::NoMemory),
     }
+}
+
+/// The options of `solo`: those that it shares, and its own by the text of its value.
+pub(crate) fn solo_from(shared: Shared, thread: &str) -> Option<Solo>
+    ensures { result ≡ solo_from shared thread.now }
+{
+    let thread = number_between(0, 63, thread.as_bytes())?;
+    Some(Solo {
+        seed: shared.seed,
+        props: shared.props,
+        samples: shared.samples,
+        thread: thread as u16,
+    })
+}
+
+/// The options of `run`: those that it shares, and its own by the text of its value.
+pub(crate) fn run_from(shared: Shared, every: &str) -> Option<Run>
+    ensures { result ≡ run_from shared every.now }
+{
+    let every = number_between(1, 3_600_000, every.as_bytes())?;
+    Some(Run {
+        seed: shared.seed,
+        props: shared.props,
+        samples: shared.samples,
+        every: every as u32,
+    })
 }

@@ -18,7 +18,7 @@ use Rattle.element_tree.proofs.RefusalLaws.{own_reading}
 use Rattle.element_tree.specs.Tree.{Tree}
 use Rattle.element_tree.specs.Walk.{reading}
 use Rattle.command_words.specs.declared.command.Command.{Command}
-use Rattle.command_words.specs.declared.command.Command.TheVariants.{Check, Make, Solo}
+use Rattle.command_words.specs.declared.command.Command.TheVariants.{Check, Make, Solo, Run}
 use Rattle.jm_command.specs.declared.refusal.Refusal.{Refusal}
 use Rattle.jm_command.specs.declared.refusal.Refusal.TheVariants as refusals
 use Rattle.jm_command.specs.declared.status.Status.{Status}
@@ -69,6 +69,7 @@ module _ (command : Command) (bytes : List ℕ) where
 fit_status : (command : Command) (tree : Raw) (plan : Tree) → IsFit command tree plan → status_of_plan command tree plan ≡ 0
 fit_status Check tree plan fit = refl
 fit_status (Make m) tree plan fit = absurd fit
+fit_status (Run r) tree plan fit = absurd fit
 fit_status (Solo s) tree plan fit = rw (fit.built, fit.conditions) refl
 
 module _ (bytes : List ℕ) (within : length bytes ≤ plan_limit) (before after : Asked) (calm : Rose before.oversize after.oversize → ⊥) where
@@ -78,11 +79,13 @@ module _ (bytes : List ℕ) (within : length bytes ≤ plan_limit) (before after
   not_built_status : (command : Command) (path : _) → IsNotBuilt command bytes before after path → status_of_bytes command bytes ≡ 3
   not_built_status Check path is = absurd is
   not_built_status (Make m) path is = absurd is
+  not_built_status (Run r) path is = absurd is
   not_built_status (Solo s) path is = at_plan (Solo s) bytes within before after is.0 is.1 is.2 ∙ ap (λ o. status_of_fault o (status_of_fault (solo_fault is.1 s) 0)) is.3
 
   unfit_status : (command : Command) (e : BuildError) → IsUnfit command bytes before after e → status_of_bytes command bytes ≡ 3
   unfit_status Check e is = absurd is
   unfit_status (Make m) e is = absurd is
+  unfit_status (Run r) e is = absurd is
   unfit_status (Solo s) e is = at_plan (Solo s) bytes within before after is.0 is.1 is.2
       ∙ ap (λ o. status_of_fault o (status_of_fault (solo_fault is.1 s) 0)) is.3 ∙ ap (λ o. status_of_fault o 0) is.4
 
@@ -98,6 +101,7 @@ module _ (bytes : List ℕ) (within : length bytes ≤ plan_limit) (before after
 status_read : (command : Command) (bytes : List ℕ) → ReadsPlan command → status_for (Some command) bytes ≡ status_of_bytes command bytes
 status_read Check bytes reads = refl
 status_read (Make m) bytes reads = absurd reads
+status_read (Run r) bytes reads = absurd reads
 status_read (Solo s) bytes reads = refl
 
 took_all : (left left' : Option (List ℕ)) (bytes took : List ℕ) → left ≡ Some bytes → TookAll left left' took → took ≡ bytes
@@ -115,6 +119,7 @@ module _ (old new : Edges) (bytes : List ℕ) (told : old.left ≡ Some bytes) (
   plan_status : (command : Command) (plan : Tree) → HasPlan command old new plan → status_for (Some command) bytes ≡ 0
   plan_status Check plan has = accepts_status Check plan has
   plan_status (Make m) plan has = refl
+  plan_status (Run r) plan has = absurd has
   plan_status (Solo s) plan has = accepts_status (Solo s) plan has
 
   refuses_status : (command : Command) (refusal : Refusal) → Refuses command old new refusal → status_for (Some command) bytes ≡ 3

@@ -17,7 +17,7 @@ use Rattle.jm_command.specs.declared.refusal.Refusal.{Refusal}
 use Rattle.jm_command.specs.declared.refusal.Refusal.TheVariants.{TooLong, Shape, Build, NotBuilt, Unfit as Conditions}
 use Rattle.jm_command.specs.declared.judge.Judged.{Judged}
 use Rattle.jm_command.specs.declared.judge.Judged.TheVariants.{Fit, Unfit, NoMemory}
-use Rattle.command_words.specs.declared.command.Command.TheVariants.{Check, Make, Solo}
+use Rattle.command_words.specs.declared.command.Command.TheVariants.{Check, Make, Solo, Run}
 use Rattle.command_words.specs.declared.command.Make.{Make as MakeOf}
 use Rattle.command_words.specs.declared.command.Solo.{Solo as SoloOf}
 use Rattle.plan_json.specs.Shape.{Raw, reading_of}
@@ -68,6 +68,7 @@ has_thread plan s none = by_tests (nat_le (length (threads_of plan)) s.thread) (
 pub can_run : (command : Command) (bytes : List ℕ) (before after : Asked) (plan : Tree) → IsAccepted command bytes before after plan → CanRun command plan
 can_run Check bytes before after plan is = tt
 can_run (Make m) bytes before after plan is = absurd is.fit
+can_run (Run r) bytes before after plan is = absurd is.fit
 can_run (Solo s) bytes before after plan is = has_thread plan s is.fit.conditions
 
 keeps_same : (a b : Option (List ℕ)) → b ≡ a → Keeps a b
@@ -77,6 +78,7 @@ keeps_same a b is = subst (Keeps a) (sym is) (Keeps-refl a)
 plan_read : (command : Command) (old new : Edges) (plan : Tree) → ReadsPlan command → Accepts command old new plan → HasPlan command old new plan
 plan_read Check old new plan reads accepts = accepts
 plan_read (Make m) old new plan reads accepts = absurd reads
+plan_read (Run r) old new plan reads accepts = absurd reads
 plan_read (Solo s) old new plan reads accepts = accepts
 
 -- texts that are not out, of a command that has its plan

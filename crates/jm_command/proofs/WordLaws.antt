@@ -1,4 +1,4 @@
--- The size that `make` is given.
+-- The size that `make` is given, and that `run` is not asked for.
 use Rattle.std.proofs.Common.{◌≡◌, ℕ, Bool, true, false, List, [], ◌∷◌, Option, Some, None, refl, arith}
 use Rattle.std.specs.Prelude.{◌&&◌, nat_le, option_map, option_and_then, codes, if◌then◌else◌}
 use Rattle.std.specs.List.{list_all}
@@ -10,7 +10,7 @@ use Rattle.command_words.specs.declared.command.Command.TheVariants.{Make, Solo 
 use Rattle.command_words.specs.declared.command.Solo.{Solo}
 use Rattle.command_words.specs.Grammar.{Word, Given, is_word, given_for, value_of}
 use Rattle.command_words.specs.Values.{is_number}
-use Rattle.command_words.specs.Commands.{CommandRule, check, make, solo, make_from, solo_of, asked_of, command_of}
+use Rattle.command_words.specs.Commands.{CommandRule, check, make, solo, run, make_from, solo_of, asked_of, command_of, names_run}
 use Rattle.jm_command.specs.Parts.{IsInRange}
 
 sized : (n : ℕ) (b c d : Bool) → nat_le 1 n ≡ c → nat_le n 2047 ≡ d → IsInRange (option_map Make (option_map (λ k. record { size = k }) (if b && (c && d) then Some n else None)))
@@ -42,18 +42,20 @@ by_solo (Some given) = of_solo (solo_of (value_of given))
 abbrev by_rule : List Word → Option CommandRule → Option Command
 by_rule words rule = option_and_then (λ c. option_and_then (λ given. c.meaning (value_of given)) (given_for c.options words)) rule
 
-by_name : (words : List Word) (a b c : Bool) → IsInRange (by_rule words (if a then Some check else if b then Some make else if c then Some solo else None))
-by_name words true b c = by_check (given_for check.options words)
-by_name words false true c = by_make (given_for make.options words)
-by_name words false false true = by_solo (given_for solo.options words)
-by_name words false false false = tt
+by_name : (words : List Word) (a b c d : Bool) → d ≡ false
+    → IsInRange (by_rule words (if a then Some check else if b then Some make else if c then Some solo else if d then Some run else None))
+by_name words true b c d other = by_check (given_for check.options words)
+by_name words false true c d other = by_make (given_for make.options words)
+by_name words false false true d other = by_solo (given_for solo.options words)
+by_name words false false false true other = absurd cc
+by_name words false false false false other = tt
 
-asked : (words : List Word) → IsInRange (asked_of words)
-asked [] = tt
-asked (word ∷ words) = by_name words (bytes_eq (codes "check") word) (bytes_eq (codes "make") word) (bytes_eq (codes "solo") word)
+asked : (words : List Word) → names_run words ≡ false → IsInRange (asked_of words)
+asked [] other = tt
+asked (word ∷ words) other = by_name words (bytes_eq check.name word) (bytes_eq make.name word) (bytes_eq solo.name word) (bytes_eq run.name word) other
 
-pub in_range : (words : List Word) → IsInRange (command_of words)
-in_range words = by_test (list_all is_word words) where
+pub in_range : (words : List Word) → names_run words ≡ false → IsInRange (command_of words)
+in_range words other = by_test (list_all is_word words) where
   by_test : (b : Bool) → IsInRange (if b then asked_of words else None)
-  by_test true = asked words
+  by_test true = asked words other
   by_test false = tt

@@ -13,7 +13,7 @@ use Rattle.element_tree.specs.Walk.{reading}
 use Rattle.jm_command.specs.declared.status.Status.{Status}
 use Rattle.jm_command.specs.declared.status.Status.TheVariants.{Done, Usage, Refused, ReadFault, WriteFault, Memory}
 use Rattle.command_words.specs.declared.command.Command.{Command}
-use Rattle.command_words.specs.declared.command.Command.TheVariants.{Check, Make, Solo}
+use Rattle.command_words.specs.declared.command.Command.TheVariants.{Check, Make, Solo, Run}
 use Rattle.command_words.specs.declared.command.Make.{Make as MakeOf}
 use Rattle.plan_maker.specs.Generated.{generated}
 use Rattle.jm_command.specs.declared.refusal.Refusal.{Refusal}
@@ -72,6 +72,7 @@ abbrev pub HasPlan : Command → Edges → Edges → Tree → Type 0
 HasPlan Check old new plan = Accepts Check old new plan
 HasPlan (Make m) old new plan = Makes m old new plan
 HasPlan (Solo s) old new plan = Accepts (Solo s) old new plan
+HasPlan (Run r) old new plan = ⊥
 
 -- the plan has more bytes than its limit
 pub record RefusesLong (old new : Edges) (refusal : Refusal) : Type 0 where
@@ -206,6 +207,7 @@ status_of_fault (Some fault) otherwise = 3
 abbrev pub status_of_plan : Command → Raw → Tree → ℕ
 status_of_plan Check tree plan = 0
 status_of_plan (Make m) tree plan = 0
+status_of_plan (Run r) tree plan = 0
 status_of_plan (Solo s) tree plan = status_of_fault (not_built tree plan.elements) (status_of_fault (solo_fault plan s) 0)
 
 abbrev pub status_of_outcome : Command → Raw → Result Tree BuildError → ℕ
@@ -226,3 +228,4 @@ status_for None bytes = 2
 status_for (Some Check) bytes = status_of_bytes Check bytes
 status_for (Some (Make m)) bytes = 0
 status_for (Some (Solo s)) bytes = status_of_bytes (Solo s) bytes
+status_for (Some (Run r)) bytes = 0

@@ -8,7 +8,7 @@ use Rattle.element_tree.specs.Tree.{Tree, threads_of}
 use Rattle.jm_command.specs.declared.status.Status.{Status}
 use Rattle.jm_command.specs.declared.status.Status.TheVariants.{Done, Usage, Refused, ReadFault, WriteFault, Memory}
 use Rattle.command_words.specs.declared.command.Command.{Command}
-use Rattle.command_words.specs.declared.command.Command.TheVariants.{Check, Make, Solo as SoloCommand}
+use Rattle.command_words.specs.declared.command.Command.TheVariants.{Check, Make, Solo as SoloCommand, Run}
 use Rattle.command_words.specs.declared.command.Make.{Make as MakeOf}
 use Rattle.command_words.specs.declared.command.Solo.{Solo}
 use Rattle.plan_json.specs.Shape.{Raw}
@@ -135,6 +135,7 @@ IsInRange None = Unit {0}
 IsInRange (Some Check) = Unit {0}
 IsInRange (Some (Make m)) = HasSize m
 IsInRange (Some (SoloCommand s)) = Unit {0}
+IsInRange (Some (Run r)) = ⊥
 
 -- ---- the plan of some bytes
 
@@ -154,6 +155,7 @@ abbrev pub CanRun : Command → Tree → Type 0
 CanRun Check plan = Unit {0}
 CanRun (Make m) plan = HasThread default_solo plan
 CanRun (SoloCommand s) plan = HasThread s plan
+CanRun (Run r) plan = ⊥
 
 -- a plan of which one thread can be run, or why it can't
 abbrev pub JudgesSolo : Solo → Raw → Tree → Judged → Type 0

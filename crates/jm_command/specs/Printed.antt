@@ -15,7 +15,7 @@ use Rattle.interval_tables.specs.declared.report.Report.{Report}
 use Rattle.interval_tables.specs.Rows.{sum_of}
 use Rattle.command_words.specs.declared.command.Solo.{Solo}
 use Rattle.command_words.specs.declared.command.Command.{Command}
-use Rattle.command_words.specs.declared.command.Command.TheVariants.{Check, Make, Solo as SoloCommand}
+use Rattle.command_words.specs.declared.command.Command.TheVariants.{Check, Make, Solo as SoloCommand, Run}
 use Rattle.jm_meaning.specs.declared.item.Item.{Item}
 use Rattle.jm_meaning.specs.declared.item.Item.TheVariants.{Paused, Sampled, Null, Entered, Left, Ended}
 use Rattle.jm_meaning.specs.Beginning.{Options}
@@ -120,12 +120,14 @@ abbrev pub results_for : Command → Tree → List ℕ
 results_for Check plan = plan_text plan ++ codes "\n"
 results_for (Make m) plan = []
 results_for (SoloCommand s) plan = results_of plan s.thread (shown_of plan s)
+results_for (Run r) plan = []
 
 -- the report of a command on a plan: for `check` nothing, for `solo` the summary and the end line, and for `make` those of a `solo` without options
 abbrev pub report_for : Command → Tree → List ℕ
 report_for Check plan = []
 report_for (Make m) plan = report_of plan default_solo.thread (shown_of plan default_solo)
 report_for (SoloCommand s) plan = report_of plan s.thread (shown_of plan s)
+report_for (Run r) plan = []
 
 -- a thread has shown these items, and this is its report
 pub record HasShown (plan : Tree) (s : Solo) (items : List Item) (report : List ℕ) : Type 0 where
@@ -137,6 +139,7 @@ pub record HasShown (plan : Tree) (s : Solo) (items : List Item) (report : List 
 abbrev pub MayPrint : Command → Tree → List ℕ → List ℕ → Type 0
 MayPrint Check plan results report = (results ≡ results_for Check plan) × (report ≡ [])
 MayPrint (Make m) plan results report = (results ≡ []) × ((items : List Item) × HasShown plan default_solo items report)
+MayPrint (Run r) plan results report = ⊥
 MayPrint (SoloCommand s) plan results report = (items : List Item) × (results ≡ results_of plan s.thread items) × HasShown plan s items report
 
 -- the texts of a command on a plan; where they are not whole, memory ran out

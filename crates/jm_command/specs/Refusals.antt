@@ -16,7 +16,7 @@ use Rattle.element_tree.specs.Tree.{Tree, threads_of}
 use Rattle.element_tree.specs.Walk.{is_enabled, reading}
 use Rattle.jm_meaning.specs.Runs.{runs}
 use Rattle.command_words.specs.declared.command.Command.{Command}
-use Rattle.command_words.specs.declared.command.Command.TheVariants.{Check, Make, Solo}
+use Rattle.command_words.specs.declared.command.Command.TheVariants.{Check, Make, Solo, Run}
 use Rattle.command_words.specs.declared.command.Solo.{Solo as SoloOf}
 use Rattle.jm_command.specs.declared.refusal.Refusal.{Refusal}
 use Rattle.jm_command.specs.declared.refusal.Refusal.TheVariants as refusals
@@ -47,11 +47,12 @@ not_built tree elements = option_map (place_at tree) (position does_not_run elem
 
 -- ---- what a command asks of a plan
 
--- `make` makes its plan, and the others read theirs
+-- `check` and `solo` read their plan; `make` makes its own, and `run` is not among the commands that are run here
 abbrev pub ReadsPlan : Command → Type 0
 ReadsPlan Check = Unit {0}
 ReadsPlan (Make m) = ⊥
 ReadsPlan (Solo s) = Unit {0}
+ReadsPlan (Run r) = ⊥
 
 -- a thread that the plan has, and a sample budget that all its threads can have
 abbrev pub solo_fault : Tree → SoloOf → Option BuildError
@@ -69,6 +70,7 @@ abbrev pub IsFit : Command → Raw → Tree → Type 0
 IsFit Check tree plan = Unit {0}
 IsFit (Make m) tree plan = ⊥
 IsFit (Solo s) tree plan = RunsAlone tree plan s
+IsFit (Run r) tree plan = ⊥
 
 -- ---- acceptance and refusal
 
@@ -87,6 +89,7 @@ pub record IsAccepted (command : Command) (bytes : List ℕ) (before after : Ask
 abbrev pub IsNotBuilt : Command → List ℕ → Asked → Asked → Place → Type 0
 IsNotBuilt Check bytes before after path = ⊥
 IsNotBuilt (Make m) bytes before after path = ⊥
+IsNotBuilt (Run r) bytes before after path = ⊥
 IsNotBuilt (Solo s) bytes before after path =
     (tree : Raw) × (plan : Tree) × IsPlanOf bytes before after tree plan × (not_built tree plan.elements ≡ Some path)
 
@@ -94,6 +97,7 @@ IsNotBuilt (Solo s) bytes before after path =
 abbrev pub IsUnfit : Command → List ℕ → Asked → Asked → BuildError → Type 0
 IsUnfit Check bytes before after e = ⊥
 IsUnfit (Make m) bytes before after e = ⊥
+IsUnfit (Run r) bytes before after e = ⊥
 IsUnfit (Solo s) bytes before after e =
     (tree : Raw) × (plan : Tree) × IsPlanOf bytes before after tree plan × (not_built tree plan.elements ≡ None) × (solo_fault plan s ≡ Some e)
 

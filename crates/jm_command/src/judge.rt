@@ -47,7 +47,7 @@ pub fn judge<G: Patterns>(
     };
     match command {
         Command::Check => Judged::Fit(plan),
-        Command::Make(_) => unreachable!(),
+        Command::Make(_) | Command::Run(_) => unreachable!(),
         Command::Solo(solo) => fit_to_run(alloc, solo, &tree, plan),
     }
 }

@@ -1,9 +1,9 @@
 // The program as a function of its words, its source, its sinks and its maker of patterns.
 
-ghost use Rattle.std.specs.Prelude.{◌≡◌, ◌⊎◌, map, string_bytes, List, ℕ, Some, None};
+ghost use Rattle.std.specs.Prelude.{◌≡◌, ◌⊎◌, map, string_bytes, List, ℕ, false, Some, None};
 ghost use Rattle.command_words.specs.declared.command.Command.{Command};
 ghost use Rattle.command_words.specs.declared.command.Command.TheVariants.{Make as MakeCommand};
-ghost use Rattle.command_words.specs.Commands.{command_of};
+ghost use Rattle.command_words.specs.Commands.{command_of, names_run};
 ghost use Rattle.jm_command.specs.Command.{Says, IsStatus, IsDone, IsUsage, IsRefusal, IsUnread, IsUnwritten, NoRise, status_for, edges};
 ghost use Rattle.plan_maker.specs.Generated.{generated};
 ghost use Rattle.jm_command.specs.Refusals.{ReadsPlan};
@@ -26,7 +26,7 @@ const PLAN_LIMIT: u32 = 4_194_304;
 
 /// Runs the program on its words, without its own name. The plan is read from `plan`, except by `make`, which makes its own;
 /// the results go to `results`, and the summary and the end line, the usage line or a refusal line to `reports`. `patterns`
-/// makes the plan's patterns. It gives the exit status.
+/// makes the plan's patterns. It gives the exit status. `run` is not among its commands.
 pub fn plain_command<S: Source, O: Sink, E: Sink, G: Patterns>(
     alloc: Global,
     words: &Vec<String>,
@@ -35,6 +35,7 @@ pub fn plain_command<S: Source, O: Sink, E: Sink, G: Patterns>(
     reports: &mut E,
     patterns: &mut G,
 ) -> u8
+    requires { names_run (map string_bytes words.now.items) ≡ false }
     ensures status { IsStatus result }
     ensures done { result ≡ 0 → (command : Command) × (command_of (map string_bytes words.now.items) ≡ Some command) × IsDone command
         (edges (S.left plan.old) (S.faults plan.old) (O.written results.old) (O.faults results.old) (E.written reports.old) (E.faults reports.old) (G.account patterns.old))
@@ -70,6 +71,7 @@ fn run_words<S: Source, O: Sink, E: Sink, G: Patterns>(
     reports: &mut E,
     patterns: &mut G,
 ) -> Status
+    requires { names_run (map string_bytes words.now.items) ≡ false }
     ensures { Says (command_of (map string_bytes words.now.items))
         (edges (S.left plan.old) (S.faults plan.old) (O.written results.old) (O.faults results.old) (E.written reports.old) (E.faults reports.old) (G.account patterns.old))
         (edges (S.left plan.new) (S.faults plan.new) (O.written results.new) (O.faults results.new) (E.written reports.new) (E.faults reports.new) (G.account patterns.new))
@@ -103,6 +105,7 @@ fn run_command<S: Source, O: Sink, E: Sink, G: Patterns>(
             Status::Usage,
         ),
         Some(Command::Make(make)) => run_made(alloc, make, results, reports),
+        Some(Command::Run(_)) => unreachable!(),
         Some(command) => run_read(alloc, &command, plan, results, reports, patterns),
     }
 }

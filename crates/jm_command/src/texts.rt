@@ -40,6 +40,7 @@ pub fn texts_of(alloc: Global, command: &Command, plan: &Plan) -> M<Texts>
         Command::Check => plan_texts(alloc, plan),
         Command::Make(_) => made_texts(alloc, plan),
         Command::Solo(solo) => solo_texts(alloc, solo, plan),
+        Command::Run(_) => unreachable!(),
     }
 }
 

@@ -1,6 +1,10 @@
 //! `jm`: runs JMeter test plans that are written as JSON.
 #![tactic(auto)]
 
+ghost use Rattle.std.specs.Prelude.{◌≡◌, map, false, string_bytes};
+ghost use Rattle.command_words.specs.Commands.{names_run};
+
+use command_words::names_run;
 use edge_io::{FromRead, IntoWrite};
 use element_tree::RegexPatterns;
 use jm_base::{M, NoMemory};
@@ -23,11 +27,24 @@ fn words_of(rt: &HostRuntime, alloc: Global) -> M<Vec<String>> {
     Ok(words)
 }
 
+// The words, but none in the place of those that begin with `run`: that command is still to come, and is refused as an unknown
+// one is.
+fn without_run(alloc: Global, words: Vec<String>) -> Vec<String>
+    ensures { names_run (map string_bytes result.items) ≡ false }
+{
+    if names_run(&words) {
+        Vec::new(alloc)
+    } else {
+        words
+    }
+}
+
 fn main(rt: HostRuntime) -> ExitCode {
     let alloc = rt.alloc();
     let Ok(words) = words_of(&rt, alloc) else {
         return ExitCode::from(Status::Memory.number());
     };
+    let words = without_run(alloc, words);
     let mut plan = FromRead::new(rt.stdin());
     let mut results = IntoWrite::new(rt.stdout());
     let mut reports = IntoWrite::new(rt.stderr());

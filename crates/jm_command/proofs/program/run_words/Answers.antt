@@ -3,7 +3,7 @@ use Rattle.jm_command.proofs.WordLaws.{in_range}
 use Rattle.jm_command.proofs.program.run_words.Goals as goal
 
 pub run_command-requires : goal.run_command-requires
-run_command-requires g c = rw c.in-Ok.ensures (in_range (map string_bytes c.args.words.now.items))
+run_command-requires g c = rw c.in-Ok.ensures (in_range (map string_bytes c.args.words.now.items) c.requires)
 
 pub returns-in-Ok : goal.returns-in-Ok
 returns-in-Ok g c = rw (← c.in-Ok.ensures) c.run_command.ensures
