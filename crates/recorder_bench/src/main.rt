@@ -6,9 +6,10 @@
 ghost use Rattle.std.specs.Prelude.{◌≡◌, ◌+◌, ◌<◌, ◌≤◌, ◌*◌, [], All, length, IfOk};
 ghost use Rattle.recorder_core.specs.Seats.{IsReporter, IsWriter, numbers_of, reports, writes};
 
+use interval_reporter::close_interval;
 use interval_tables::{Report, Row};
 use jm_base::{Entry, NoMemory};
-use recorder_core::{Poll, Recorder, ReporterSeat, Steps, WriterSeat};
+use recorder_core::{Recorder, ReporterSeat, Steps, WriterSeat};
 use std::alloc::Global;
 use std::marker::Brand;
 use std::rt::Clock;
@@ -106,32 +107,6 @@ fn record_in_threads<R: Threads + Sync>(
     ended.store(1, Ordering::SeqCst);
 }
 
-/// Closes the interval.
-fn close<R: Wait>(
-    rt: &R,
-    recorder: &Recorder,
-    seat: ReporterSeat,
-    into: &mut Report,
-) -> ReporterSeat
-    requires seat { IsReporter recorder.now seat }
-    requires few { (reports seat).interval < 16000000 }
-    requires rows { length into.old.rows ≡ (numbers_of recorder.now).labels }
-    ensures seat { IsReporter recorder.now result }
-    ensures next { (reports result).interval ≡ (reports seat).interval + 1 }
-    ensures rows { length into.new.rows ≡ (numbers_of recorder.now).labels }
-{
-    let mut closing = recorder.begin(seat);
-    for _ in rt.forever() {
-        if closing.is_settled() {
-            break;
-        }
-        if let Poll::NotYet { .. } = recorder.poll(&mut closing) {
-            thread::yield_now();
-        }
-    }
-    recorder.harvest(closing, into)
-}
-
 /// Closes intervals until all have ended, and once more.
 fn report_until<R: Wait + Clock>(
     rt: &R,
@@ -156,7 +131,7 @@ fn report_until<R: Wait + Clock>(
     for interval in 0..16_000_000u32 {
         let _interval = interval;
         let over = ended.load(Ordering::SeqCst) == 1;
-        seat = close(rt, recorder, seat, &mut report);
+        seat = close_interval(rt, recorder, seat, &mut report);
         totals.add(report.rows.as_slice());
         if over {
             break;

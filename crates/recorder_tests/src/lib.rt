@@ -4,6 +4,8 @@
 #[cfg(test)]
 mod recorder;
 #[cfg(test)]
+mod reporter;
+#[cfg(test)]
 mod schedules;
 #[cfg(test)]
 mod words;

@@ -2,6 +2,7 @@
 ghost use Rattle.std.specs.Prelude.{◌≡◌, ◌+◌, ◌<◌, ◌≤◌, [], length};
 ghost use Rattle.recorder_core.specs.Seats.{writes, reports, numbers_of, IsWriter, IsReporter};
 
+use interval_reporter::close_interval;
 use interval_tables::{Report, Row};
 use jm_base::Entry;
 use recorder_core::{Poll, Recorder, ReporterSeat, Steps, WriterSeat};
@@ -10,7 +11,6 @@ use std::process::Abort;
 use std::sync::Wait;
 use std::sync::ledger::{Blank, Ledger};
 use std::test::Fail;
-use std::thread;
 use std::thread::{Threads, join};
 
 // Records one entry of label 0.
@@ -38,7 +38,8 @@ fn record_one<L: Ledger>(
     recorder.record(seat, entry, &mut steps)
 }
 
-fn record(recorder: &Recorder, seat: &mut WriterSeat, ok: bool, elapsed: u32) -> u64
+// Records one entry of label 0, and counts no steps.
+pub(crate) fn record(recorder: &Recorder, seat: &mut WriterSeat, ok: bool, elapsed: u32) -> u64
     requires seat { IsWriter recorder.now seat.old }
     requires room { length (writes seat.old).list < (numbers_of recorder.now).budget }
     requires label { 0 < (numbers_of recorder.now).labels }
@@ -46,33 +47,6 @@ fn record(recorder: &Recorder, seat: &mut WriterSeat, ok: bool, elapsed: u32) ->
     ensures list { length (writes seat.new).list ≡ length (writes seat.old).list + 1 }
 {
     record_one::<Brand>(recorder, seat, ok, elapsed, Blank::new(1))
-}
-
-// Closes the interval.
-fn close<R: Wait>(
-    rt: &R,
-    recorder: &Recorder,
-    seat: ReporterSeat,
-    into: &mut Report,
-) -> ReporterSeat
-    requires seat { IsReporter recorder.now seat }
-    requires few { (reports seat).interval < 1000 }
-    requires rows { length into.old.rows ≡ (numbers_of recorder.now).labels }
-    ensures seat { IsReporter recorder.now result }
-    ensures next { (reports result).interval ≡ (reports seat).interval + 1 }
-    ensures joined { (reports result).joined ≡ (reports seat).joined }
-    ensures rows { length into.new.rows ≡ (numbers_of recorder.now).labels }
-{
-    let mut closing = recorder.begin(seat);
-    for _ in rt.forever() {
-        if closing.is_settled() {
-            break;
-        }
-        if let Poll::NotYet { .. } = recorder.poll(&mut closing) {
-            thread::yield_now();
-        }
-    }
-    recorder.harvest(closing, into)
 }
 
 #[test]
@@ -167,7 +141,7 @@ fn close_often<R: Wait>(
     let mut count = 0u64;
     for interval in 0..200u32 {
         let _interval = interval;
-        seat = close(rt, recorder, seat, &mut report);
+        seat = close_interval(rt, recorder, seat, &mut report);
         for row in report.rows.as_slice() {
             count = count.wrapping_add(row.count);
         }
