@@ -1,5 +1,5 @@
 -- What the parts of the program say makes what the whole says.
-use Rattle.std.proofs.Common.{◌≡◌, ℕ, ◌+◌, ◌*◌, ◌≤◌, ◌<◌, Bool, true, false, List, [], length, Option, Some, None, refl, sym, subst, inl, inr, arith}
+use Rattle.std.proofs.Common.{◌≡◌, ℕ, ◌+◌, ◌*◌, ◌≤◌, ◌<◌, Bool, true, false, List, [], length, Option, Some, None, refl, sym, subst, ap, ◌∙◌, inl, inr, arith}
 use Rattle.std.specs.Prelude.{◌⊎◌, Ok, nat_le, if◌then◌else◌}
 use Rattle.std.proofs.lemmas.Bool.Decides.{nat_tests}
 use Rattle.std.proofs.lemmas.Nat.{mul-le}
@@ -7,7 +7,8 @@ use Rattle.plan_json.specs.Place.{at}
 use Rattle.element_props.specs.declared.error.BuildError.TheVariants as builds
 use Rattle.element_props.specs.declared.error.What.TheVariants as whats
 use Rattle.std.specs.Io.KnownBytes.{Keeps}
-use Rattle.edge_io.specs.Edges.{TookAll, TookCount}
+use Rattle.std.proofs.lemmas.List.{drop_all}
+use Rattle.edge_io.specs.Edges.{TookAll, TookCount, TookAtMost}
 use Rattle.edge_io.proofs.EdgeLaws.{Keeps-refl}
 use Rattle.element_props.specs.Patterns.{Asked}
 use Rattle.element_tree.specs.Tree.{Tree, threads_of}
@@ -27,8 +28,9 @@ use Rattle.jm_command.specs.declared.status.Status.{Status}
 use Rattle.jm_command.specs.declared.status.Status.TheVariants.{Done, Usage, Refused, ReadFault, WriteFault, Memory}
 use Rattle.jm_command.specs.Refusals.{ReadsPlan, IsAccepted, IsRefused, solo_fault, refusal_line}
 use Rattle.jm_command.specs.Printed.{results_for, report_for, MayPrint}
-use Rattle.jm_command.specs.Command.{plan_limit, Edges, edges, Accepts, Makes, HasPlan, Refuses, IsDone, IsRefusal, LineUnwritten, ResultsUnwritten, ReportUnwritten, Says, NothingRead, usage_line}
-use Rattle.jm_command.specs.Parts.{Sinks, NoResults, LineOut, LineFailed, LineSays, BothOut, ResultsFailed, ReportFailed, PlanSays, RefusalSays, BytesSay, Judges, JudgesSolo, HasThread, CanRun}
+use Rattle.trace_output.specs.Printing.{TextOut, TextFailed}
+use Rattle.jm_command.specs.Command.{plan_limit, Edges, edges, Accepts, Makes, HasPlan, Refuses, IsDone, IsRefusal, LineUnwritten, ResultsUnwritten, ReportUnwritten, NothingPrinted, ResultsCut, ReportCut, IsCutShort, Says, NothingRead, usage_line}
+use Rattle.jm_command.specs.Parts.{Sinks, NoResults, NothingOut, LineSays, BothOut, ResultsFailed, ReportFailed, ResultsShort, ReportShort, PlanSays, RefusalSays, BytesSay, Judges, JudgesSolo, HasThread, CanRun}
 
 -- a plan of which one thread can be run, or why it can't, is what the command finds of the bytes
 pub judges_solo : (s : SoloOf) (bytes : List ℕ) (before after : Asked) (tree : Raw) (plan : Tree) → reading_of bytes ≡ Ok tree → Goes before (reading tree) (over plan) after
@@ -50,7 +52,7 @@ refusal_said command bytes before after old new refusal is none Usage s = absurd
 refusal_said command bytes before after old new refusal is none Refused s = (refusal, is, none, s)
 refusal_said command bytes before after old new refusal is none ReadFault s = absurd s
 refusal_said command bytes before after old new refusal is none WriteFault s = inl (refusal, is, none, s)
-refusal_said command bytes before after old new refusal is none Memory s = tt
+refusal_said command bytes before after old new refusal is none Memory s = inl (record { results = none; reports = record { reports = s.0; report_faults = s.1 } })
 
 -- one thread of the plan can be run, where the conditions of that hold
 has_thread : (plan : Tree) (s : SoloOf) → solo_fault plan s ≡ None → HasThread s plan
@@ -115,6 +117,60 @@ texts_unwritten left left' read read' old new asked asked' command calm plan has
   })
 ]
 
+-- ---- where memory runs out
+
+took_none : (left : Option (List ℕ)) → TookCount left left 0
+took_none None = tt
+took_none (Some l) = (omega arith, refl)
+
+took_whole : (left left' : Option (List ℕ)) (bytes : List ℕ) → TookAll left left' bytes → TookCount left left' (length bytes)
+took_whole None left' bytes took = tt
+took_whole (Some l) left' bytes took = (omega (arith, ap length took.0), took.1 ∙ ap Some (sym (drop_all (length bytes) l (omega (arith, ap length took.0)))))
+
+-- nothing is printed, whatever the words are
+pub cut_with_nothing : (words : Option Command) (old new : Edges) → NothingPrinted old new → IsCutShort words old new
+cut_with_nothing None old new nothing = nothing
+cut_with_nothing (Some command) old new nothing = inl nothing
+
+-- memory ran out before anything was read or printed
+pub cut_at_start : (words : Option Command) (edges : Edges) → IsCutShort words edges edges
+cut_at_start words edges = cut_with_nothing words edges edges (record {
+  took = (0, omega arith, took_none edges.left);
+  results = Keeps-refl edges.results;
+  reports = Keeps-refl edges.reports;
+  no_fault = record { source = refl; results = refl; reports = refl };
+})
+
+-- texts that are cut short, of a command that has its plan
+texts_cut : (left left' : Option (List ℕ)) (read read' : ℕ) (old new : Sinks) (asked asked' : Asked) (command : Command)
+    → let before = edges left read old.results old.result_faults old.reports old.report_faults asked in
+    let after = edges left' read' new.results new.result_faults new.reports new.report_faults asked' in
+    read' ≡ read → (plan : Tree) → HasPlan command before after plan → (results report : List ℕ) → MayPrint command plan results report
+    → ResultsShort results old new ⊎ ReportShort results report old new
+    → ResultsCut command before after ⊎ ReportCut command before after
+texts_cut left left' read read' old new asked asked' command calm plan has results report may short = elim short [
+  | inl r ↦ inl (record {
+    plan = plan;
+    text = results;
+    report = report;
+    has_plan = has;
+    may = may;
+    results = r.part;
+    reports = keeps_same old.reports new.reports r.nothing.reports;
+    no_fault = record { source = calm; results = r.calm; reports = r.nothing.report_faults };
+  })
+  | inr r ↦ inr (record {
+    plan = plan;
+    text = results;
+    report = report;
+    has_plan = has;
+    may = may;
+    results = r.results_out;
+    reports = r.part;
+    no_fault = record { source = calm; results = r.result_calm; reports = r.calm };
+  })
+]
+
 module _ (left left' : Option (List ℕ)) (read read' : ℕ) (old new : Sinks) (asked asked' : Asked) (calm : read' ≡ read) (command : Command) (reads : ReadsPlan command) where
   abbrev before : Edges
   before = edges left read old.results old.result_faults old.reports old.report_faults asked
@@ -123,13 +179,22 @@ module _ (left left' : Option (List ℕ)) (read read' : ℕ) (old new : Sinks) (
   after = edges left' read' new.results new.result_faults new.reports new.report_faults asked'
 
   -- a line that is not out whole, where the results were left alone
-  line_unwritten : {line : List ℕ} → NoResults old new → LineFailed line old.reports new.reports old.report_faults new.report_faults → LineUnwritten before after line
+  line_unwritten : {line : List ℕ} → NoResults old new → TextFailed line old.reports new.reports old.report_faults new.report_faults → LineUnwritten before after line
   line_unwritten none failed = record {
     rose = failed.rose;
     results = keeps_same old.results new.results none.results;
-    reports = failed.some;
+    reports = failed.front;
     read_calm = calm;
     result_calm = none.result_faults;
+  }
+
+  -- nothing is printed after these bytes were taken
+  pub nothing_said : TookAtMost left left' (plan_limit + 1) → NothingOut old new → NothingPrinted before after
+  nothing_said took nothing = record {
+    took = took;
+    results = keeps_same old.results new.results nothing.results.results;
+    reports = keeps_same old.reports new.reports nothing.reports.reports;
+    no_fault = record { source = calm; results = nothing.results.result_faults; reports = nothing.reports.report_faults };
   }
 
   -- a plan with more bytes than its limit
@@ -151,7 +216,8 @@ module _ (left left' : Option (List ℕ)) (read read' : ℕ) (old new : Sinks) (
   long_said took still none ReadFault s = absurd s
   long_said took still none WriteFault s =
       inl (TooLong, (reads, inl (record { long = took; refusal_is = refl; asked = still })), line_unwritten none s)
-  long_said took still none Memory s = tt
+  long_said took still none Memory s =
+      inl (nothing_said (plan_limit + 1, omega arith, took) (record { results = none; reports = record { reports = s.0; report_faults = s.1 } }))
 
   module _ (bytes : List ℕ) (within : length bytes ≤ plan_limit) (took : TookAll left left' bytes) where
     has_plan : (plan : Tree) → IsAccepted command bytes asked asked' plan → HasPlan command before after plan
@@ -169,7 +235,7 @@ module _ (left left' : Option (List ℕ)) (read read' : ℕ) (old new : Sinks) (
       no_fault = record { source = calm; results = out.result_calm; reports = out.report_calm };
     }
 
-    is_refusal : (refusal : Refusal) → IsRefused command bytes asked asked' refusal → NoResults old new → LineOut (refusal_line refusal) old.reports new.reports old.report_faults new.report_faults
+    is_refusal : (refusal : Refusal) → IsRefused command bytes asked asked' refusal → NoResults old new → TextOut (refusal_line refusal) old.reports new.reports old.report_faults new.report_faults
         → IsRefusal command before after
     is_refusal refusal is none out = record {
       refusal = refusal;
@@ -188,7 +254,13 @@ module _ (left left' : Option (List ℕ)) (read read' : ℕ) (old new : Sinks) (
       | inl r ↦ inl (r.0, refuses r.0 r.1, line_unwritten r.2 r.3)
       | inr r ↦ inr (texts_unwritten left left' read read' old new asked asked' command calm r.0 (has_plan r.0 r.1) r.2.0 r.2.1 r.2.2 r.2.3)
     ]
-    bytes_said Memory s = tt
+    bytes_said Memory s = elim s [
+      | inl nothing ↦ inl (nothing_said (length bytes, omega (arith, within), took_whole left left' bytes took) nothing)
+      | inr r ↦ elim r.2 [
+        | inl nothing ↦ inl (nothing_said (length bytes, omega (arith, within), took_whole left left' bytes took) nothing)
+        | inr t ↦ inr (texts_cut left left' read read' old new asked asked' command calm r.0 (has_plan r.0 r.1) t.0 t.1 t.2 t.3)
+      ]
+    ]
 
 -- a plan that was made, where nothing was read and no pattern was asked for
 module _ (left : Option (List ℕ)) (read : ℕ) (old new : Sinks) (asked : Asked) (m : MakeOf) where
@@ -217,7 +289,15 @@ module _ (left : Option (List ℕ)) (read : ℕ) (old new : Sinks) (asked : Aske
   made_said Refused s = absurd s
   made_said ReadFault s = absurd s
   made_said WriteFault s = inr (texts_unwritten left left read read old new asked asked (Make m) refl (generated m.size) makes s.0 s.1 s.2 s.3)
-  made_said Memory s = tt
+  made_said Memory s = elim s [
+    | inl nothing ↦ inl (record {
+      took = (0, omega arith, took_none left);
+      results = keeps_same old.results new.results nothing.results.results;
+      reports = keeps_same old.reports new.reports nothing.reports.reports;
+      no_fault = record { source = refl; results = nothing.results.result_faults; reports = nothing.reports.report_faults };
+    })
+    | inr t ↦ inr (texts_cut left left read read old new asked asked (Make m) refl (generated m.size) makes t.0 t.1 t.2 t.3)
+  ]
 
 -- the usage line, of words that are not a command: nothing was read
 module _ (left : Option (List ℕ)) (read : ℕ) (results : Option (List ℕ)) (written : ℕ) (old new : Option (List ℕ)) (told told' : ℕ) (asked : Asked) where
@@ -241,6 +321,6 @@ module _ (left : Option (List ℕ)) (read : ℕ) (results : Option (List ℕ)) (
   usage_said ReadFault s = absurd s
   usage_said WriteFault s = record {
     unread = unread;
-    unwritten = record { rose = s.rose; results = Keeps-refl results; reports = s.some; read_calm = refl; result_calm = refl };
+    unwritten = record { rose = s.rose; results = Keeps-refl results; reports = s.front; read_calm = refl; result_calm = refl };
   }
   usage_said Memory s = absurd s

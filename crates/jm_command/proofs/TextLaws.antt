@@ -1,7 +1,12 @@
 -- The texts of a thread that has run.
-use Rattle.std.proofs.Common.{◌≡◌, ℕ, Bool, true, List, [], ◌∷◌, ◌++◌, Some, refl, sym, ap, ◌∙◌, subst}
+use Rattle.std.proofs.Common.{◌≡◌, ℕ, true, List, [], ◌∷◌, ◌++◌, Option, Some, refl, sym, ap, ap₂, ◌∙◌, subst, inl, inr}
+use Rattle.std.specs.Prelude.{All}
+use Rattle.std.specs.List.{flat_map}
+use Rattle.std.specs.Io.KnownBytes.{Appends}
 use Rattle.std.specs.Option.{option_map_or}
-use Rattle.std.proofs.lemmas.List.{map-append}
+use Rattle.std.proofs.lemmas.List.{append-nil, map-append}
+use Rattle.std.proofs.lemmas.List.Elements.{All-head, All-tail}
+use Rattle.edge_io.proofs.EdgeLaws.{Appends-nil}
 use Rattle.var_functions.specs.Props.{pairs_of}
 use Rattle.jm_base.specs.declared.types.End.{End}
 use Rattle.jm_base.specs.declared.types.End.TheVariants.{Completed, StopThread, StopTest, Stopped, SampleLimit, RoundLimit, ValueLimit, NoMemory}
@@ -10,16 +15,21 @@ use Rattle.element_tree.specs.Tree.{Tree}
 use Rattle.jm_meaning.specs.declared.item.Item.{Item}
 use Rattle.jm_meaning.specs.declared.item.Item.TheVariants.{Ended}
 use Rattle.outside_world.specs.Scripted.{scripts_of}
-use Rattle.output_lines.specs.Lines.{end_text}
+use Rattle.output_lines.specs.Lines.{header_text, result_text, end_text}
 use Rattle.output_lines.specs.Reports.{summary_text}
 use Rattle.thread_machine.specs.declared.trace.TraceItem.{TraceItem}
-use Rattle.thread_machine.specs.declared.trace.TraceItem.TheVariants.{Ended as TracedEnd}
-use Rattle.thread_machine.specs.Bare.{bare}
+use Rattle.thread_machine.specs.declared.trace.TraceItem.TheVariants.{Paused as TracedPause, Sampled as TracedSample, Null as TracedNull, Entered as TracedEntry, Left as TracedExit, Ended as TracedEnd}
+use Rattle.thread_machine.specs.Bare.{bare, bare_item, IsCountedIn}
 use Rattle.thread_machine.specs.Follows.{Follows, HasRun}
 use Rattle.command_words.specs.declared.command.Solo.{Solo}
-use Rattle.command_words.specs.declared.command.Command.TheVariants.{Make, Solo as SoloCommand}
+use Rattle.command_words.specs.declared.command.Command.TheVariants.{Check, Make, Solo as SoloCommand}
 use Rattle.command_words.specs.declared.command.Make.{Make as MakeOf}
-use Rattle.jm_command.specs.Printed.{options_of, default_solo, shown_of, results_of, counted, report_of, last_end, end_is_whole, IsShown, HasShown, AreTexts}
+use Rattle.trace_output.specs.Texts.{line_of, trace_text}
+use Rattle.trace_output.specs.Printing.{TextOut, TextFailed, TextCut}
+use Rattle.jm_command.specs.declared.status.Status.{Status}
+use Rattle.jm_command.specs.declared.status.Status.TheVariants.{Done, Usage, Refused, ReadFault, WriteFault, Memory}
+use Rattle.jm_command.specs.Parts.{sinks, TextSays, ReportSays, MadeSays, PlanSays}
+use Rattle.jm_command.specs.Printed.{options_of, default_solo, shown_of, item_text, results_of, counted, report_of, results_for, last_end, end_is_whole, IsShown, HasShown, MayPrint}
 
 last_end-append : (items : List Item) (end : End) → last_end (items ++ Ended end ∷ []) ≡ Some end
 last_end-append [] end = refl
@@ -55,37 +65,110 @@ module _ (plan : Tree) (s : Solo) (start now : Account) (trace : List TraceItem)
   shown_by ValueLimit f = record { last = bare_end trace f.last.0 ValueLimit f.last.1; whole = whole ValueLimit f }
   shown_by NoMemory f = record { last = bare_end trace f.0 NoMemory f.1; whole = tt }
 
-module _ (plan : Tree) (s : Solo) (trace : List TraceItem) (end : End) (report : List ℕ) (all : Bool) (shown : IsShown plan s (bare trace) end)
-    (report_is : report ≡ summary_text plan (counted plan (bare trace)) ++ end_text plan s.thread end) (all_is : all ≡ end_is_whole end) where
-  ends : report ≡ report_of plan s.thread (bare trace)
-  ends = report_is ∙ sym (ap (λ o. summary_text plan (counted plan (bare trace)) ++ option_map_or (end_text plan s.thread) o []) shown.last)
+-- ---- the lines of a thread of which each sample is counted in interval 0
 
-  same : all ≡ true → bare trace ≡ shown_of plan s
-  same h = whole_items plan s (bare trace) end shown (sym all_is ∙ h)
+line_is : (plan : Tree) (thread : ℕ) (item : TraceItem) → IsCountedIn 0 item → line_of plan thread item ≡ item_text plan thread (bare_item item)
+line_is plan thread (TracedPause ms) counted = refl
+line_is plan thread (TracedSample sample interval) counted = ap (result_text plan thread sample) counted
+line_is plan thread (TracedNull sampler) counted = refl
+line_is plan thread (TracedEntry lock place) counted = refl
+line_is plan thread (TracedExit lock) counted = refl
+line_is plan thread (TracedEnd end) counted = refl
+
+lines_are : (plan : Tree) (thread : ℕ) (trace : List TraceItem) → All (IsCountedIn 0) trace → trace_text plan thread trace ≡ flat_map (item_text plan thread) (bare trace)
+lines_are plan thread [] counted = refl
+lines_are plan thread (item ∷ trace) counted =
+    ap₂ (λ x y. x ++ y) (line_is plan thread item (All-head (IsCountedIn 0) item trace counted)) (lines_are plan thread trace (All-tail (IsCountedIn 0) item trace counted))
+
+-- ---- a thread that has run
+
+module _ (plan : Tree) (s : Solo) (trace : List TraceItem) (end : End) (shown : IsShown plan s (bare trace) end) where
+  abbrev report : List ℕ
+  report = summary_text plan (counted plan (bare trace)) ++ end_text plan s.thread end
+
+  ends : report ≡ report_of plan s.thread (bare trace)
+  ends = sym (ap (λ o. summary_text plan (counted plan (bare trace)) ++ option_map_or (end_text plan s.thread) o []) shown.last)
 
   has_shown : HasShown plan s (bare trace) report
   has_shown = record { end = end; shown_as = shown; report_is = ends }
 
-  report_whole : all ≡ true → report ≡ report_of plan s.thread (shown_of plan s)
-  report_whole h = ends ∙ ap (report_of plan s.thread) (same h)
+  same : end_is_whole end ≡ true → bare trace ≡ shown_of plan s
+  same whole = whole_items plan s (bare trace) end shown whole
 
-  -- the texts of a thread that has run
-  pub are_texts : (results : List ℕ) → results ≡ results_of plan s.thread (bare trace) → AreTexts (SoloCommand s) plan results report all
-  are_texts results results_are = record {
-    may = (bare trace, results_are, has_shown);
-    results_whole = λ h. results_are ∙ ap (results_of plan s.thread) (same h);
-    report_whole = report_whole;
-  }
+  report_whole : end_is_whole end ≡ true → report ≡ report_of plan s.thread (shown_of plan s)
+  report_whole whole = ends ∙ ap (report_of plan s.thread) (same whole)
 
--- the texts of a thread of a plan that was made
-pub are_made : (plan : Tree) (s : Solo) (trace : List TraceItem) (end : End) (report : List ℕ) (all : Bool) → s ≡ default_solo → IsShown plan s (bare trace) end
-    → report ≡ summary_text plan (counted plan (bare trace)) ++ end_text plan s.thread end → all ≡ end_is_whole end
-    → (m : MakeOf) (results : List ℕ) → results ≡ [] → AreTexts (Make m) plan results report all
-are_made plan s trace end report all is shown report_is all_is m results none = record {
-  may = (none, (bare trace, subst (λ d. HasShown plan d (bare trace) report) is (has_shown plan s trace end report all shown report_is all_is)));
-  results_whole = λ h. none;
-  report_whole = λ h. report_whole plan s trace end report all shown report_is all_is h ∙ ap (λ d. report_of plan d.thread (shown_of plan d)) is;
-}
+  -- the report of a plan that was made
+  pub made_report : s ≡ default_solo → (a b : Option (List ℕ)) (f g : ℕ) (status : Status) → ReportSays report (end_is_whole end) a b f g status → MadeSays plan a b f g status
+  made_report is a b f g Done h =
+      subst (λ text. TextOut text a b f g) (report_whole h.0 ∙ ap (λ (d : Solo). report_of plan d.thread (shown_of plan d)) is) h.1
+  made_report is a b f g Usage h = absurd h
+  made_report is a b f g Refused h = absurd h
+  made_report is a b f g ReadFault h = absurd h
+  made_report is a b f g WriteFault h = (report, (bare trace, subst (λ d. HasShown plan d (bare trace) report) is has_shown), h)
+  made_report is a b f g Memory h = inr (report, (bare trace, subst (λ d. HasShown plan d (bare trace) report) is has_shown), h)
+
+  module _ (counted : All (IsCountedIn 0) trace) (a b : Option (List ℕ)) (f g : ℕ) where
+    abbrev results : List ℕ
+    results = header_text ++ trace_text plan s.thread trace
+
+    results_are : results ≡ results_of plan s.thread (bare trace)
+    results_are = ap (λ l. header_text ++ l) (lines_are plan s.thread trace counted)
+
+    may : MayPrint (SoloCommand s) plan results report
+    may = (bare trace, results_are, has_shown)
+
+    -- the results are not out
+    pub results_failed : TextFailed results a b f g → (r : Option (List ℕ)) (k : ℕ) → PlanSays (SoloCommand s) plan (sinks a f r k) (sinks b g r k) WriteFault
+    results_failed h r k = (results, report, may, inl (record { some = h.front; rose = h.rose; nothing = record { reports = refl; report_faults = refl } }))
+
+    pub results_cut : TextCut results a b f g → (r : Option (List ℕ)) (k : ℕ) → PlanSays (SoloCommand s) plan (sinks a f r k) (sinks b g r k) Memory
+    results_cut h r k = inr (results, report, may, inl (record { part = h.part; calm = h.calm; nothing = record { reports = refl; report_faults = refl } }))
+
+    -- the results are out, and then comes the report
+    pub solo_says : TextOut results a b f g → (r r' : Option (List ℕ)) (k k' : ℕ) (status : Status) → ReportSays report (end_is_whole end) r r' k k' status
+        → PlanSays (SoloCommand s) plan (sinks a f r k) (sinks b g r' k') status
+    solo_says out r r' k k' Done h = record {
+      results_out = subst (λ text. Appends a b text) (results_are ∙ ap (results_of plan s.thread) (same h.0)) out.out;
+      result_calm = out.calm;
+      report_out = subst (λ text. Appends r r' text) (report_whole h.0) h.1.out;
+      report_calm = h.1.calm;
+    }
+    solo_says out r r' k k' Usage h = absurd h
+    solo_says out r r' k k' Refused h = absurd h
+    solo_says out r r' k k' ReadFault h = absurd h
+    solo_says out r r' k k' WriteFault h = (results, report, may, inr (record { results_out = out.out; some = h.front; rose = h.rose; result_calm = out.calm }))
+    solo_says out r r' k k' Memory h = inr (results, report, may, inr (record { results_out = out.out; result_calm = out.calm; part = h.part; calm = h.calm }))
+
+-- a report that is whole, of a thread that was cut
+pub out_is_part : (text : List ℕ) (a b : Option (List ℕ)) (f g : ℕ) → TextOut text a b f g → TextCut text a b f g
+out_is_part text a b f g h = record { part = (text, [], sym (append-nil text), h.out); calm = h.calm }
+
+-- ---- the other commands
+
+pub check_says : (plan : Tree) (a b : Option (List ℕ)) (f g : ℕ) (r : Option (List ℕ)) (k : ℕ) (status : Status) → TextSays (results_for Check plan) a b f g status
+    → PlanSays Check plan (sinks a f r k) (sinks b g r k) status
+check_says plan a b f g r k Done h = record { results_out = h.out; result_calm = h.calm; report_out = Appends-nil r; report_calm = refl }
+check_says plan a b f g r k Usage h = absurd h
+check_says plan a b f g r k Refused h = absurd h
+check_says plan a b f g r k ReadFault h = absurd h
+check_says plan a b f g r k WriteFault h =
+    (results_for Check plan, [], (refl, refl), inl (record { some = h.front; rose = h.rose; nothing = record { reports = refl; report_faults = refl } }))
+check_says plan a b f g r k Memory h =
+    inr (results_for Check plan, [], (refl, refl), inl (record { part = h.part; calm = h.calm; nothing = record { reports = refl; report_faults = refl } }))
+
+pub made_says : (plan : Tree) (m : MakeOf) (a : Option (List ℕ)) (f : ℕ) (r r' : Option (List ℕ)) (k k' : ℕ) (status : Status) → MadeSays plan r r' k k' status
+    → PlanSays (Make m) plan (sinks a f r k) (sinks a f r' k') status
+made_says plan m a f r r' k k' Done h = record { results_out = Appends-nil a; result_calm = refl; report_out = h.out; report_calm = h.calm }
+made_says plan m a f r r' k k' Usage h = absurd h
+made_says plan m a f r r' k k' Refused h = absurd h
+made_says plan m a f r r' k k' ReadFault h = absurd h
+made_says plan m a f r r' k k' WriteFault h =
+    ([], h.0, (refl, h.1), inr (record { results_out = Appends-nil a; some = h.2.front; rose = h.2.rose; result_calm = refl }))
+made_says plan m a f r r' k k' Memory h = elim h [
+  | inl n ↦ inl (record { results = record { results = refl; result_faults = refl }; reports = record { reports = n.0; report_faults = n.1 } })
+  | inr c ↦ inr ([], c.0, (refl, c.1), inr (record { results_out = Appends-nil a; result_calm = refl; part = c.2.part; calm = c.2.calm }))
+]
 
 abbrev solo_with : List (List ℕ × List ℕ) → Solo
 solo_with props = record { seed = 0; props = props; samples = 65536; thread = 0 }

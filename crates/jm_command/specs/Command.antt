@@ -3,6 +3,7 @@ use Rattle.std.specs.Prelude.{◌≡◌, ◌⊎◌, ℕ, ◌+◌, ◌≤◌, Lis
 use Rattle.std.specs.Io.KnownBytes.{Appends, Keeps}
 use Rattle.jm_base.specs.Counts.{Rose}
 use Rattle.edge_io.specs.Edges.{TookAll, TookCount, TookAtMost, AppendsFront}
+use Rattle.line_output.specs.Pieces.{AppendsPart}
 use Rattle.plan_json.specs.Shape.{Raw, reading_of}
 use Rattle.plan_json.specs.declared.error.TreeError.{TreeError}
 use Rattle.element_props.specs.declared.error.BuildError.{BuildError}
@@ -168,6 +169,37 @@ abbrev pub IsUnwritten : Option Command → Edges → Edges → Type 0
 IsUnwritten None old new = UsageUnwritten old new
 IsUnwritten (Some command) old new = RefusalUnwritten command old new ⊎ (ResultsUnwritten command old new ⊎ ReportUnwritten command old new)
 
+-- Status 7: memory ran out. No count of faults rose. Nothing is printed, and no more was read than shows that a plan is too long; or a prefix of one text of a command that has its plan, and then nothing later was begun.
+pub record NothingPrinted (old new : Edges) : Type 0 where
+  pub took : TookAtMost old.left new.left (plan_limit + 1)
+  pub results : Keeps old.results new.results
+  pub reports : Keeps old.reports new.reports
+  pub no_fault : HasNoFault old new
+
+pub record ResultsCut (command : Command) (old new : Edges) : Type 0 where
+  pub plan : Tree
+  pub text : List ℕ
+  pub report : List ℕ
+  pub has_plan : HasPlan command old new plan
+  pub may : MayPrint command plan text report
+  pub results : AppendsPart old.results new.results text
+  pub reports : Keeps old.reports new.reports
+  pub no_fault : HasNoFault old new
+
+pub record ReportCut (command : Command) (old new : Edges) : Type 0 where
+  pub plan : Tree
+  pub text : List ℕ
+  pub report : List ℕ
+  pub has_plan : HasPlan command old new plan
+  pub may : MayPrint command plan text report
+  pub results : Appends old.results new.results text
+  pub reports : AppendsPart old.reports new.reports report
+  pub no_fault : HasNoFault old new
+
+abbrev pub IsCutShort : Option Command → Edges → Edges → Type 0
+IsCutShort None old new = NothingPrinted old new
+IsCutShort (Some command) old new = NothingPrinted old new ⊎ (ResultsCut command old new ⊎ ReportCut command old new)
+
 -- what a status says of a run whose words are this command, or none
 abbrev pub Says : Option Command → Edges → Edges → Status → Type 0
 Says words old new Done = (command : Command) × (words ≡ Some command) × IsDone command old new
@@ -175,7 +207,7 @@ Says words old new Usage = (words ≡ None) × IsUsage old new
 Says words old new Refused = (command : Command) × (words ≡ Some command) × IsRefusal command old new
 Says words old new ReadFault = (command : Command) × (words ≡ Some command) × IsUnread command old new
 Says words old new WriteFault = IsUnwritten words old new
-Says words old new Memory = Unit {0}
+Says words old new Memory = IsCutShort words old new
 
 abbrev pub number_of : Status → ℕ
 number_of Done = 0

@@ -3,8 +3,11 @@ use Rattle.std.specs.Prelude.{◌≡◌, ◌⊎◌, ℕ, ◌<◌, ◌≤◌, Boo
 use Rattle.std.specs.Io.KnownBytes.{Appends}
 use Rattle.jm_base.specs.Counts.{Rose}
 use Rattle.edge_io.specs.Edges.{AppendsFront}
+use Rattle.line_output.specs.Pieces.{AppendsPart}
+use Rattle.trace_output.specs.Printing.{TextOut, TextFailed, TextCut}
 use Rattle.element_props.specs.Patterns.{Asked}
 use Rattle.element_tree.specs.Tree.{Tree, threads_of}
+use Rattle.jm_meaning.specs.declared.item.Item.{Item}
 use Rattle.jm_command.specs.declared.status.Status.{Status}
 use Rattle.jm_command.specs.declared.status.Status.TheVariants.{Done, Usage, Refused, ReadFault, WriteFault, Memory}
 use Rattle.command_words.specs.declared.command.Command.{Command}
@@ -17,7 +20,7 @@ use Rattle.jm_command.specs.declared.refusal.Refusal.TheVariants.{TooLong, Shape
 use Rattle.jm_command.specs.declared.judge.Judged.{Judged}
 use Rattle.jm_command.specs.declared.judge.Judged.TheVariants.{Fit, Unfit, NoMemory}
 use Rattle.jm_command.specs.Refusals.{RunsAlone, IsAccepted, IsRefused, not_built, solo_fault, refusal_line}
-use Rattle.jm_command.specs.Printed.{default_solo, results_for, report_for, MayPrint}
+use Rattle.jm_command.specs.Printed.{default_solo, shown_of, report_of, results_for, report_for, HasShown, MayPrint}
 
 -- what the two sinks hold, where it is told, and their counts of faults
 pub record Sinks : Type 0 where
@@ -38,22 +41,18 @@ pub record NoReports (old new : Sinks) : Type 0 where
   pub reports : new.reports ≡ old.reports
   pub report_faults : new.report_faults ≡ old.report_faults
 
--- a line is out, or a prefix of it, with a fault that was counted
-pub record LineOut (line : List ℕ) (old new : Option (List ℕ)) (faults now : ℕ) : Type 0 where
-  pub out : Appends old new line
-  pub calm : now ≡ faults
-
-pub record LineFailed (line : List ℕ) (old new : Option (List ℕ)) (faults now : ℕ) : Type 0 where
-  pub some : AppendsFront old new line
-  pub rose : Rose faults now
+-- both were
+pub record NothingOut (old new : Sinks) : Type 0 where
+  pub results : NoResults old new
+  pub reports : NoReports old new
 
 -- saying a line, which is to end with this status
 abbrev pub LineSays : List ℕ → Status → Option (List ℕ) → Option (List ℕ) → ℕ → ℕ → Status → Type 0
 LineSays line wanted old new faults now Done = ⊥
-LineSays line wanted old new faults now Usage = (wanted ≡ Usage) × LineOut line old new faults now
-LineSays line wanted old new faults now Refused = (wanted ≡ Refused) × LineOut line old new faults now
+LineSays line wanted old new faults now Usage = (wanted ≡ Usage) × TextOut line old new faults now
+LineSays line wanted old new faults now Refused = (wanted ≡ Refused) × TextOut line old new faults now
 LineSays line wanted old new faults now ReadFault = ⊥
-LineSays line wanted old new faults now WriteFault = LineFailed line old new faults now
+LineSays line wanted old new faults now WriteFault = TextFailed line old new faults now
 LineSays line wanted old new faults now Memory = ⊥
 
 -- both texts are out
@@ -76,14 +75,49 @@ pub record ReportFailed (results report : List ℕ) (old new : Sinks) : Type 0 w
   pub rose : Rose old.report_faults new.report_faults
   pub result_calm : new.result_faults ≡ old.result_faults
 
--- printing the texts of a run
-abbrev pub TextsSay : List ℕ → List ℕ → Sinks → Sinks → Status → Type 0
-TextsSay results report old new Done = BothOut results report old new
-TextsSay results report old new Usage = ⊥
-TextsSay results report old new Refused = ⊥
-TextsSay results report old new ReadFault = ⊥
-TextsSay results report old new WriteFault = ResultsFailed results old new ⊎ ReportFailed results report old new
-TextsSay results report old new Memory = ⊥
+-- a prefix of the results is out, and the report was not begun
+pub record ResultsShort (results : List ℕ) (old new : Sinks) : Type 0 where
+  pub part : AppendsPart old.results new.results results
+  pub calm : new.result_faults ≡ old.result_faults
+  pub nothing : NoReports old new
+
+-- the results and a prefix of the report are out
+pub record ReportShort (results report : List ℕ) (old new : Sinks) : Type 0 where
+  pub results_out : Appends old.results new.results results
+  pub result_calm : new.result_faults ≡ old.result_faults
+  pub part : AppendsPart old.reports new.reports report
+  pub calm : new.report_faults ≡ old.report_faults
+
+-- printing one text
+abbrev pub TextSays : List ℕ → Option (List ℕ) → Option (List ℕ) → ℕ → ℕ → Status → Type 0
+TextSays text old new faults now Done = TextOut text old new faults now
+TextSays text old new faults now Usage = ⊥
+TextSays text old new faults now Refused = ⊥
+TextSays text old new faults now ReadFault = ⊥
+TextSays text old new faults now WriteFault = TextFailed text old new faults now
+TextSays text old new faults now Memory = TextCut text old new faults now
+
+-- printing the report of a thread that has run, whole or cut short
+abbrev pub ReportSays : List ℕ → Bool → Option (List ℕ) → Option (List ℕ) → ℕ → ℕ → Status → Type 0
+ReportSays report whole old new faults now Done = (whole ≡ true) × TextOut report old new faults now
+ReportSays report whole old new faults now Usage = ⊥
+ReportSays report whole old new faults now Refused = ⊥
+ReportSays report whole old new faults now ReadFault = ⊥
+ReportSays report whole old new faults now WriteFault = TextFailed report old new faults now
+ReportSays report whole old new faults now Memory = TextCut report old new faults now
+
+-- a thread with what stands for the options of `solo` may have shown this report
+abbrev pub MayReport : Tree → List ℕ → Type 0
+MayReport plan report = (items : List Item) × HasShown plan default_solo items report
+
+-- running a thread with these options and printing its report
+abbrev pub MadeSays : Tree → Option (List ℕ) → Option (List ℕ) → ℕ → ℕ → Status → Type 0
+MadeSays plan old new faults now Done = TextOut (report_of plan default_solo.thread (shown_of plan default_solo)) old new faults now
+MadeSays plan old new faults now Usage = ⊥
+MadeSays plan old new faults now Refused = ⊥
+MadeSays plan old new faults now ReadFault = ⊥
+MadeSays plan old new faults now WriteFault = (report : List ℕ) × MayReport plan report × TextFailed report old new faults now
+MadeSays plan old new faults now Memory = ((new ≡ old) × (now ≡ faults)) ⊎ ((report : List ℕ) × MayReport plan report × TextCut report old new faults now)
 
 -- printing the texts of a command on a plan
 abbrev pub PlanSays : Command → Tree → Sinks → Sinks → Status → Type 0
@@ -93,28 +127,29 @@ PlanSays command plan old new Refused = ⊥
 PlanSays command plan old new ReadFault = ⊥
 PlanSays command plan old new WriteFault = (results : List ℕ) × (report : List ℕ) × MayPrint command plan results report
     × (ResultsFailed results old new ⊎ ReportFailed results report old new)
-PlanSays command plan old new Memory = Unit {0}
+PlanSays command plan old new Memory = NothingOut old new ⊎ ((results : List ℕ) × (report : List ℕ) × MayPrint command plan results report
+    × (ResultsShort results old new ⊎ ReportShort results report old new))
 
--- refusing a plan with a line, unless memory ran out
+-- refusing a plan with a line, or with none where memory ran out
 abbrev pub RefusalSays : Refusal → Option (List ℕ) → Option (List ℕ) → ℕ → ℕ → Status → Type 0
 RefusalSays refusal old new faults now Done = ⊥
 RefusalSays refusal old new faults now Usage = ⊥
-RefusalSays refusal old new faults now Refused = LineOut (refusal_line refusal) old new faults now
+RefusalSays refusal old new faults now Refused = TextOut (refusal_line refusal) old new faults now
 RefusalSays refusal old new faults now ReadFault = ⊥
-RefusalSays refusal old new faults now WriteFault = LineFailed (refusal_line refusal) old new faults now
-RefusalSays refusal old new faults now Memory = Unit {0}
+RefusalSays refusal old new faults now WriteFault = TextFailed (refusal_line refusal) old new faults now
+RefusalSays refusal old new faults now Memory = (new ≡ old) × (now ≡ faults)
 
 -- refusing the bytes, or printing the texts of their plan
 abbrev pub BytesSay : Command → List ℕ → Asked → Asked → Sinks → Sinks → Status → Type 0
 BytesSay command bytes before after old new Done = (plan : Tree) × IsAccepted command bytes before after plan × PlanSays command plan old new Done
 BytesSay command bytes before after old new Usage = ⊥
 BytesSay command bytes before after old new Refused =
-    (refusal : Refusal) × IsRefused command bytes before after refusal × NoResults old new × LineOut (refusal_line refusal) old.reports new.reports old.report_faults new.report_faults
+    (refusal : Refusal) × IsRefused command bytes before after refusal × NoResults old new × TextOut (refusal_line refusal) old.reports new.reports old.report_faults new.report_faults
 BytesSay command bytes before after old new ReadFault = ⊥
 BytesSay command bytes before after old new WriteFault =
-    ((refusal : Refusal) × IsRefused command bytes before after refusal × NoResults old new × LineFailed (refusal_line refusal) old.reports new.reports old.report_faults new.report_faults)
+    ((refusal : Refusal) × IsRefused command bytes before after refusal × NoResults old new × TextFailed (refusal_line refusal) old.reports new.reports old.report_faults new.report_faults)
     ⊎ ((plan : Tree) × IsAccepted command bytes before after plan × PlanSays command plan old new WriteFault)
-BytesSay command bytes before after old new Memory = Unit {0}
+BytesSay command bytes before after old new Memory = NothingOut old new ⊎ ((plan : Tree) × IsAccepted command bytes before after plan × PlanSays command plan old new Memory)
 
 -- the status after texts that are printed: done, or 7 where memory ran out before they were whole
 abbrev pub WholeSays : Bool → Status → Type 0

@@ -141,9 +141,3 @@ MayPrint Check plan results report = (results ≡ results_for Check plan) × (re
 MayPrint (Make m) plan results report = (results ≡ []) × ((items : List Item) × HasShown plan default_solo items report)
 MayPrint (Run r) plan results report = ⊥
 MayPrint (SoloCommand s) plan results report = (items : List Item) × (results ≡ results_of plan s.thread items) × HasShown plan s items report
-
--- the texts of a command on a plan; where they are not whole, memory ran out
-pub record AreTexts (command : Command) (plan : Tree) (results report : List ℕ) (whole : Bool) : Type 0 where
-  pub may : MayPrint command plan results report
-  pub results_whole : whole ≡ true → results ≡ results_for command plan
-  pub report_whole : whole ≡ true → report ≡ report_for command plan

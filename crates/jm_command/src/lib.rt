@@ -2,11 +2,11 @@
 #![tactic(auto)]
 
 mod judge;
+mod print;
 mod program;
 mod refusal;
 mod report;
 mod status;
-mod texts;
 mod unbuilt;
 mod words;
 

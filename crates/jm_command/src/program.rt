@@ -4,20 +4,19 @@ ghost use Rattle.std.specs.Prelude.{◌≡◌, ◌⊎◌, map, string_bytes, Lis
 ghost use Rattle.command_words.specs.declared.command.Command.{Command};
 ghost use Rattle.command_words.specs.declared.command.Command.TheVariants.{Make as MakeCommand};
 ghost use Rattle.command_words.specs.Commands.{command_of, names_run};
-ghost use Rattle.jm_command.specs.Command.{Says, IsStatus, IsDone, IsUsage, IsRefusal, IsUnread, IsUnwritten, NoRise, status_for, edges};
+ghost use Rattle.jm_command.specs.Command.{Says, IsStatus, IsDone, IsUsage, IsRefusal, IsUnread, IsUnwritten, IsCutShort, NoRise, status_for, edges};
 ghost use Rattle.plan_maker.specs.Generated.{generated};
 ghost use Rattle.jm_command.specs.Refusals.{ReadsPlan};
-ghost use Rattle.jm_command.specs.Parts.{CanRun, HasSize, IsInRange, LineSays, RefusalSays, TextsSay, PlanSays, BytesSay, WholeSays, sinks};
+ghost use Rattle.jm_command.specs.Parts.{HasSize, IsInRange, LineSays, RefusalSays, PlanSays, BytesSay, sinks};
 
 use crate::judge::{Judged, judge};
+use crate::print::print_plan;
 use crate::refusal::{Refusal, refusal_line};
 use crate::status::Status;
-use crate::texts::{Texts, texts_of};
 use crate::words::command_of;
 use command_words::{Command, Make};
 use edge_io::{ReadError, Sink, Source, read_all, write_all};
 use element_props::Patterns;
-use element_tree::Plan;
 use plan_maker::make_plan;
 use std::alloc::Global;
 
@@ -50,6 +49,9 @@ pub fn plain_command<S: Source, O: Sink, E: Sink, G: Patterns>(
         (edges (S.left plan.old) (S.faults plan.old) (O.written results.old) (O.faults results.old) (E.written reports.old) (E.faults reports.old) (G.account patterns.old))
         (edges (S.left plan.new) (S.faults plan.new) (O.written results.new) (O.faults results.new) (E.written reports.new) (E.faults reports.new) (G.account patterns.new)) }
     ensures unwritten { result ≡ 5 → IsUnwritten (command_of (map string_bytes words.now.items))
+        (edges (S.left plan.old) (S.faults plan.old) (O.written results.old) (O.faults results.old) (E.written reports.old) (E.faults reports.old) (G.account patterns.old))
+        (edges (S.left plan.new) (S.faults plan.new) (O.written results.new) (O.faults results.new) (E.written reports.new) (E.faults reports.new) (G.account patterns.new)) }
+    ensures cut_short { result ≡ 7 → IsCutShort (command_of (map string_bytes words.now.items))
         (edges (S.left plan.old) (S.faults plan.old) (O.written results.old) (O.faults results.old) (E.written reports.old) (E.faults reports.old) (G.account patterns.old))
         (edges (S.left plan.new) (S.faults plan.new) (O.written results.new) (O.faults results.new) (E.written reports.new) (E.faults reports.new) (G.account patterns.new)) }
 
@@ -120,7 +122,7 @@ fn run_made<O: Sink, E: Sink>(alloc: Global, make: Make, results: &mut O, report
     let Ok(plan) = make_plan(alloc, make.size) else {
         return Status::Memory;
     };
-    run_plan(alloc, &Command::Make(make), &plan, results, reports)
+    print_plan(alloc, &Command::Make(make), &plan, results, reports)
 }
 
 // Reads a plan, and does with it what the command says.
@@ -161,53 +163,9 @@ fn run_bytes<O: Sink, E: Sink, G: Patterns>(
         (sinks (O.written results.new) (O.faults results.new) (E.written reports.new) (E.faults reports.new)) result }
 {
     match judge(alloc, command, bytes, patterns) {
-        Judged::Fit(plan) => run_plan(alloc, command, &plan, results, reports),
+        Judged::Fit(plan) => print_plan(alloc, command, &plan, results, reports),
         Judged::Unfit(refusal) => refuse(alloc, &refusal, reports),
         Judged::NoMemory => Status::Memory,
-    }
-}
-
-// Prints the texts of the command on a plan.
-fn run_plan<O: Sink, E: Sink>(
-    alloc: Global,
-    command: &Command,
-    plan: &Plan,
-    results: &mut O,
-    reports: &mut E,
-) -> Status
-    requires { CanRun command.now plan.now }
-    ensures { PlanSays command.now plan.now
-        (sinks (O.written results.old) (O.faults results.old) (E.written reports.old) (E.faults reports.old))
-        (sinks (O.written results.new) (O.faults results.new) (E.written reports.new) (E.faults reports.new)) result }
-{
-    let Ok(texts) = texts_of(alloc, command, plan) else {
-        return Status::Memory;
-    };
-    match print(&texts, results, reports) {
-        Status::Done => status_of(texts.whole),
-        other => other,
-    }
-}
-
-// The status after texts that are printed.
-fn status_of(whole: bool) -> Status
-    ensures { WholeSays whole result }
-{
-    if whole { Status::Done } else { Status::Memory }
-}
-
-// Prints texts, the results first.
-fn print<O: Sink, E: Sink>(texts: &Texts, results: &mut O, reports: &mut E) -> Status
-    ensures { TextsSay texts.now.results.items texts.now.report.items
-        (sinks (O.written results.old) (O.faults results.old) (E.written reports.old) (E.faults reports.old))
-        (sinks (O.written results.new) (O.faults results.new) (E.written reports.new) (E.faults reports.new)) result }
-{
-    match write_all(results, &texts.results) {
-        Ok(()) => match write_all(reports, &texts.report) {
-            Ok(()) => Status::Done,
-            Err(_) => Status::WriteFault,
-        },
-        Err(_) => Status::WriteFault,
     }
 }
 

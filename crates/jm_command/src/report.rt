@@ -8,33 +8,63 @@ ghost use Rattle.output_lines.specs.Lines.{end_text};
 ghost use Rattle.output_lines.specs.Reports.{summary_text};
 ghost use Rattle.thread_machine.specs.Bare.{bare, IsLabelled};
 ghost use Rattle.thread_machine.specs.Counts.{samples_in};
-ghost use Rattle.jm_command.specs.Printed.{counted};
+ghost use Rattle.jm_command.specs.Parts.{ReportSays, WholeSays};
+ghost use Rattle.jm_command.specs.Printed.{counted, end_is_whole};
 
+use crate::status::Status;
+use edge_io::Sink;
 use element_tree::Plan;
 use interval_tables::Report;
 use jm_base::{End, Entry, M};
-use output_lines::{end_line, summary_lines};
 use std::alloc::Global;
-use thread_machine::TraceItem;
+use thread_machine::{Solo, TraceItem};
+use trace_output::{PrintError, print_report};
 
-/// The summary of what is counted of a trace, and the line that says how its thread ended.
-pub fn report_text(
+/// Prints the report of a thread that has run: the summary of its samples, and the line that says how it ended.
+pub fn report_ran<E: Sink>(
     alloc: Global,
     plan: &Plan,
     thread: u16,
-    trace: &[TraceItem],
-    end: End,
-) -> M<Vec<u8>>
+    ran: &Solo,
+    reports: &mut E,
+) -> Status
     requires thread { thread < length (threads_of plan.now) }
-    requires labels { All (IsLabelled (length (labels_of plan.now.elements))) trace.now }
-    requires few { samples_in trace.now ≤ 4194304 }
-    ensures { IfOk result (λ text. text.items ≡ summary_text plan.now (counted plan.now (bare trace.now)) ++ end_text plan.now thread end) }
+    requires labels { All (IsLabelled (length (labels_of plan.now.elements))) ran.now.trace.items }
+    requires few { samples_in ran.now.trace.items ≤ 4194304 }
+    ensures { ReportSays (summary_text plan.now (counted plan.now (bare ran.now.trace.items)) ++ end_text plan.now thread ran.now.end) (end_is_whole ran.now.end)
+        (E.written reports.old) (E.written reports.new) (E.faults reports.old) (E.faults reports.new) result }
 {
-    let total = counted(alloc, plan, trace)?;
-    let mut text = Vec::new(alloc);
-    summary_lines(alloc, &mut text, plan, &total)?;
-    end_line(alloc, &mut text, plan, thread, end)?;
-    Ok(text)
+    let Ok(total) = counted(alloc, plan, &ran.trace) else {
+        return Status::Memory;
+    };
+    match print_report(alloc, reports, plan, &total, thread, ran.end) {
+        Ok(()) => status_of(is_whole(ran.end)),
+        Err(PrintError::WriteFault) => Status::WriteFault,
+        Err(PrintError::NoMemory) => Status::Memory,
+    }
+}
+
+// The status after a report that is printed.
+fn status_of(whole: bool) -> Status
+    ensures { WholeSays whole result }
+{
+    if whole { Status::Done } else { Status::Memory }
+}
+
+// Whether a thread that ended so was not cut short because memory ran out.
+fn is_whole(end: End) -> bool
+    ensures { result ≡ end_is_whole end }
+{
+    match end {
+        End::NoMemory => false,
+        End::Completed
+        | End::StopThread
+        | End::StopTest
+        | End::Stopped
+        | End::SampleLimit
+        | End::RoundLimit
+        | End::ValueLimit => true,
+    }
 }
 
 // What is counted of the samples of a trace: a row for each label of the plan.

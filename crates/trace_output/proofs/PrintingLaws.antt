@@ -1,0 +1,119 @@
+-- Texts that are put one after the other.
+use Rattle.std.proofs.Common.{◌≡◌, ℕ, ◌+◌, ◌<◌, List, [], ◌∷◌, ◌++◌, length, get_or, take, drop, Option, refl, sym, ap, ◌∙◌, append_assoc, subst, add-one}
+use Rattle.std.proofs.Math.Seq.{take-suc}
+use Rattle.std.proofs.lemmas.List.{append-nil, take-append-drop}
+use Rattle.std.proofs.lemmas.Grind.{flat_map-append}
+use Rattle.jm_base.specs.Counts.{Rose}
+use Rattle.edge_io.specs.Edges.{AppendsFront}
+use Rattle.line_output.specs.Pieces.{AppendsPart}
+use Rattle.line_output.proofs.PieceLaws.{moves_none, moves_more, front_wider, front_more, front_sent, part_sent, part_none, part_more}
+use Rattle.element_tree.specs.Tree.{Tree}
+use Rattle.thread_machine.specs.declared.trace.TraceItem.{TraceItem}
+use Rattle.trace_output.specs.Texts.{line_of, trace_text}
+use Rattle.trace_output.specs.Printing.{Way, way, IsPut, IsFailed, IsCut, TextFailed, TextCut}
+
+-- ---- one text after another
+
+-- nothing is put
+pub put_none : (w : Way) → IsPut [] w w
+put_none w = record { moved = moves_none w.written w.held; calm = refl }
+
+pub put_more : (s t : List ℕ) (u v w : Way) → IsPut s u v → IsPut t v w → IsPut (s ++ t) u w
+put_more s t u v w p q = record { moved = moves_more u.written v.written w.written u.held v.held w.held s t p.moved q.moved; calm = q.calm ∙ p.calm }
+
+-- the sink fails at the text after one that is put
+pub failed_more : (s t : List ℕ) (u v w : Way) → IsPut s u v → IsFailed t v w → IsFailed (s ++ t) u w
+failed_more s t u v w p f = record {
+  front = front_more u.written v.written w.written u.held v.held s t p.moved f.front;
+  rose = subst (λ n. Rose n w.faults) p.calm f.rose;
+}
+
+-- a prefix of a text is one of a longer text
+pub failed_wider : (s t : List ℕ) (u w : Way) → IsFailed s u w → IsFailed (s ++ t) u w
+failed_wider s t u w f = record {
+  front = subst (λ l. AppendsFront u.written w.written l) (append_assoc u.held s t) (front_wider u.written w.written (u.held ++ s) t f.front);
+  rose = f.rose;
+}
+
+-- no memory for the text
+pub cut_none : (t : List ℕ) (w : Way) → IsCut t w w
+cut_none t w = record { part = part_none w.written w.held t; calm = refl }
+
+-- memory runs out at the text after one that is put, before one more
+pub cut_more : (s t r : List ℕ) (u v w : Way) → IsPut s u v → IsCut t v w → IsCut (s ++ (t ++ r)) u w
+cut_more s t r u v w p c = record { part = part_more u.written v.written w.written u.held v.held w.held s t r p.moved c.part; calm = c.calm ∙ p.calm }
+
+-- ---- a trace, item by item
+
+module _ (plan : Tree) (thread : ℕ) (trace : List TraceItem) (i : ℕ) (item : TraceItem) (within : i < length trace) where
+  pub lines_more : trace_text plan thread (take (i + 1) trace) ≡ trace_text plan thread (take i trace) ++ line_of plan thread (get_or trace i item)
+  lines_more =
+      ap (λ n. trace_text plan thread (take n trace)) (add-one i)
+      ∙ ap (trace_text plan thread) (take-suc trace i item within)
+      ∙ flat_map-append (line_of plan thread) (take i trace) (get_or trace i item ∷ [])
+      ∙ ap (λ l. trace_text plan thread (take i trace) ++ l) (append-nil (line_of plan thread (get_or trace i item)))
+
+  -- the lines up to an item, its own, and those after it
+  lines_split : trace_text plan thread trace
+      ≡ trace_text plan thread (take i trace) ++ (line_of plan thread (get_or trace i item) ++ trace_text plan thread (drop (i + 1) trace))
+  lines_split =
+      ap (trace_text plan thread) (sym (take-append-drop (i + 1) trace))
+      ∙ flat_map-append (line_of plan thread) (take (i + 1) trace) (drop (i + 1) trace)
+      ∙ ap (λ l. l ++ trace_text plan thread (drop (i + 1) trace)) lines_more
+      ∙ append_assoc (trace_text plan thread (take i trace)) (line_of plan thread (get_or trace i item)) (trace_text plan thread (drop (i + 1) trace))
+
+  module _ (here : item ≡ get_or trace i item) (u v w : Way) (before : IsPut (trace_text plan thread (take i trace)) u v) where
+    abbrev rest : List ℕ
+    rest = trace_text plan thread (drop (i + 1) trace)
+
+    -- its own line is put, too
+    pub next_put : IsPut (line_of plan thread item) v w → IsPut (trace_text plan thread (take (i + 1) trace)) u w
+    next_put p =
+        let own = subst (λ x. IsPut (line_of plan thread x) v w) here p in
+        subst (λ l. IsPut l u w) (sym lines_more) (put_more (trace_text plan thread (take i trace)) (line_of plan thread (get_or trace i item)) u v w before own)
+
+    pub next_failed : IsFailed (line_of plan thread item) v w → IsFailed (trace_text plan thread trace) u w
+    next_failed f =
+        let own = subst (λ x. IsFailed (line_of plan thread x) v w) here f in
+        let wide = failed_wider (line_of plan thread (get_or trace i item)) rest v w own in
+        subst (λ l. IsFailed l u w) (sym lines_split) (failed_more (trace_text plan thread (take i trace)) (line_of plan thread (get_or trace i item) ++ rest) u v w before wide)
+
+    pub next_cut : IsCut (line_of plan thread item) v w → IsCut (trace_text plan thread trace) u w
+    next_cut c =
+        let own = subst (λ x. IsCut (line_of plan thread x) v w) here c in
+        subst (λ l. IsCut l u w) (sym lines_split) (cut_more (trace_text plan thread (take i trace)) (line_of plan thread (get_or trace i item)) rest u v w before own)
+
+-- ---- a whole text of two, where nothing was held back before
+
+module _ (s t : List ℕ) (a : Option (List ℕ)) (f : ℕ) (held : List ℕ) (none : held ≡ []) where
+  abbrev start : Way
+  start = way a f []
+
+  begins : (P : Way → Type 0) → P (way a f held) → P start
+  begins P = subst (λ (l : List ℕ). P (way a f l)) none
+
+  pub first_cut : (v : Way) → IsCut s (way a f held) v → TextCut (s ++ t) a v.written f v.faults
+  first_cut v h =
+      let all = cut_more [] s t start start v (put_none start) (begins (λ u. IsCut s u v) h) in
+      record { part = part_sent a v.written v.held (s ++ t) all.part; calm = all.calm }
+
+  module _ (v : Way) (first : IsPut s (way a f held) v) where
+    begun : IsPut s start v
+    begun = begins (λ u. IsPut s u v) first
+
+    pub second_failed : (w : Way) → IsFailed t v w → TextFailed (s ++ t) a w.written f w.faults
+    second_failed w h = let both = failed_more s t start v w begun h in record { front = both.front; rose = both.rose }
+
+    pub second_cut : (w : Way) → IsCut t v w → TextCut (s ++ t) a w.written f w.faults
+    second_cut w h =
+        let both = cut_more s t [] start v w begun h in
+        let part = part_sent a w.written w.held (s ++ (t ++ [])) both.part in
+        record { part = subst (λ l. AppendsPart a w.written (s ++ l)) (append-nil t) part; calm = both.calm }
+
+    pub last_failed : (w : Way) → IsPut t v w → (b : Option (List ℕ)) (g : ℕ) → AppendsFront w.written b w.held → Rose w.faults g → TextFailed (s ++ t) a b f g
+    last_failed w second b g front rose =
+        let both = put_more s t start v w begun second in
+        record {
+          front = front_sent a w.written b w.held (s ++ t) both.moved front;
+          rose = subst (λ n. Rose n g) both.calm rose;
+        }

@@ -1,0 +1,47 @@
+-- What printing a text comes to.
+use Rattle.std.specs.Prelude.{◌≡◌, ℕ, ◌++◌, List, Option}
+use Rattle.std.specs.Io.KnownBytes.{Appends}
+use Rattle.jm_base.specs.Counts.{Rose}
+use Rattle.edge_io.specs.Edges.{AppendsFront}
+use Rattle.line_output.specs.Pieces.{Moves, MovesPart, AppendsPart}
+
+-- what a sink holds, where it is told, its count of faults, and what is held back from it
+pub record Way : Type 0 where
+  pub written : Option (List ℕ)
+  pub faults : ℕ
+  pub held : List ℕ
+
+abbrev pub way : Option (List ℕ) → ℕ → List ℕ → Way
+way written faults held = record { written = written; faults = faults; held = held }
+
+-- ---- a text is put: it goes out after what was held back, or is held back itself
+
+pub record IsPut (text : List ℕ) (old new : Way) : Type 0 where
+  pub moved : Moves old.written new.written old.held new.held text
+  pub calm : new.faults ≡ old.faults
+
+-- the sink has failed, and a prefix of what was held back and of the text is out
+pub record IsFailed (text : List ℕ) (old new : Way) : Type 0 where
+  pub front : AppendsFront old.written new.written (old.held ++ text)
+  pub rose : Rose old.faults new.faults
+
+-- a prefix of the text was put
+pub record IsCut (text : List ℕ) (old new : Way) : Type 0 where
+  pub part : MovesPart old.written new.written old.held new.held text
+  pub calm : new.faults ≡ old.faults
+
+-- ---- a text is printed: it is out, or a prefix of it
+
+pub record TextOut (text : List ℕ) (old new : Option (List ℕ)) (faults now : ℕ) : Type 0 where
+  pub out : Appends old new text
+  pub calm : now ≡ faults
+
+-- the sink has failed, and a prefix of the text is out
+pub record TextFailed (text : List ℕ) (old new : Option (List ℕ)) (faults now : ℕ) : Type 0 where
+  pub front : AppendsFront old new text
+  pub rose : Rose faults now
+
+-- a prefix of the text is out, and the sink has not failed
+pub record TextCut (text : List ℕ) (old new : Option (List ℕ)) (faults now : ℕ) : Type 0 where
+  pub part : AppendsPart old new text
+  pub calm : now ≡ faults

@@ -1,0 +1,153 @@
+// Result lines.
+
+ghost use Rattle.std.specs.Prelude.{◌≡◌, ◌<◌, ◌++◌, All, length, OnOk, IsErrOf};
+ghost use Rattle.element_tree.specs.Tree.{threads_of};
+ghost use Rattle.element_tree.specs.Names.{labels_of};
+ghost use Rattle.output_lines.specs.Lines.{header_text, result_text};
+ghost use Rattle.thread_machine.specs.Bare.{IsLabelled};
+ghost use Rattle.trace_output.specs.Texts.{line_of, trace_text};
+ghost use Rattle.trace_output.specs.Printing.{way, IsPut, IsFailed, IsCut, TextOut, TextFailed, TextCut};
+
+use crate::error::PrintError;
+use crate::line::{finish, put_lines};
+use edge_io::Sink;
+use element_tree::Plan;
+use jm_base::Sample;
+use line_output::Pending;
+use output_lines::{header_line, result_line};
+use std::alloc::Global;
+use thread_machine::TraceItem;
+
+/// Prints the header and a line for each sample of a thread's trace, in its order, with the interval in which the sample
+/// was counted. Where memory runs out a prefix of this is out; where the sink fails, too.
+pub fn print_results<K: Sink>(
+    alloc: Global,
+    results: &mut K,
+    plan: &Plan,
+    thread: u16,
+    trace: &[TraceItem],
+) -> Result<(), PrintError>
+    requires thread { thread < length (threads_of plan.now) }
+    requires labels { All (IsLabelled (length (labels_of plan.now.elements))) trace.now }
+    ensures out { OnOk result (TextOut (header_text ++ trace_text plan.now thread trace.now)
+        (K.written results.old) (K.written results.new) (K.faults results.old) (K.faults results.new)) }
+    ensures failed { IsErrOf result PrintError.WriteFault → TextFailed (header_text ++ trace_text plan.now thread trace.now)
+        (K.written results.old) (K.written results.new) (K.faults results.old) (K.faults results.new) }
+    ensures cut { IsErrOf result PrintError.NoMemory → TextCut (header_text ++ trace_text plan.now thread trace.now)
+        (K.written results.old) (K.written results.new) (K.faults results.old) (K.faults results.new) }
+{
+    let Ok(mut pending) = Pending::new(alloc) else {
+        return Err(PrintError::NoMemory);
+    };
+    put_header(alloc, &mut pending, results)?;
+    put_trace(alloc, &mut pending, results, plan, thread, trace)?;
+    finish(&mut pending, results)
+}
+
+// Puts the header of the result lines.
+fn put_header<K: Sink>(alloc: Global, pending: &mut Pending, sink: &mut K) -> Result<(), PrintError>
+    ensures put { OnOk result (IsPut header_text
+        (way (K.written sink.old) (K.faults sink.old) pending.old)
+        (way (K.written sink.new) (K.faults sink.new) pending.new)) }
+    ensures failed { IsErrOf result PrintError.WriteFault → IsFailed header_text
+        (way (K.written sink.old) (K.faults sink.old) pending.old)
+        (way (K.written sink.new) (K.faults sink.new) pending.new) }
+    ensures cut { IsErrOf result PrintError.NoMemory → IsCut header_text
+        (way (K.written sink.old) (K.faults sink.old) pending.old)
+        (way (K.written sink.new) (K.faults sink.new) pending.new) }
+{
+    let mut line = Vec::new(alloc);
+    if header_line(alloc, &mut line).is_err() {
+        return Err(PrintError::NoMemory);
+    }
+    put_lines(pending, sink, &line)
+}
+
+// Puts the line of each sample.
+fn put_trace<K: Sink>(
+    alloc: Global,
+    pending: &mut Pending,
+    sink: &mut K,
+    plan: &Plan,
+    thread: u16,
+    trace: &[TraceItem],
+) -> Result<(), PrintError>
+    requires thread { thread < length (threads_of plan.now) }
+    requires labels { All (IsLabelled (length (labels_of plan.now.elements))) trace.now }
+    ensures put { OnOk result (IsPut (trace_text plan.now thread trace.now)
+        (way (K.written sink.old) (K.faults sink.old) pending.old)
+        (way (K.written sink.new) (K.faults sink.new) pending.new)) }
+    ensures failed { IsErrOf result PrintError.WriteFault → IsFailed (trace_text plan.now thread trace.now)
+        (way (K.written sink.old) (K.faults sink.old) pending.old)
+        (way (K.written sink.new) (K.faults sink.new) pending.new) }
+    ensures cut { IsErrOf result PrintError.NoMemory → IsCut (trace_text plan.now thread trace.now)
+        (way (K.written sink.old) (K.faults sink.old) pending.old)
+        (way (K.written sink.new) (K.faults sink.new) pending.new) }
+{
+    for item in trace {
+        put_item(alloc, pending, sink, plan, thread, item)?;
+    }
+    Ok(())
+}
+
+// Puts the line of an item, if it is a sample.
+fn put_item<K: Sink>(
+    alloc: Global,
+    pending: &mut Pending,
+    sink: &mut K,
+    plan: &Plan,
+    thread: u16,
+    item: &TraceItem,
+) -> Result<(), PrintError>
+    requires thread { thread < length (threads_of plan.now) }
+    requires label { IsLabelled (length (labels_of plan.now.elements)) item.now }
+    ensures put { OnOk result (IsPut (line_of plan.now thread item.now)
+        (way (K.written sink.old) (K.faults sink.old) pending.old)
+        (way (K.written sink.new) (K.faults sink.new) pending.new)) }
+    ensures failed { IsErrOf result PrintError.WriteFault → IsFailed (line_of plan.now thread item.now)
+        (way (K.written sink.old) (K.faults sink.old) pending.old)
+        (way (K.written sink.new) (K.faults sink.new) pending.new) }
+    ensures cut { IsErrOf result PrintError.NoMemory → IsCut (line_of plan.now thread item.now)
+        (way (K.written sink.old) (K.faults sink.old) pending.old)
+        (way (K.written sink.new) (K.faults sink.new) pending.new) }
+{
+    match item {
+        TraceItem::Sampled { sample, interval } => {
+            put_sample(alloc, pending, sink, plan, thread, sample, *interval)
+        }
+        TraceItem::Paused(_)
+        | TraceItem::Null { .. }
+        | TraceItem::Entered { .. }
+        | TraceItem::Left { .. }
+        | TraceItem::Ended(_) => Ok(()),
+    }
+}
+
+// Puts the line of a sample.
+fn put_sample<K: Sink>(
+    alloc: Global,
+    pending: &mut Pending,
+    sink: &mut K,
+    plan: &Plan,
+    thread: u16,
+    sample: &Sample,
+    interval: u64,
+) -> Result<(), PrintError>
+    requires thread { thread < length (threads_of plan.now) }
+    requires label { sample.now.label < length (labels_of plan.now.elements) }
+    ensures put { OnOk result (IsPut (result_text plan.now thread sample.now interval)
+        (way (K.written sink.old) (K.faults sink.old) pending.old)
+        (way (K.written sink.new) (K.faults sink.new) pending.new)) }
+    ensures failed { IsErrOf result PrintError.WriteFault → IsFailed (result_text plan.now thread sample.now interval)
+        (way (K.written sink.old) (K.faults sink.old) pending.old)
+        (way (K.written sink.new) (K.faults sink.new) pending.new) }
+    ensures cut { IsErrOf result PrintError.NoMemory → IsCut (result_text plan.now thread sample.now interval)
+        (way (K.written sink.old) (K.faults sink.old) pending.old)
+        (way (K.written sink.new) (K.faults sink.new) pending.new) }
+{
+    let mut line = Vec::new(alloc);
+    if result_line(alloc, &mut line, plan, thread, sample, interval).is_err() {
+        return Err(PrintError::NoMemory);
+    }
+    put_lines(pending, sink, &line)
+}

@@ -1,0 +1,101 @@
+// The summary, and how a thread ended.
+
+ghost use Rattle.std.specs.Prelude.{◌≡◌, ◌<◌, ◌++◌, length, OnOk, IsErrOf};
+ghost use Rattle.element_tree.specs.Tree.{threads_of};
+ghost use Rattle.element_tree.specs.Names.{labels_of};
+ghost use Rattle.interval_tables.specs.Rows.{IsInBounds};
+ghost use Rattle.output_lines.specs.Lines.{end_text};
+ghost use Rattle.output_lines.specs.Reports.{summary_text};
+ghost use Rattle.trace_output.specs.Printing.{way, IsPut, IsFailed, IsCut, TextOut, TextFailed, TextCut};
+
+use crate::error::PrintError;
+use crate::line::{finish, put_lines};
+use edge_io::Sink;
+use element_tree::Plan;
+use interval_tables::Report;
+use jm_base::End;
+use line_output::Pending;
+use output_lines::{end_line, summary_lines};
+use std::alloc::Global;
+
+/// Prints the summary of samples that are counted in `total`, and the line that says how their thread ended. Where memory
+/// runs out a prefix of this is out; where the sink fails, too.
+pub fn print_report<K: Sink>(
+    alloc: Global,
+    reports: &mut K,
+    plan: &Plan,
+    total: &Report,
+    thread: u16,
+    end: End,
+) -> Result<(), PrintError>
+    requires rows { length total.now.rows ≡ length (labels_of plan.now.elements) }
+    requires bounds { IsInBounds total.now.rows }
+    requires thread { thread < length (threads_of plan.now) }
+    ensures out { OnOk result (TextOut (summary_text plan.now total.now ++ end_text plan.now thread end)
+        (K.written reports.old) (K.written reports.new) (K.faults reports.old) (K.faults reports.new)) }
+    ensures failed { IsErrOf result PrintError.WriteFault → TextFailed (summary_text plan.now total.now ++ end_text plan.now thread end)
+        (K.written reports.old) (K.written reports.new) (K.faults reports.old) (K.faults reports.new) }
+    ensures cut { IsErrOf result PrintError.NoMemory → TextCut (summary_text plan.now total.now ++ end_text plan.now thread end)
+        (K.written reports.old) (K.written reports.new) (K.faults reports.old) (K.faults reports.new) }
+{
+    let Ok(mut pending) = Pending::new(alloc) else {
+        return Err(PrintError::NoMemory);
+    };
+    put_summary(alloc, &mut pending, reports, plan, total)?;
+    put_end(alloc, &mut pending, reports, plan, thread, end)?;
+    finish(&mut pending, reports)
+}
+
+// Puts the summary.
+fn put_summary<K: Sink>(
+    alloc: Global,
+    pending: &mut Pending,
+    sink: &mut K,
+    plan: &Plan,
+    total: &Report,
+) -> Result<(), PrintError>
+    requires rows { length total.now.rows ≡ length (labels_of plan.now.elements) }
+    requires bounds { IsInBounds total.now.rows }
+    ensures put { OnOk result (IsPut (summary_text plan.now total.now)
+        (way (K.written sink.old) (K.faults sink.old) pending.old)
+        (way (K.written sink.new) (K.faults sink.new) pending.new)) }
+    ensures failed { IsErrOf result PrintError.WriteFault → IsFailed (summary_text plan.now total.now)
+        (way (K.written sink.old) (K.faults sink.old) pending.old)
+        (way (K.written sink.new) (K.faults sink.new) pending.new) }
+    ensures cut { IsErrOf result PrintError.NoMemory → IsCut (summary_text plan.now total.now)
+        (way (K.written sink.old) (K.faults sink.old) pending.old)
+        (way (K.written sink.new) (K.faults sink.new) pending.new) }
+{
+    let mut lines = Vec::new(alloc);
+    if summary_lines(alloc, &mut lines, plan, total).is_err() {
+        return Err(PrintError::NoMemory);
+    }
+    put_lines(pending, sink, &lines)
+}
+
+// Puts the line that says how a thread ended.
+fn put_end<K: Sink>(
+    alloc: Global,
+    pending: &mut Pending,
+    sink: &mut K,
+    plan: &Plan,
+    thread: u16,
+    end: End,
+) -> Result<(), PrintError>
+    requires { thread < length (threads_of plan.now) }
+    ensures put { OnOk result (IsPut (end_text plan.now thread end)
+        (way (K.written sink.old) (K.faults sink.old) pending.old)
+        (way (K.written sink.new) (K.faults sink.new) pending.new)) }
+    ensures failed { IsErrOf result PrintError.WriteFault → IsFailed (end_text plan.now thread end)
+        (way (K.written sink.old) (K.faults sink.old) pending.old)
+        (way (K.written sink.new) (K.faults sink.new) pending.new) }
+    ensures cut { IsErrOf result PrintError.NoMemory → IsCut (end_text plan.now thread end)
+        (way (K.written sink.old) (K.faults sink.old) pending.old)
+        (way (K.written sink.new) (K.faults sink.new) pending.new) }
+{
+    let mut line = Vec::new(alloc);
+    if end_line(alloc, &mut line, plan, thread, end).is_err() {
+        return Err(PrintError::NoMemory);
+    }
+    put_lines(pending, sink, &line)
+}
