@@ -6,7 +6,7 @@ use choice_controllers::{InterleaveCursor, OrderCursor, RandomCursor, SwitchCurs
 use element_tree::{Kind, Plan, Turn};
 use logic_controllers::{EachCursor, IfCursor, LoopCursor, OnceCursor, SimpleCursor, WhileCursor};
 use std::alloc::Global;
-use var_functions::UserState;
+use var_functions::{UserState, VarError};
 
 /// The cursor of a controller.
 #[derive(Drop)]
@@ -23,23 +23,27 @@ pub enum Controller {
     Switch(SwitchCursor),
 }
 
-// Stops where the cursor's element is not of this kind.
+/// What a call gave, or nothing where it can't be made: the element is not of the cursor's kind, or the controller has
+/// begun more rounds than a thread has.
+pub type Given<T> = Option<Result<T, VarError>>;
+
+// Gives nothing where the cursor's element is not of this kind.
 macro_rules! need {
     ($plan:ident, $cursor:ident, $kind:pat) => {
         let Some(element) = $plan.element($cursor.element) else {
-            bail!("no element");
+            return None;
         };
         let $kind = &element.kind else {
-            bail!("another kind");
+            return None;
         };
     };
 }
 
-// Stops where a looping controller has begun more rounds than a thread has.
+// Gives nothing where a looping controller has begun more rounds than a thread has.
 macro_rules! need_rounds {
     ($cursor:ident) => {
         if $cursor.rounds.begun > 16_777_216 {
-            bail!("too many rounds");
+            return None;
         }
     };
 }
@@ -64,59 +68,19 @@ impl Controller {
     }
 
     /// Begins a pass.
-    pub fn enter(
-        &mut self,
-        alloc: Global,
-        plan: &Plan,
-        state: &mut UserState,
-    ) -> anyhow::Result<()> {
+    pub fn enter(&mut self, alloc: Global, plan: &Plan, state: &mut UserState) -> Given<()> {
         match self {
-            Controller::Simple(cursor) => {
-                need!(plan, cursor, Kind::Simple);
-                cursor.enter(alloc, plan, state, &mut Silence)?;
-            }
-            Controller::Once(cursor) => {
-                need!(plan, cursor, Kind::OnceOnly);
-                cursor.enter(alloc, plan, state, &mut Silence)?;
-            }
-            Controller::Loop(cursor) => {
-                need!(plan, cursor, Kind::Loop { loops: _ });
-                cursor.enter(alloc, plan, state, &mut Silence)?;
-            }
-            Controller::If(cursor) => {
-                need!(
-                    plan,
-                    cursor,
-                    Kind::If {
-                        all: _,
-                        condition: _
-                    }
-                );
-                cursor.enter(alloc, plan, state, &mut Silence)?;
-            }
-            Controller::While(cursor) => {
-                need!(plan, cursor, Kind::While { condition: _ });
-                cursor.enter(alloc, plan, state, &mut Silence)?;
-            }
-            Controller::Each(cursor) => enter_each(alloc, plan, cursor, state)?,
-            Controller::Interleave(cursor) => {
-                need!(plan, cursor, Kind::Interleave);
-                cursor.enter(alloc, plan, state, &mut Silence)?;
-            }
-            Controller::Random(cursor) => {
-                need!(plan, cursor, Kind::Random);
-                cursor.enter(alloc, plan, state, &mut Silence)?;
-            }
-            Controller::Order(cursor) => {
-                need!(plan, cursor, Kind::RandomOrder);
-                cursor.enter(alloc, plan, state, &mut Silence)?;
-            }
-            Controller::Switch(cursor) => {
-                need!(plan, cursor, Kind::Switch { value: _ });
-                cursor.enter(alloc, plan, state, &mut Silence)?;
-            }
+            Controller::Simple(cursor) => enter_simple(alloc, plan, cursor, state),
+            Controller::Once(cursor) => enter_once(alloc, plan, cursor, state),
+            Controller::Loop(cursor) => enter_loop(alloc, plan, cursor, state),
+            Controller::If(cursor) => enter_if(alloc, plan, cursor, state),
+            Controller::While(cursor) => enter_while(alloc, plan, cursor, state),
+            Controller::Each(cursor) => enter_each(alloc, plan, cursor, state),
+            Controller::Interleave(cursor) => enter_interleave(alloc, plan, cursor, state),
+            Controller::Random(cursor) => enter_random(alloc, plan, cursor, state),
+            Controller::Order(cursor) => enter_order(alloc, plan, cursor, state),
+            Controller::Switch(cursor) => enter_switch(alloc, plan, cursor, state),
         }
-        Ok(())
     }
 
     /// What the controller does next, in a round of this index around it.
@@ -126,23 +90,69 @@ impl Controller {
         plan: &Plan,
         round: u64,
         state: &mut UserState,
-    ) -> anyhow::Result<Turn> {
-        let turn = match self {
-            Controller::Simple(cursor) => cursor.next(alloc, plan, round, state, &mut Silence)?,
-            Controller::Once(cursor) => cursor.next(alloc, plan, round, state, &mut Silence)?,
-            Controller::Loop(cursor) => next_loop(alloc, plan, cursor, state)?,
-            Controller::If(cursor) => next_if(alloc, plan, cursor, state)?,
-            Controller::While(cursor) => next_while(alloc, plan, cursor, state)?,
-            Controller::Each(cursor) => next_each(alloc, plan, cursor, state)?,
-            Controller::Interleave(cursor) => {
-                cursor.next(alloc, plan, round, state, &mut Silence)?
-            }
-            Controller::Random(cursor) => cursor.next(alloc, plan, round, state, &mut Silence)?,
-            Controller::Order(cursor) => cursor.next(alloc, plan, round, state, &mut Silence)?,
-            Controller::Switch(cursor) => cursor.next(alloc, plan, round, state, &mut Silence)?,
-        };
-        Ok(turn)
+    ) -> Given<Turn> {
+        match self {
+            Controller::Simple(cursor) => next_simple(alloc, plan, cursor, state),
+            Controller::Once(cursor) => next_once(alloc, plan, cursor, round, state),
+            Controller::Loop(cursor) => next_loop(alloc, plan, cursor, state),
+            Controller::If(cursor) => next_if(alloc, plan, cursor, state),
+            Controller::While(cursor) => next_while(alloc, plan, cursor, state),
+            Controller::Each(cursor) => next_each(alloc, plan, cursor, state),
+            Controller::Interleave(cursor) => next_interleave(alloc, plan, cursor, state),
+            Controller::Random(cursor) => next_random(alloc, plan, cursor, state),
+            Controller::Order(cursor) => next_order(alloc, plan, cursor, state),
+            Controller::Switch(cursor) => next_switch(alloc, plan, cursor, state),
+        }
     }
+}
+
+fn enter_simple(
+    alloc: Global,
+    plan: &Plan,
+    cursor: &mut SimpleCursor,
+    state: &mut UserState,
+) -> Given<()> {
+    need!(plan, cursor, Kind::Simple);
+    Some(cursor.enter(alloc, plan, state, &mut Silence))
+}
+
+fn next_simple(
+    alloc: Global,
+    plan: &Plan,
+    cursor: &mut SimpleCursor,
+    state: &mut UserState,
+) -> Given<Turn> {
+    Some(cursor.next(alloc, plan, 0, state, &mut Silence))
+}
+
+fn enter_once(
+    alloc: Global,
+    plan: &Plan,
+    cursor: &mut OnceCursor,
+    state: &mut UserState,
+) -> Given<()> {
+    need!(plan, cursor, Kind::OnceOnly);
+    Some(cursor.enter(alloc, plan, state, &mut Silence))
+}
+
+fn next_once(
+    alloc: Global,
+    plan: &Plan,
+    cursor: &mut OnceCursor,
+    round: u64,
+    state: &mut UserState,
+) -> Given<Turn> {
+    Some(cursor.next(alloc, plan, round, state, &mut Silence))
+}
+
+fn enter_loop(
+    alloc: Global,
+    plan: &Plan,
+    cursor: &mut LoopCursor,
+    state: &mut UserState,
+) -> Given<()> {
+    need!(plan, cursor, Kind::Loop { loops: _ });
+    Some(cursor.enter(alloc, plan, state, &mut Silence))
 }
 
 fn next_loop(
@@ -150,19 +160,13 @@ fn next_loop(
     plan: &Plan,
     cursor: &mut LoopCursor,
     state: &mut UserState,
-) -> anyhow::Result<Turn> {
+) -> Given<Turn> {
     need!(plan, cursor, Kind::Loop { loops: _ });
     need_rounds!(cursor);
-    let turn = cursor.next(alloc, plan, 0, state, &mut Silence)?;
-    Ok(turn)
+    Some(cursor.next(alloc, plan, 0, state, &mut Silence))
 }
 
-fn next_if(
-    alloc: Global,
-    plan: &Plan,
-    cursor: &mut IfCursor,
-    state: &mut UserState,
-) -> anyhow::Result<Turn> {
+fn enter_if(alloc: Global, plan: &Plan, cursor: &mut IfCursor, state: &mut UserState) -> Given<()> {
     need!(
         plan,
         cursor,
@@ -171,8 +175,34 @@ fn next_if(
             condition: _
         }
     );
-    let turn = cursor.next(alloc, plan, 0, state, &mut Silence)?;
-    Ok(turn)
+    Some(cursor.enter(alloc, plan, state, &mut Silence))
+}
+
+fn next_if(
+    alloc: Global,
+    plan: &Plan,
+    cursor: &mut IfCursor,
+    state: &mut UserState,
+) -> Given<Turn> {
+    need!(
+        plan,
+        cursor,
+        Kind::If {
+            all: _,
+            condition: _
+        }
+    );
+    Some(cursor.next(alloc, plan, 0, state, &mut Silence))
+}
+
+fn enter_while(
+    alloc: Global,
+    plan: &Plan,
+    cursor: &mut WhileCursor,
+    state: &mut UserState,
+) -> Given<()> {
+    need!(plan, cursor, Kind::While { condition: _ });
+    Some(cursor.enter(alloc, plan, state, &mut Silence))
 }
 
 fn next_while(
@@ -180,11 +210,10 @@ fn next_while(
     plan: &Plan,
     cursor: &mut WhileCursor,
     state: &mut UserState,
-) -> anyhow::Result<Turn> {
+) -> Given<Turn> {
     need!(plan, cursor, Kind::While { condition: _ });
     need_rounds!(cursor);
-    let turn = cursor.next(alloc, plan, 0, state, &mut Silence)?;
-    Ok(turn)
+    Some(cursor.next(alloc, plan, 0, state, &mut Silence))
 }
 
 fn enter_each(
@@ -192,7 +221,7 @@ fn enter_each(
     plan: &Plan,
     cursor: &mut EachCursor,
     state: &mut UserState,
-) -> anyhow::Result<()> {
+) -> Given<()> {
     need!(
         plan,
         cursor,
@@ -204,8 +233,7 @@ fn enter_each(
             start: _
         }
     );
-    cursor.enter(alloc, plan, state, &mut Silence)?;
-    Ok(())
+    Some(cursor.enter(alloc, plan, state, &mut Silence))
 }
 
 fn next_each(
@@ -213,7 +241,7 @@ fn next_each(
     plan: &Plan,
     cursor: &mut EachCursor,
     state: &mut UserState,
-) -> anyhow::Result<Turn> {
+) -> Given<Turn> {
     need!(
         plan,
         cursor,
@@ -225,6 +253,81 @@ fn next_each(
             start: _
         }
     );
-    let turn = cursor.next(alloc, plan, 0, state, &mut Silence)?;
-    Ok(turn)
+    Some(cursor.next(alloc, plan, 0, state, &mut Silence))
+}
+
+fn enter_interleave(
+    alloc: Global,
+    plan: &Plan,
+    cursor: &mut InterleaveCursor,
+    state: &mut UserState,
+) -> Given<()> {
+    need!(plan, cursor, Kind::Interleave);
+    Some(cursor.enter(alloc, plan, state, &mut Silence))
+}
+
+fn next_interleave(
+    alloc: Global,
+    plan: &Plan,
+    cursor: &mut InterleaveCursor,
+    state: &mut UserState,
+) -> Given<Turn> {
+    Some(cursor.next(alloc, plan, 0, state, &mut Silence))
+}
+
+fn enter_random(
+    alloc: Global,
+    plan: &Plan,
+    cursor: &mut RandomCursor,
+    state: &mut UserState,
+) -> Given<()> {
+    need!(plan, cursor, Kind::Random);
+    Some(cursor.enter(alloc, plan, state, &mut Silence))
+}
+
+fn next_random(
+    alloc: Global,
+    plan: &Plan,
+    cursor: &mut RandomCursor,
+    state: &mut UserState,
+) -> Given<Turn> {
+    Some(cursor.next(alloc, plan, 0, state, &mut Silence))
+}
+
+fn enter_order(
+    alloc: Global,
+    plan: &Plan,
+    cursor: &mut OrderCursor,
+    state: &mut UserState,
+) -> Given<()> {
+    need!(plan, cursor, Kind::RandomOrder);
+    Some(cursor.enter(alloc, plan, state, &mut Silence))
+}
+
+fn next_order(
+    alloc: Global,
+    plan: &Plan,
+    cursor: &mut OrderCursor,
+    state: &mut UserState,
+) -> Given<Turn> {
+    Some(cursor.next(alloc, plan, 0, state, &mut Silence))
+}
+
+fn enter_switch(
+    alloc: Global,
+    plan: &Plan,
+    cursor: &mut SwitchCursor,
+    state: &mut UserState,
+) -> Given<()> {
+    need!(plan, cursor, Kind::Switch { value: _ });
+    Some(cursor.enter(alloc, plan, state, &mut Silence))
+}
+
+fn next_switch(
+    alloc: Global,
+    plan: &Plan,
+    cursor: &mut SwitchCursor,
+    state: &mut UserState,
+) -> Given<Turn> {
+    Some(cursor.next(alloc, plan, 0, state, &mut Silence))
 }

@@ -4,42 +4,57 @@ use crate::controllers::Controller;
 use crate::outsides::Silence;
 use crate::settings::Settings;
 use crate::show::plain;
-use element_tree::{Plan, RegexPatterns, Turn, build};
+use anyhow::bail;
+use element_tree::{BuildError, Plan, RegexPatterns, Turn, build};
 use jm_base::Text;
-use plan_json::read_tree;
+use plan_json::{RawElement, TreeError, read_tree};
 use std::alloc::Global;
-use template_text::parse_template;
+use template_text::{Template, parse_template};
 use var_functions::{FnState, Props, UserState, Vars, expand};
+
+// The tree that a text is.
+fn tree_of(alloc: Global, text: &str) -> Result<RawElement, TreeError> {
+    read_tree(alloc, text.as_bytes())
+}
+
+// The plan of a tree.
+fn built(alloc: Global, tree: &RawElement) -> Result<Plan, BuildError> {
+    let mut patterns = RegexPatterns::new(Vec::new(alloc));
+    build(alloc, tree, &mut patterns)
+}
 
 /// The plan that a text is.
 pub fn plan_of(alloc: Global, text: &str) -> anyhow::Result<Plan> {
-    let tree = read_tree(alloc, text.as_bytes())?;
-    let mut patterns = RegexPatterns::new(Vec::new(alloc));
-    let plan = build(alloc, &tree, &mut patterns)?;
+    let tree = tree_of(alloc, text)?;
+    let plan = built(alloc, &tree)?;
     Ok(plan)
 }
 
 /// The properties that a text is.
 pub fn props_of(alloc: Global, text: &str) -> anyhow::Result<Props> {
     if text.len() > 65_536 {
-        anyhow::bail!("long properties");
+        bail!("long properties");
     }
     let props = Props::read(alloc, text.as_bytes())?;
     Ok(props)
 }
 
+fn copied(alloc: Global, text: &str) -> anyhow::Result<String> {
+    Ok(text.to_string(alloc)?)
+}
+
 // A child: `timer`, a sampler that is disabled, `off`, or a sampler of this name.
 fn child(alloc: Global, word: &str) -> anyhow::Result<String> {
-    let text = match word {
-        "timer" => "{\"type\":\"ConstantTimer\",\"props\":{\"delay\":\"5\"}}".to_string(alloc)?,
-        "off" => "{\"type\":\"Script\",\"enabled\":false,\"props\":{\"replies\":[{}]}}".to_string(
+    match word {
+        "timer" => copied(alloc, r#"{"type":"ConstantTimer","props":{"delay":"5"}}"#),
+        "off" => copied(
             alloc,
-        )?,
-        _ => format!(in alloc;
+            r#"{"type":"Script","enabled":false,"props":{"replies":[{}]}}"#,
+        ),
+        _ => Ok(format!(in alloc;
             "{{\"type\":\"Script\",\"name\":\"{word}\",\"props\":{{\"replies\":[{{}}]}}}}"
-        )?,
-    };
-    Ok(text)
+        )?),
+    }
 }
 
 fn children(alloc: Global, words: &str) -> anyhow::Result<String> {
@@ -90,17 +105,21 @@ fn put_all(alloc: Global, words: &str, vars: &mut Vars) -> anyhow::Result<()> {
     Ok(())
 }
 
+// The state of the functions of a thread, with the random words of this stream and seed.
+fn functions_of(alloc: Global, stream: u64, seed: u64) -> anyhow::Result<FnState> {
+    let props = props_of(alloc, "")?;
+    let fns = FnState::new(alloc, &props, 1, stream, seed)?;
+    Ok(fns)
+}
+
 // The state of a thread with the variables, and the random words, of the settings.
 fn state_of(alloc: Global, settings: &Settings) -> anyhow::Result<UserState> {
-    let props = Props::read(alloc, b"")?;
     let seed = settings.number("seed", 0)?;
     let stream = settings.number("stream", 0)?;
+    let fns = functions_of(alloc, stream, seed)?;
     let mut vars = Vars::new(alloc);
     put_all(alloc, settings.text("variables"), &mut vars)?;
-    Ok(UserState {
-        vars,
-        fns: FnState::new(alloc, &props, 1, stream, seed)?,
-    })
+    Ok(UserState { vars, fns })
 }
 
 // A controller at work: its plan, the state of a thread, and where the controller stands.
@@ -111,14 +130,19 @@ struct Scene {
     controller: Controller,
 }
 
+// The controller that the plan's element 2 is.
+fn controller_of(plan: &Plan) -> anyhow::Result<Controller> {
+    match plan.element(2) {
+        Some(element) => Controller::new(2, &element.kind),
+        None => bail!("no element"),
+    }
+}
+
 fn scene_of(alloc: Global, settings: &Settings, rest: &str) -> anyhow::Result<Scene> {
     let (kind, members) = rest.split_once(' ').unwrap_or((rest, ""));
-    let plan = plan_with(alloc, kind, members, settings.text("children"))?;
     let state = state_of(alloc, settings)?;
-    let Some(element) = plan.element(2) else {
-        anyhow::bail!("no element");
-    };
-    let controller = Controller::new(2, &element.kind)?;
+    let plan = plan_with(alloc, kind, members, settings.text("children"))?;
+    let controller = controller_of(&plan)?;
     Ok(Scene {
         plan,
         state,
@@ -126,14 +150,34 @@ fn scene_of(alloc: Global, settings: &Settings, rest: &str) -> anyhow::Result<Sc
     })
 }
 
-// What a template stands for now.
-fn expanded(alloc: Global, template: &str, state: &mut UserState) -> anyhow::Result<Text> {
-    if template.len() > 65_536 {
-        anyhow::bail!("a long template");
+// The template that a text is.
+fn template_of(alloc: Global, text: &str) -> anyhow::Result<Template> {
+    if text.len() > 65_536 {
+        bail!("a long template");
     }
-    let template = parse_template(alloc, template.as_bytes())?;
+    let template = parse_template(alloc, text.as_bytes())?;
+    Ok(template)
+}
+
+// What a template stands for now.
+fn expanded(alloc: Global, text: &str, state: &mut UserState) -> anyhow::Result<Text> {
+    let template = template_of(alloc, text)?;
     let text = expand(alloc, &template, state, &mut Silence)?;
     Ok(text)
+}
+
+// The place of a child, with what a template stands for then.
+fn child_text(
+    alloc: Global,
+    shown: &str,
+    place: u16,
+    state: &mut UserState,
+) -> anyhow::Result<String> {
+    if shown.is_empty() {
+        return Ok(format!(in alloc; " {place}")?);
+    }
+    let value = expanded(alloc, shown, state)?;
+    Ok(format!(in alloc; " {place}({})", plain(&value))?)
 }
 
 // A turn in words. The template of the setting `shown` is expanded after each child.
@@ -143,20 +187,49 @@ fn turn_text(
     turn: Turn,
     state: &mut UserState,
 ) -> anyhow::Result<String> {
-    let shown = settings.text("shown");
-    let text = match turn {
-        Turn::Child(place) if shown.is_empty() => format!(in alloc; " {place}")?,
-        Turn::Child(place) => {
-            let value = expanded(alloc, shown, state)?;
-            format!(in alloc; " {place}({})", plain(&value))?
-        }
-        Turn::Round => " round".to_string(alloc)?,
-        Turn::Over => " over".to_string(alloc)?,
-    };
-    Ok(text)
+    match turn {
+        Turn::Child(place) => child_text(alloc, settings.text("shown"), place, state),
+        Turn::Round => copied(alloc, " round"),
+        Turn::Over => copied(alloc, " over"),
+    }
 }
 
-// The turns of one pass, at most as many as the setting `turns` says. After each child the variables of `after` are set.
+// Begins a pass.
+fn begin(alloc: Global, scene: &mut Scene) -> anyhow::Result<()> {
+    match scene.controller.enter(alloc, &scene.plan, &mut scene.state) {
+        Some(entered) => Ok(entered?),
+        None => bail!("another kind"),
+    }
+}
+
+// What the controller does next, in a round of this index around it.
+fn next_turn(alloc: Global, scene: &mut Scene, round: u64) -> anyhow::Result<Turn> {
+    match scene
+        .controller
+        .next(alloc, &scene.plan, round, &mut scene.state)
+    {
+        Some(turn) => Ok(turn?),
+        None => bail!("no turn"),
+    }
+}
+
+// Adds a turn in words. After a child the variables of the setting `after` are set.
+fn take_turn(
+    alloc: Global,
+    settings: &Settings,
+    turn: Turn,
+    state: &mut UserState,
+    out: &mut String,
+) -> anyhow::Result<()> {
+    let text = turn_text(alloc, settings, turn, state)?;
+    out.push_str(text.as_str())?;
+    if let Turn::Child(_) = turn {
+        put_all(alloc, settings.text("after"), &mut state.vars)?;
+    }
+    Ok(())
+}
+
+// The turns of one pass, at most as many as the setting `turns` says.
 fn pass(
     alloc: Global,
     settings: &Settings,
@@ -164,20 +237,12 @@ fn pass(
     out: &mut String,
 ) -> anyhow::Result<()> {
     let round = settings.number("round", 0)?;
-    scene
-        .controller
-        .enter(alloc, &scene.plan, &mut scene.state)?;
+    begin(alloc, scene)?;
     for _ in 0..settings.number("turns", 6)? {
-        let turn = scene
-            .controller
-            .next(alloc, &scene.plan, round, &mut scene.state)?;
-        let text = turn_text(alloc, settings, turn, &mut scene.state)?;
-        out.push_str(text.as_str())?;
+        let turn = next_turn(alloc, scene, round)?;
+        take_turn(alloc, settings, turn, &mut scene.state, out)?;
         if turn == Turn::Over {
             break;
-        }
-        if turn != Turn::Round {
-            put_all(alloc, settings.text("after"), &mut scene.state.vars)?;
         }
     }
     Ok(())

@@ -68,14 +68,13 @@ pub fn plain(text: &Text) -> &str {
 }
 
 fn reply(alloc: Global, reply: &Reply) -> anyhow::Result<String> {
-    let text = format!(in alloc;
-        "reply {} message '{}' headers '{}' body '{}'",
-        reply.code,
-        plain(&reply.message),
-        plain(&reply.headers),
-        plain(&reply.body)
-    )?;
-    Ok(text)
+    let message = plain(&reply.message);
+    let headers = plain(&reply.headers);
+    let body = plain(&reply.body);
+    Ok(format!(in alloc;
+        "reply {} message '{message}' headers '{headers}' body '{body}'",
+        reply.code
+    )?)
 }
 
 /// What came of asking.
@@ -89,20 +88,19 @@ pub fn outcome(alloc: Global, outcome: &Outcome) -> anyhow::Result<String> {
 }
 
 fn request(alloc: Global, request: &Request) -> anyhow::Result<String> {
-    let text = match request {
-        Request::Script(text) => format!(in alloc; "'{}'", plain(text))?,
+    match request {
+        Request::Script(text) => Ok(format!(in alloc; "'{}'", plain(text))?),
         Request::Http { host, port, bytes } => {
-            format!(in alloc; "'{}' at '{}' port {port}", plain(bytes), plain(host))?
+            Ok(format!(in alloc; "'{}' at '{}' port {port}", plain(bytes), plain(host))?)
         }
-    };
-    Ok(text)
+    }
 }
 
 /// A call of an outside, with what it was given and what it answered.
 pub fn heard(alloc: Global, heard: &Heard) -> anyhow::Result<String> {
-    let text = match heard {
-        Heard::Reading(clock) => format!(in alloc; "told now: {clock}")?,
-        Heard::Paused(ms) => format!(in alloc; "told pause {ms}")?,
+    match heard {
+        Heard::Reading(clock) => Ok(format!(in alloc; "told now: {clock}")?),
+        Heard::Paused(ms) => Ok(format!(in alloc; "told pause {ms}")?),
         Heard::Asked {
             sampler,
             request: asked,
@@ -110,45 +108,46 @@ pub fn heard(alloc: Global, heard: &Heard) -> anyhow::Result<String> {
         } => {
             let asked = request(alloc, asked)?;
             let came = outcome(alloc, came)?;
-            format!(in alloc; "told ask {sampler} {asked}: {came}")?
+            Ok(format!(in alloc; "told ask {sampler} {asked}: {came}")?)
         }
-    };
-    Ok(text)
+    }
+}
+
+// What came of a sample.
+fn verdict(alloc: Global, sample: &Sample) -> anyhow::Result<String> {
+    let verdict = if sample.ok { "ok" } else { "failed" };
+    let message = plain(&sample.message);
+    let failure = plain(&sample.failure);
+    Ok(format!(in alloc; "message '{message}' {verdict} failure '{failure}'")?)
 }
 
 fn sample(alloc: Global, sample: &Sample) -> anyhow::Result<String> {
-    let verdict = if sample.ok { "ok" } else { "failed" };
+    let (stamp, elapsed) = (sample.stamp, sample.elapsed);
+    let (label, code) = (sample.label, sample.code);
+    let (bytes, listeners) = (sample.bytes, sample.listeners);
+    let verdict = verdict(alloc, sample)?;
     let text = format!(in alloc;
-        "sample at {} for {} label {} code {} message '{}' {verdict} failure '{}' bytes {} listeners {}",
-        sample.stamp,
-        sample.elapsed,
-        sample.label,
-        sample.code,
-        plain(&sample.message),
-        plain(&sample.failure),
-        sample.bytes,
-        sample.listeners
+        "sample at {stamp} for {elapsed} label {label} code {code} {verdict}"
     )?;
-    Ok(text)
+    Ok(format!(in alloc; "{text} bytes {bytes} listeners {listeners}")?)
 }
 
 /// One item of a thread's trace.
 pub fn item(alloc: Global, item: &TraceItem) -> anyhow::Result<String> {
-    let text = match item {
-        TraceItem::Paused(ms) => format!(in alloc; "paused {ms}")?,
+    match item {
+        TraceItem::Paused(ms) => Ok(format!(in alloc; "paused {ms}")?),
         TraceItem::Sampled {
             sample: made,
             interval,
         } => {
             let made = sample(alloc, made)?;
-            format!(in alloc; "{made} interval {interval}")?
+            Ok(format!(in alloc; "{made} interval {interval}")?)
         }
-        TraceItem::Null { sampler } => format!(in alloc; "null {sampler}")?,
-        TraceItem::Entered { lock, place } => format!(in alloc; "entered {lock} as {place}")?,
-        TraceItem::Left { lock } => format!(in alloc; "left {lock}")?,
-        TraceItem::Ended(end) => format!(in alloc; "ended {end:?}")?,
-    };
-    Ok(text)
+        TraceItem::Null { sampler } => Ok(format!(in alloc; "null {sampler}")?),
+        TraceItem::Entered { lock, place } => Ok(format!(in alloc; "entered {lock} as {place}")?),
+        TraceItem::Left { lock } => Ok(format!(in alloc; "left {lock}")?),
+        TraceItem::Ended(end) => Ok(format!(in alloc; "ended {end:?}")?),
+    }
 }
 
 /// The items of a trace, a line each.

@@ -1,7 +1,8 @@
 // Cases of whole threads, of a thread a step at a time, and of the moves of a thread.
 
 ghost use Rattle.std.specs.Prelude.{◌≡◌, ◌<◌, IfOk, length, false, None};
-ghost use Rattle.element_tree.specs.Tree.{threads_of};
+ghost use Rattle.element_tree.specs.Tree.{Tree, threads_of};
+ghost use Rattle.control_machine.specs.Left.{StandsIn};
 
 use crate::outsides::Scarce;
 use crate::scenes::{plan_of, props_of};
@@ -10,11 +11,11 @@ use crate::show::{Lines, trace};
 use anyhow::bail;
 use control_machine::{Leave, Machine, Move};
 use element_tree::Plan;
-use jm_base::{Sample, Text};
+use jm_base::{M, Sample, Text};
 use outside_world::ScriptOutside;
 use std::alloc::Global;
 use thread_machine::{Solo, Step, Worker, run_alone};
-use var_functions::{FnState, Props, UserState, Vars};
+use var_functions::{FnState, Props, UserState, VarError, Vars};
 
 // The numbers of a case: `thread`, `seed`, `budget`, and the calls for which the outside finds memory.
 #[derive(Clone, Copy)]
@@ -168,7 +169,7 @@ pub fn worker(alloc: Global, settings: &Settings, rest: &str) -> anyhow::Result<
     lines.into_text(alloc)
 }
 
-fn good_sample(alloc: Global) -> anyhow::Result<Sample> {
+fn good_sample(alloc: Global) -> M<Sample> {
     Ok(Sample {
         stamp: 3,
         elapsed: 5,
@@ -191,37 +192,89 @@ fn leave_of(word: &str) -> anyhow::Result<Leave> {
     }
 }
 
+// The machine of a plan's first thread.
+fn machine_of(alloc: Global, plan: &Plan) -> M<Machine>
+    requires { 0 < length (threads_of plan.now) }
+    ensures { IfOk result (StandsIn plan.now) }
+{
+    Machine::new(alloc, plan, 0)
+}
+
+// One move. Of what the call promises only what the next one asks for is said here.
+fn one_move(
+    alloc: Global,
+    plan: &Plan,
+    machine: &mut Machine,
+    state: &mut UserState,
+    outside: &mut ScriptOutside,
+) -> Result<Move, VarError>
+    requires { StandsIn plan.now machine.old }
+    ensures { IfOk result (λ m. StandsIn plan.now machine.new) }
+{
+    machine.next(alloc, plan, state, outside)
+}
+
+fn two_moves(
+    alloc: Global,
+    plan: &Plan,
+    machine: &mut Machine,
+    state: &mut UserState,
+    outside: &mut ScriptOutside,
+) -> Result<(Move, Move), VarError>
+    requires { StandsIn plan.now machine.old }
+    ensures { IfOk result (λ m. StandsIn plan.now machine.new) }
+{
+    let first = one_move(alloc, plan, machine, state, outside)?;
+    let second = one_move(alloc, plan, machine, state, outside)?;
+    Ok((first, second))
+}
+
+// Tells of a sample, and then of a way out.
+fn tell(machine: &mut Machine, sample: &Sample, how: Leave)
+    ensures { (plan : Tree) → StandsIn plan machine.old → StandsIn plan machine.new }
+{
+    machine.after(sample);
+    machine.leave(how);
+}
+
+// The state of a thread without variables.
+fn first_state(alloc: Global, props: &Props) -> M<UserState> {
+    Ok(UserState {
+        vars: Vars::new(alloc),
+        fns: FnState::new(alloc, props, 0, 0, 0)?,
+    })
+}
+
 // The first two moves of a plan's first thread, and two more after a good sample of 5 ms and 7 bytes at 3, and a way out.
 fn four_moves(alloc: Global, plan: &Plan, props: &Props, how: Leave) -> anyhow::Result<[Move; 4]>
     requires { 0 < length (threads_of plan.now) }
 {
+    let sample = good_sample(alloc)?;
     let mut outside = ScriptOutside::new(alloc, plan, false)?;
-    let mut state = UserState {
-        vars: Vars::new(alloc),
-        fns: FnState::new(alloc, props, 0, 0, 0)?,
-    };
-    let mut machine = Machine::new(alloc, plan, 0)?;
-    let first = machine.next(alloc, plan, &mut state, &mut outside)?;
-    let second = machine.next(alloc, plan, &mut state, &mut outside)?;
-    machine.after(&good_sample(alloc)?);
-    machine.leave(how);
-    let third = machine.next(alloc, plan, &mut state, &mut outside)?;
-    let fourth = machine.next(alloc, plan, &mut state, &mut outside)?;
+    let mut state = first_state(alloc, props)?;
+    let mut machine = machine_of(alloc, plan)?;
+    let (first, second) = two_moves(alloc, plan, &mut machine, &mut state, &mut outside)?;
+    tell(&mut machine, &sample, how);
+    let (third, fourth) = two_moves(alloc, plan, &mut machine, &mut state, &mut outside)?;
     Ok([first, second, third, fourth])
 }
 
-/// What a case `moves` prints: a line for each move.
-pub fn moves(alloc: Global, settings: &Settings, rest: &str) -> anyhow::Result<String> {
-    let plan = plan_of(alloc, settings.text("plan"))?;
-    let props = props_of(alloc, settings.text("properties"))?;
-    let how = leave_of(rest)?;
-    if plan.threads() == 0 {
-        bail!("no thread");
-    }
-    let moves = four_moves(alloc, &plan, &props, how)?;
+// A line for each move.
+fn moves_text(alloc: Global, moves: [Move; 4]) -> anyhow::Result<String> {
     let mut lines = Lines::new(alloc);
     for one in moves {
         lines.add(alloc, format!(in alloc; "= {one:?}")?)?;
     }
     lines.into_text(alloc)
+}
+
+/// What a case `moves` prints: a line for each move.
+pub fn moves(alloc: Global, settings: &Settings, rest: &str) -> anyhow::Result<String> {
+    let how = leave_of(rest)?;
+    let plan = plan_of(alloc, settings.text("plan"))?;
+    let props = props_of(alloc, settings.text("properties"))?;
+    if plan.threads() == 0 {
+        bail!("no thread");
+    }
+    moves_text(alloc, four_moves(alloc, &plan, &props, how)?)
 }
