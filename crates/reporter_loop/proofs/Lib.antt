@@ -1,0 +1,5 @@
+pub mod Judging
+pub mod Numbers
+pub mod Outcomes
+pub mod Texts
+pub mod Ticking

@@ -1,0 +1,30 @@
+-- What the traces and the lists of all workers say, once all were taken in.
+use Rattle.std.proofs.Common.{◌≡◌, ◌∙◌, ℕ, Bool, List, length, map, sym, ap, subst}
+use Rattle.jm_base.specs.Outside.{Account}
+use Rattle.element_tree.specs.Tree.{Tree}
+use Rattle.jm_meaning.specs.Beginning.{Options}
+use Rattle.thread_machine.specs.declared.trace.TraceItem.{TraceItem}
+use Rattle.phaser_core.specs.declared.view.Reading.{Reading}
+use Rattle.phaser_words.specs.Kinds.{lists_of}
+use Rattle.recorder_core.specs.declared.places.Recorder.{Recorder}
+use Rattle.recorder_core.specs.Seats.{numbers_of}
+use Rattle.run_engine.specs.declared.job.Job.{Job}
+use Rattle.run_engine.specs.Joins.{joined_of, trace_of, AllDone, AllEnd}
+use Rattle.run_engine.specs.Keeps.{AllKeep}
+use Rattle.run_engine.specs.Paired.{pairs_of}
+use Rattle.run_engine.proofs.Joining.{lists_are, len_map, keep_done, ends_done}
+
+module _ {O : Type 0} (js : List (Job O)) (traces : List (List TraceItem)) (traces_are : traces ≡ map trace_of js) where
+  pub lists_so : (s : Reading) → s.joined ≡ map joined_of js → lists_of s.joined ≡ pairs_of traces
+  lists_so s is = ap lists_of is ∙ lists_are js ∙ ap pairs_of (sym traces_are)
+
+  module _ (account : O → Account) (r : Recorder) (plan : Tree) (options : Options) (identity : ℕ) (tells : Bool) (count : ℕ)
+      (all : AllDone account r plan options identity tells count js) (len : length js ≡ count) where
+    pub keep_so : AllKeep (numbers_of r).labels (numbers_of r).budget (pairs_of traces)
+    keep_so = subst (λ (ts : List (List TraceItem)). AllKeep (numbers_of r).labels (numbers_of r).budget (pairs_of ts)) (sym traces_are) (keep_done account r plan options identity tells count js all len)
+
+    pub many : length traces ≡ count
+    many = ap length traces_are ∙ len_map trace_of js ∙ len
+
+    pub ends_all_so : AllEnd traces
+    ends_all_so = subst AllEnd (sym traces_are) (ends_done account r plan options identity tells count js all len)

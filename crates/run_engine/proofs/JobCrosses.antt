@@ -1,0 +1,33 @@
+-- A job may go to another thread: what it holds by parts, each by its own search.
+use mathlib.Core.List.{[], ◌∷◌}
+use mir.Syntax.{Sym}
+use denote.RattleType.{RattleType}
+use denote.Struct.Tuple.{TupleAt, type_at}
+use denote.Ref.{NamedLft}
+use denote.Param.Send.{IsSend, view_send, sendable}
+use denote.Param.SendFields.{as_row_send, declared_send}
+use denote.Struct.Field.{row_field}
+use Rattle.std.proofs.Crossing.{crosses}
+use Rattle.jm_base.proofs.types.Sample.TheSendSync as sample
+use Rattle.var_functions.proofs.state.UserState.TheSendSync as user
+use Rattle.control_machine.proofs.machine.Machine.TheSendSync as machine
+use Rattle.thread_machine.proofs.trace.Trace.TheSendSync as trace
+use Rattle.recorder_core.proofs.places.WriterSeat.TheSendSync as writer
+use Rattle.thread_machine.specs.contracts.runner.Runner as Runner
+use Rattle.thread_machine.specs.contracts.worker.Worker as Worker
+use Rattle.thread_machine.specs.contracts.worker.Worker.TheInside as WorkerInside
+use Rattle.run_engine.specs.contracts.job.Job as Job
+use Rattle.plan_shares.proofs.PlanShares.{plan}
+
+pub runner : (a : NamedLft) → IsSend (Runner.the_row a)
+runner a = search (plan, sample.the_send, user.the_field_send, machine.the_field_send, trace.the_send, crosses, sendable) depth 60
+
+pub worker : (a : NamedLft) → IsSend (Worker.the_row a)
+worker a = view_send (WorkerInside.the_row a) _ _ _ _ (declared_send (WorkerInside.the_type a) (runner a, (search sendable depth 20, tt)))
+
+pub job : (a : NamedLft) (O : RattleType) → IsSend O → IsSend (Job.the_row a O)
+job a O s = declared_send (Job.the_type a O) (search sendable depth 20, (worker a, (as_row_send (row_field O) s, (writer.the_send, tt))))
+
+-- what a closure holds
+pub closure : (ν : Sym) (A B C D : RattleType) → IsSend A → IsSend B → IsSend C → IsSend D → IsSend (TupleAt ν (A ∷ B ∷ C ∷ D ∷ []))
+closure ν A B C D a b c d = declared_send (type_at ν (A ∷ B ∷ C ∷ D ∷ [])) (as_row_send (row_field A) a, (as_row_send (row_field B) b, (as_row_send (row_field C) c, (as_row_send (row_field D) d, tt))))

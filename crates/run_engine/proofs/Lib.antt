@@ -1,0 +1,9 @@
+pub mod Bounding
+pub mod Closing
+pub mod Counting
+pub mod Finishing
+pub mod JobCrosses
+pub mod Joining
+pub mod Opening
+pub mod Seqs
+pub mod Traces

@@ -1,0 +1,133 @@
+-- What a step of a worker leaves of its samples and of its outside.
+use Rattle.std.proofs.Common.{◌≡◌, ◌∙◌, ℕ, ◌+◌, ◌-◌, ◌<◌, ◌≤◌, List, [], ◌∷◌, ◌++◌, length, None, refl, sym, ap, subst, inl, inr, arith, append_assoc}
+use Rattle.std.specs.Option.{option_map}
+use Rattle.std.proofs.lemmas.List.{append-nil}
+use Rattle.jm_base.specs.declared.types.Entry.{Entry}
+use Rattle.jm_base.specs.declared.types.End.{End}
+use Rattle.jm_base.specs.declared.types.End.TheVariants.{Completed, StopThread, StopTest, Stopped, SampleLimit, RoundLimit, ValueLimit, NoMemory}
+use Rattle.jm_base.specs.Run.{Run, Event}
+use Rattle.jm_base.specs.Outside.{Account, Goes}
+use Rattle.element_tree.specs.Tree.{Tree}
+use Rattle.element_tree.specs.Names.{labels_of}
+use Rattle.thread_machine.specs.declared.step.Step.{Step}
+use Rattle.thread_machine.specs.declared.step.Step.TheVariants.{Sampled, Null, Enter, Leave, Ended}
+use Rattle.thread_machine.specs.declared.trace.TraceItem.{TraceItem}
+use Rattle.thread_machine.specs.declared.trace.TraceItem.TheVariants.{Paused as PausedItem, Sampled as SampledItem, Null as NullItem, Ended as EndedItem}
+use Rattle.thread_machine.specs.Standing.{Standing, rest}
+use Rattle.thread_machine.specs.Stepped.{Begins, Gives, Steps, Ends, IsOver}
+use Rattle.thread_machine.proofs.Ends.{begun_on}
+use Rattle.thread_machine.proofs.Labels.{label_within}
+use Rattle.run_engine.specs.Paired.{pairs_in, pairs}
+use Rattle.run_engine.specs.Ran.{SameOutside}
+
+-- ---- the outside
+
+pub same_outside : (a : Account) → SameOutside a a
+same_outside a = record { origin = refl; tells = λ heard is. (heard, is) }
+
+pub same_then : (a b c : Account) → SameOutside a b → SameOutside b c → SameOutside a c
+same_then a b c h k = record { origin = k.origin ∙ h.origin; tells = λ heard is. k.tells (h.tells heard is).0 (h.tells heard is).1 }
+
+same_goes : {A : Type 0} (a b : Account) (run left : Run A) (events : List Event) → Goes a run events left b → SameOutside a b
+same_goes a b run left events g = record { origin = g.hears.origin; tells = λ heard is. (heard ++ g.heard, g.hears.told ∙ ap (option_map (λ t. t ++ g.heard)) is) }
+
+same_begins : (a b : Account) (old new : Standing) → Begins a b old new → SameOutside a b
+same_begins a b old new h = elim h [
+  | inl p ↦ same_goes a b _ _ _ p.goes
+  | inr s ↦ subst (SameOutside a) (sym s.account) (same_outside a)
+]
+
+module _ (a b : Account) (run : Run (Unit {0})) (old new : Standing) where
+  same_ends : (end : End) → Ends a b run old new end → SameOutside a b
+  same_ends Completed o = same_goes a b _ _ _ o.goes
+  same_ends StopThread o = same_goes a b _ _ _ o.goes
+  same_ends StopTest o = same_goes a b _ _ _ o.goes
+  same_ends Stopped o = absurd o
+  same_ends SampleLimit o = same_goes a b _ _ _ o.goes
+  same_ends RoundLimit o = same_goes a b _ _ _ o.goes
+  same_ends ValueLimit o = same_goes a b _ _ _ o.goes
+  same_ends NoMemory o = same_goes a b _ _ _ o.goes
+
+  same_gives : (step : Step) → Gives a b run old new step → SameOutside a b
+  same_gives (Sampled entry) g = same_goes a b _ _ _ g.goes
+  same_gives Null g = same_goes a b _ _ _ g.goes
+  same_gives (Enter lock) g = absurd g
+  same_gives (Leave lock) g = absurd g
+  same_gives (Ended end) g = same_ends end g
+
+pub same_steps : (a b : Account) (old new : Standing) (step : Step) → Steps a b old new step → SameOutside a b
+same_steps a b old new step s = same_then a s.begun b (same_begins a s.begun old s.between s.begins) (same_gives s.begun b (rest s.between) s.between new step s.gives)
+
+-- ---- the samples
+
+pub pairs_snoc : (items : List TraceItem) (item : TraceItem) → pairs (items ++ item ∷ []) ≡ pairs items ++ pairs_in item
+pairs_snoc [] item = append-nil (pairs_in item)
+pairs_snoc (x ∷ items) item = ap (λ l. pairs_in x ++ l) (pairs_snoc items item) ∙ sym (append_assoc (pairs_in x) (pairs items) (pairs_in item))
+
+one_more : (old new : List TraceItem) (item : TraceItem) → new ≡ old ++ item ∷ [] → pairs new ≡ pairs old ++ pairs_in item
+one_more old new item is = ap pairs is ∙ pairs_snoc old item
+
+no_more : (old new : List TraceItem) (item : TraceItem) → new ≡ old ++ item ∷ [] → pairs_in item ≡ [] → pairs new ≡ pairs old
+no_more old new item is none = one_more old new item is ∙ ap (λ l. pairs old ++ l) none ∙ append-nil (pairs old)
+
+pairs_begun : (a b : Account) (old new : Standing) → Begins a b old new → pairs new.trace ≡ pairs old.trace
+pairs_begun a b old new h = elim h [
+  | inl p ↦ no_more old.trace new.trace (PausedItem old.pause) (ap (λ s. s.trace) p.new_is) refl
+  | inr s ↦ ap (λ w. pairs w.trace) s.standing
+]
+
+module _ (a b : Account) (run : Run (Unit {0})) (old new : Standing) where
+  pairs_over : (end : End) → IsOver a b run old new end → pairs new.trace ≡ pairs old.trace
+  pairs_over end o = no_more old.trace new.trace (EndedItem end) (ap (λ s. s.trace) o.new_is) refl
+
+  pairs_ends : (end : End) → Ends a b run old new end → pairs new.trace ≡ pairs old.trace
+  pairs_ends Completed o = pairs_over Completed o
+  pairs_ends StopThread o = pairs_over StopThread o
+  pairs_ends StopTest o = pairs_over StopTest o
+  pairs_ends Stopped o = absurd o
+  pairs_ends SampleLimit o = pairs_over SampleLimit o
+  pairs_ends RoundLimit o = pairs_over RoundLimit o
+  pairs_ends ValueLimit o = pairs_over ValueLimit o
+  pairs_ends NoMemory o = no_more old.trace new.trace (EndedItem NoMemory) (ap (λ s. s.trace) o.new_is) refl
+
+module _ (a b : Account) (old new : Standing) where
+  pub pairs_ended : (end : End) → Steps a b old new (Ended end) → pairs new.trace ≡ pairs old.trace
+  pairs_ended end s = pairs_ends s.begun b (rest s.between) s.between new end s.gives ∙ pairs_begun a s.begun old s.between s.begins
+
+  pub pairs_null : Steps a b old new Null → pairs new.trace ≡ pairs old.trace
+  pairs_null s = no_more s.between.trace new.trace (NullItem s.gives.number) (ap (λ w. w.trace) s.gives.new_is) refl ∙ pairs_begun a s.begun old s.between s.begins
+
+  -- a sample that is noted is one pair more
+  pub pairs_noted : (entry : Entry) (s : Steps a b old new (Sampled entry)) (noted : Standing) (k : ℕ)
+      → noted ≡ record new { owed = None; trace = new.trace ++ SampledItem s.gives.sample k ∷ [] } → pairs noted.trace ≡ pairs old.trace ++ (k, entry) ∷ []
+  pairs_noted entry s noted k is =
+      let before : pairs new.trace ≡ pairs old.trace = ap (λ w. pairs w.trace) s.gives.new_is ∙ pairs_begun a s.begun old s.between s.begins in
+      one_more new.trace noted.trace (SampledItem s.gives.sample k) (ap (λ w. w.trace) is)
+      ∙ ap (λ e. pairs new.trace ++ (k, e) ∷ []) (sym s.gives.entry_is)
+      ∙ ap (λ l. l ++ (k, entry) ∷ []) before
+
+  -- its label is one of the plan's
+  pub label_low : (entry : Entry) → Steps a b old new (Sampled entry) → entry.label < length (labels_of old.plan.elements)
+  label_low entry s =
+      let by = s.gives.given_by in
+      let low = label_within s.between.plan.elements s.gives.number by.element s.gives.giver by.there by.kind_is in
+      let is = ap (λ (e : Entry). e.label) s.gives.entry_is ∙ by.label_is in
+      let here : entry.label < length (labels_of s.between.plan.elements) = rw is low in
+      subst (λ (p : Tree). entry.label < length (labels_of p.elements)) (begun_on a s.begun old s.between s.begins).plan here
+
+  -- it has used a unit
+  pub units_left : (entry : Entry) → Steps a b old new (Sampled entry) → new.units + 1 ≡ old.units
+  units_left entry s =
+      let begun : s.between.units ≡ old.units = (begun_on a s.begun old s.between s.begins).units in
+      let used : new.units ≡ s.between.units - 1 = ap (λ w. w.units) s.gives.new_is in
+      let some = s.gives.unit in omega arith
+
+  pub units_null : Steps a b old new Null → new.units ≤ old.units
+  units_null s =
+      let begun : s.between.units ≡ old.units = (begun_on a s.begun old s.between s.begins).units in
+      let used : new.units ≡ s.between.units - 1 = ap (λ w. w.units) s.gives.new_is in
+      let some = s.gives.unit in omega arith
+
+pub label_fits : (plan first : Tree) (label labels : ℕ) → plan ≡ first → label < length (labels_of plan.elements) → length (labels_of first.elements) ≤ labels → label < labels
+label_fits plan first label labels is low few =
+    let here : label < length (labels_of first.elements) = subst (λ (p : Tree). label < length (labels_of p.elements)) is low in omega arith

@@ -1,0 +1,61 @@
+use Rattle.std.proofs.Common.{◌∙◌, ℕ, Bool, ap, sym, subst, length}
+use Rattle.output_lines.specs.Reports.{report_text}
+use Rattle.phaser_core.specs.declared.view.Reading.{Reading}
+use Rattle.recorder_core.specs.Seats.{reports}
+use Rattle.reporter_loop.proofs.Judging.{reported_same, quiet}
+use Rattle.reporter_loop.proofs.Outcomes.{if_ok_then, err_then, on_ok}
+use Rattle.run_engine.specs.Asked.{options_of}
+use Rattle.run_engine.specs.Followed.{AllFollow}
+use Rattle.run_engine.specs.Joins.{AllEnd}
+use Rattle.run_engine.specs.Made.{AllFresh}
+use Rattle.run_engine.proofs.Finishing.{all_done}
+use Rattle.run_engine.proofs.Opening.{none_served}
+use Rattle.run_engine.proofs.run.run_threads.Goals as goal
+
+pub returns-in_default-split_all-clause-closed : goal.returns-in_default-split_all-clause-closed
+returns-in_default-split_all-clause-closed g c = none_served _ _ _ c.requires.opened
+
+pub join_all-requires-clause-jobs : goal.join_all-requires-clause-jobs
+join_all-requires-clause-jobs g c κs within =
+    let account = g.W.Out.Outside.account in
+    let plan = c.args.ask.now.plan.now in let options = options_of c.args.ask.now in
+    let made = c.in-Ok-open_all.ensures in
+    let count = c.threads-threads.result in
+    let r = c.in-Ok-new.recorder in let jobs = c.in-Ok-open_all.jobs.items in
+    let fresh = subst (λ (b : Bool). AllFresh account r plan options (g.W.World.identity c.open_all.new.world) b count jobs) (sym made.same.1)
+    (subst (λ (k : ℕ). AllFresh account r plan options k (g.W.World.tells c.args.world.now) count jobs) (sym made.same.0) made.each) in
+    all_done account r plan options (g.W.World.identity c.open_all.new.world) (g.W.World.tells c.open_all.new.world) count jobs c.run_beside-jobs.result.0.items fresh c.run_beside-jobs.ensures.jobs
+
+pub returns-in-Ok-outcome-clause-ends : goal.returns-in-Ok-outcome-clause-ends
+returns-in-Ok-outcome-clause-ends g c =
+    let ends = c.join_all.ensures.ends in
+    if_ok_then c.finish_run.result c.finish_run.ensures.traces (λ b is. (ap length is ∙ ends.0 ∙ c.threads-threads.ensures.count, subst AllEnd (sym is) ends.1))
+
+pub returns-in-Ok-outcome-clause-follows : goal.returns-in-Ok-outcome-clause-follows
+returns-in-Ok-outcome-clause-follows g c =
+    if_ok_then c.finish_run.result c.finish_run.ensures.traces (λ b is tells.
+    subst (AllFollow c.args.ask.now.plan.now (options_of c.args.ask.now) (g.W.World.told c.join_all.new.world)) (sym is)
+    (c.join_all.ensures.follows (c.in-Ok-open_all.ensures.same.1 ∙ tells)))
+
+pub returns-in-Ok-outcome-clause-written : goal.returns-in-Ok-outcome-clause-written
+returns-in-Ok-outcome-clause-written g c =
+    let text = report_text c.args.ask.now.plan.now in let limit = c.args.ask.now.limit in
+    let old = g.K.Sink.written c.args.reports.now in let new = g.K.Sink.written c.run_beside-jobs.new.sink in
+    let r = reports c.run_beside-jobs.result.1 in let s = reports c.join_all.new.seat in let only = c.join_all.ensures.only in
+    c.finish_run.ensures.written limit old (reported_same text limit r s old new only.interval only.closed only.raised (on_ok c.run_beside-jobs.result.2 c.in-Ok-outcome.is c.run_beside-jobs.ensures.reported))
+
+pub returns-in-Ok-outcome-clause-prefix : goal.returns-in-Ok-outcome-clause-prefix
+returns-in-Ok-outcome-clause-prefix g c =
+    let text = report_text c.args.ask.now.plan.now in let limit = c.args.ask.now.limit in
+    let old = g.K.Sink.written c.args.reports.now in let new = g.K.Sink.written c.run_beside-jobs.new.sink in
+    let r = reports c.run_beside-jobs.result.1 in let s = reports c.join_all.new.seat in let only = c.join_all.ensures.only in
+    err_then c.finish_run.result c.finish_run.ensures.prefix (λ prefix.
+    prefix limit old (reported_same text limit r s old new only.interval only.closed only.raised (on_ok c.run_beside-jobs.result.2 c.in-Ok-outcome.is c.run_beside-jobs.ensures.reported)))
+
+pub returns-in-Ok-outcome-clause-unlimited : goal.returns-in-Ok-outcome-clause-unlimited
+returns-in-Ok-outcome-clause-unlimited g c =
+    let limit = c.args.ask.now.limit in
+    let h = on_ok c.run_beside-jobs.result.2 c.in-Ok-outcome.is c.run_beside-jobs.ensures.reported in
+    let r = reports c.run_beside-jobs.result.1 in let only = c.join_all.ensures.only in
+    if_ok_then c.finish_run.result c.finish_run.ensures.lists (λ b is most.
+    ap (λ (q : Reading). q.raised) is ∙ only.raised ∙ h.raised ∙ quiet limit r.closed most h.bounds)

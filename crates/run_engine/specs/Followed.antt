@@ -1,0 +1,40 @@
+-- That a trace follows what its thread's outside was told.
+use Rattle.std.specs.Prelude.{◌≡◌, ℕ, ◌<◌, List, [], ◌∷◌, ◌++◌, length, slice_index_or, Option, Some}
+use Rattle.jm_base.specs.declared.types.End.{End}
+use Rattle.jm_base.specs.declared.types.End.TheVariants.{Completed, StopThread, StopTest, Stopped, SampleLimit, RoundLimit, ValueLimit, NoMemory}
+use Rattle.jm_base.specs.declared.types.Heard.{Heard}
+use Rattle.element_tree.specs.Tree.{Tree}
+use Rattle.jm_meaning.specs.Beginning.{Options}
+use Rattle.thread_machine.specs.declared.trace.TraceItem.{TraceItem}
+use Rattle.thread_machine.specs.declared.trace.TraceItem.TheVariants.{Ended as EndedItem}
+use Rattle.thread_machine.specs.Follows.{FollowsWhole}
+
+-- the last item of a trace says how the thread ended
+pub record EndsWith (trace : List TraceItem) (end : End) : Type 0 where
+  pub before : List TraceItem
+  pub last : trace ≡ before ++ EndedItem end ∷ []
+
+-- how a trace with this end follows what was told; of one that was cut, out of memory, nothing but its end is said; none was stopped
+abbrev pub FollowsTo : Tree → ℕ → Options → List Heard → List TraceItem → End → Type 0
+FollowsTo plan thread options told trace Completed = FollowsWhole plan thread options told trace
+FollowsTo plan thread options told trace StopThread = FollowsWhole plan thread options told trace
+FollowsTo plan thread options told trace StopTest = FollowsWhole plan thread options told trace
+FollowsTo plan thread options told trace Stopped = ⊥
+FollowsTo plan thread options told trace SampleLimit = FollowsWhole plan thread options told trace
+FollowsTo plan thread options told trace RoundLimit = FollowsWhole plan thread options told trace
+FollowsTo plan thread options told trace ValueLimit = FollowsWhole plan thread options told trace
+FollowsTo plan thread options told trace NoMemory = Unit {0}
+
+-- The trace is the plan's meaning over what the outside was told, up to the thread's end.
+pub record FollowsTold (plan : Tree) (thread : ℕ) (options : Options) (told : List Heard) (trace : List TraceItem) : Type 0 where
+  pub end : End
+  pub ends : EndsWith trace end
+  pub follows : FollowsTo plan thread options told trace end
+
+-- the outside told, and the trace follows it
+abbrev pub FollowsWhere : Tree → ℕ → Options → Option (List Heard) → List TraceItem → Type 0
+FollowsWhere plan thread options told trace = (heard : List Heard) × (told ≡ Some heard) × FollowsTold plan thread options heard trace
+
+-- each thread's trace follows what its outside was told
+abbrev pub AllFollow : Tree → Options → (ℕ → Option (List Heard)) → List (List TraceItem) → Type 0
+AllFollow plan options told traces = (i : ℕ) (d : List TraceItem) → i < length traces → FollowsWhere plan i options (told i) (slice_index_or traces i d)

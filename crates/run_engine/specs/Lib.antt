@@ -1,0 +1,9 @@
+pub mod Asked
+pub mod Followed
+pub mod Joins
+pub mod Keeps
+pub mod Made
+pub mod Marks
+pub mod Paired
+pub mod Ran
+pub mod Served

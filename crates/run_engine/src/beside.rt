@@ -1,0 +1,214 @@
+// The workers in threads, and the reporter at the same time on the caller's thread.
+
+ghost use Rattle.std.specs.Prelude.{All, ◌≡◌, ◌<◌, ◌≤◌, ℕ, length, IfErr, OnOk, OnErr, [], false};
+ghost use Rattle.element_tree.specs.Names.{labels_of};
+ghost use Rattle.output_lines.specs.Reports.{report_text};
+ghost use Rattle.recorder_core.specs.Seats.{reports, numbers_of, IsReporter};
+ghost use Rattle.interval_reporter.specs.Judged.{Keeps};
+ghost use Rattle.reporter_loop.specs.Failing.{IsCause};
+ghost use Rattle.reporter_loop.specs.Reported.{Reported};
+ghost use Rattle.reporter_loop.specs.Ticked.{HasTickedWhere};
+ghost use Rattle.reporter_loop.specs.Written.{WritesPrefix};
+ghost use Rattle.run_engine.specs.Ran.{CanRun, AllRan};
+ghost use denote.Param.Send.{IsSync, IsSend};
+
+use crate::job::Job;
+use crate::team::run_team;
+use edge_io::Sink;
+use interval_reporter::Verdict;
+use interval_tables::Report;
+use jm_base::Outside;
+use outside_world::Ticker;
+use recorder_core::{Recorder, ReporterSeat};
+use reporter_loop::{Ended, Rules, RunError, report_until};
+use std::alloc::Global;
+use std::snapshot::Snapshot;
+use std::sync::Wait;
+use std::thread;
+use std::thread::{Promise, Threads};
+
+// What the team's thread keeps: each worker has run.
+#[derive(Drop)]
+struct TeamOf<'r, 'p, O> {
+    recorder: &'r Recorder,
+    before: Snapshot<Vec<Job<'p, O>>>,
+}
+
+impl<'r, 'p, O: Outside> Promise<Vec<Job<'p, O>>> for TeamOf<'r, 'p, O> {
+    ghost kept_by = { λ p r. AllRan O.account p.recorder.now p.before.value.items r.items };
+}
+
+// Runs all workers, and hands them back.
+fn team_thread<'p, R: Threads + Sync, O: Outside + Send>(
+    rt: &R,
+    recorder: &Recorder,
+    ended: &Ended,
+    mut jobs: Vec<Job<'p, O>>,
+) -> Vec<Job<'p, O>>
+    requires { All (CanRun recorder.now) jobs.items }
+    ensures { AllRan O.account recorder.now jobs.entry.items result.items }
+{
+    run_team(rt, recorder, ended, jobs.as_mut_slice());
+    jobs
+}
+
+// What the reporter asks and writes to.
+#[derive(Drop)]
+struct Desk<'t, 'k, T, K> {
+    ticker: &'t mut T,
+    sink: &'k mut K,
+    report: Report,
+}
+
+// What the workers and the reporter gave.
+struct Gathered<'p, 't, 'k, O, T, K> {
+    jobs: Vec<Job<'p, O>>,
+    seat: ReporterSeat,
+    outcome: Result<(), RunError>,
+    desk: Desk<'t, 'k, T, K>,
+}
+
+// Does nothing, but ties what was lent to the parameter that lent it.
+fn take_back<T>(x: &mut T)
+    ensures { x.new ≡ x.old }
+{}
+
+// The reporter's loop, at a desk.
+fn report_at<'t, 'k, R: Wait, T: Ticker, K: Sink, F: Fn(&Report, u64) -> Verdict>(
+    rt: &R,
+    alloc: Global,
+    recorder: &Recorder,
+    rules: &Rules<'_, F>,
+    seat: ReporterSeat,
+    desk: Desk<'t, 'k, T, K>,
+) -> (ReporterSeat, Result<(), RunError>, Desk<'t, 'k, T, K>)
+    requires seat { IsReporter recorder.now seat }
+    requires first { ((reports seat).closed ≡ []) × ((reports seat).interval ≡ 0) × ((reports seat).raised ≡ false) }
+    requires rows { length desk.report.rows ≡ (numbers_of recorder.now).labels }
+    requires labels { (numbers_of recorder.now).labels ≡ length (labels_of rules.now.plan.now.elements) }
+    requires kept { Keeps F.Fn rules.now.reporter.now }
+    ensures seat { IsReporter recorder.now result.0 }
+    ensures rows { length result.2.report.rows ≡ (numbers_of recorder.now).labels }
+    ensures few { (reports result.0).interval ≤ 16777216 }
+    ensures ticker { result.2.ticker.ghost_name ≡ desk.entry.ticker.ghost_name }
+    ensures sink { result.2.sink.ghost_name ≡ desk.entry.sink.ghost_name }
+    ensures ticked { HasTickedWhere (reports result.0).interval (T.ticks desk.entry.ticker.now) (T.ticks result.2.ticker.now) }
+    ensures reported { OnOk result.1 (Reported (report_text rules.now.plan.now) rules.now.limit (reports result.0) (K.written desk.entry.sink.now) (K.written result.2.sink.now)) }
+    ensures prefix { OnErr result.1 (WritesPrefix (report_text rules.now.plan.now) (K.written desk.entry.sink.now) (K.written result.2.sink.now)) }
+    ensures joined { (reports result.0).joined ≡ (reports seat).joined }
+    ensures ok { OnOk result.1 (K.faults result.2.sink.now ≡ K.faults desk.entry.sink.now) }
+    ensures cause { IfErr result.1 (IsCause (K.faults desk.entry.sink.now) (K.faults result.2.sink.now)) }
+{
+    let Desk {
+        ticker,
+        sink,
+        mut report,
+    } = desk;
+    let (seat, outcome) = report_until(rt, alloc, recorder, rules, seat, &mut report, ticker, sink);
+    (
+        seat,
+        outcome,
+        Desk {
+            ticker,
+            sink,
+            report,
+        },
+    )
+}
+
+/// Runs all workers in threads and the reporter on the caller's thread, and joins the threads whatever became of the reports.
+/// Where no thread can be started, the workers run first.
+pub fn run_beside<
+    'p,
+    R: Threads + Wait + Sync,
+    O: Outside + Send + Drop,
+    T: Ticker,
+    K: Sink,
+    F: Fn(&Report, u64) -> Verdict,
+>(
+    rt: &R,
+    alloc: Global,
+    recorder: &Recorder,
+    rules: &Rules<'_, F>,
+    jobs: Vec<Job<'p, O>>,
+    seat: ReporterSeat,
+    report: Report,
+    ticker: &mut T,
+    sink: &mut K,
+) -> (Vec<Job<'p, O>>, ReporterSeat, Result<(), RunError>, Report)
+    requires jobs { All (CanRun recorder.now) jobs.items }
+    requires seat { IsReporter recorder.now seat }
+    requires first { ((reports seat).closed ≡ []) × ((reports seat).interval ≡ 0) × ((reports seat).raised ≡ false) }
+    requires rows { length report.rows ≡ (numbers_of recorder.now).labels }
+    requires labels { (numbers_of recorder.now).labels ≡ length (labels_of rules.now.plan.now.elements) }
+    requires kept { Keeps F.Fn rules.now.reporter.now }
+    ensures jobs { AllRan O.account recorder.now jobs.entry.items result.0.items }
+    ensures seat { IsReporter recorder.now result.1 }
+    ensures rows { length result.3.rows ≡ (numbers_of recorder.now).labels }
+    ensures few { (reports result.1).interval ≤ 16777216 }
+    ensures ticked { HasTickedWhere (reports result.1).interval (T.ticks ticker.old) (T.ticks ticker.new) }
+    ensures reported { OnOk result.2 (Reported (report_text rules.now.plan.now) rules.now.limit (reports result.1) (K.written sink.old) (K.written sink.new)) }
+    ensures prefix { OnErr result.2 (WritesPrefix (report_text rules.now.plan.now) (K.written sink.old) (K.written sink.new)) }
+    ensures joined { (reports result.1).joined ≡ (reports seat).joined }
+    ensures ok { OnOk result.2 (K.faults sink.new ≡ K.faults sink.old) }
+    ensures cause { IfErr result.2 (IsCause (K.faults sink.old) (K.faults sink.new)) }
+{
+    let ended = rules.ended;
+    let desk = Desk {
+        ticker: &mut *ticker,
+        sink: &mut *sink,
+        report,
+    };
+    let Gathered {
+        jobs,
+        seat,
+        outcome,
+        desk,
+    } = thread::scope(
+        thread::scope_env(),
+        rt,
+        move |scope| -> Gathered<O, T, K>
+            requires { All (CanRun recorder.now) jobs.items × IsReporter recorder.now seat × ((reports seat).closed ≡ []) × ((reports seat).interval ≡ 0) × ((reports seat).raised ≡ false) × (length desk.report.rows ≡ (numbers_of recorder.now).labels) × ((numbers_of recorder.now).labels ≡ length (labels_of rules.now.plan.now.elements)) × Keeps F.Fn rules.now.reporter.now × IsSync R.row × IsSend O.row }
+            ensures { AllRan O.account recorder.entry.now jobs.entry.items result.jobs.items × IsReporter recorder.entry.now result.seat × (length result.desk.report.rows ≡ (numbers_of recorder.entry.now).labels) × ((reports result.seat).interval ≤ 16777216) × (result.desk.ticker.ghost_name ≡ desk.entry.ticker.ghost_name) × (result.desk.sink.ghost_name ≡ desk.entry.sink.ghost_name) × HasTickedWhere (reports result.seat).interval (T.ticks desk.entry.ticker.now) (T.ticks result.desk.ticker.now) × OnOk result.outcome (Reported (report_text rules.entry.now.plan.now) rules.entry.now.limit (reports result.seat) (K.written desk.entry.sink.now) (K.written result.desk.sink.now)) × OnErr result.outcome (WritesPrefix (report_text rules.entry.now.plan.now) (K.written desk.entry.sink.now) (K.written result.desk.sink.now)) × ((reports result.seat).joined ≡ (reports seat).joined) × OnOk result.outcome (K.faults result.desk.sink.now ≡ K.faults desk.entry.sink.now) × IfErr result.outcome (IsCause (K.faults desk.entry.sink.now) (K.faults result.desk.sink.now)) }
+        {
+            let promise = TeamOf {
+                recorder,
+                before: Snapshot::of(&jobs),
+            };
+            let work = move || -> Vec<Job<O>>
+                requires { All (CanRun recorder.now) jobs.items × IsSync R.row × IsSend O.row }
+                ensures { AllRan O.account recorder.entry.now jobs.entry.items result.items }
+            { team_thread(rt, recorder, ended, jobs) };
+            match scope.spawn_with(promise, work) {
+                Ok(handle) => {
+                    let (seat, outcome, desk) = report_at(rt, alloc, recorder, rules, seat, desk);
+                    let jobs = handle.join(rt);
+                    Gathered {
+                        jobs,
+                        seat,
+                        outcome,
+                        desk,
+                    }
+                }
+                Err(refused) => {
+                    let jobs = (refused.value)();
+                    let (seat, outcome, desk) = report_at(rt, alloc, recorder, rules, seat, desk);
+                    Gathered {
+                        jobs,
+                        seat,
+                        outcome,
+                        desk,
+                    }
+                }
+            }
+        },
+    );
+    let Desk {
+        ticker,
+        sink,
+        report,
+    } = desk;
+    take_back(ticker);
+    take_back(sink);
+    (jobs, seat, outcome, report)
+}

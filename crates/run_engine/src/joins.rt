@@ -1,0 +1,88 @@
+// All workers are taken in, in the order of their numbers.
+
+ghost use Rattle.std.specs.Prelude.{◌≡◌, ◌<◌, ◌≤◌, ◌*◌, ◌++◌, [], true, length, map, vec_capacity};
+ghost use Rattle.std.specs.List.{range_with_len};
+ghost use Rattle.element_tree.specs.Names.{labels_of};
+ghost use Rattle.phaser_core.specs.Views.{AllJoined};
+ghost use Rattle.phaser_words.specs.Kinds.{lists_of};
+ghost use Rattle.recorder_core.specs.Seats.{reports, numbers_of, IsReporter};
+ghost use Rattle.run_engine.specs.Asked.{options_of};
+ghost use Rattle.run_engine.specs.Followed.{AllFollow};
+ghost use Rattle.run_engine.specs.Joins.{joined_of, trace_of, OnlyJoined, AllDone, AllEnd, AllLabelled};
+ghost use Rattle.run_engine.specs.Keeps.{AllKeep};
+ghost use Rattle.run_engine.specs.Paired.{pairs_of};
+
+use crate::ask::RunAsk;
+use crate::job::Job;
+use jm_base::{Items, Outside};
+use outside_world::World;
+use recorder_core::{Recorder, ReporterSeat};
+use thread_machine::TraceItem;
+
+// Closes each worker's outside, joins its writer and keeps its trace, in `traces`, which has room for them.
+fn join_each<'p, W: World>(
+    recorder: &Recorder,
+    ask: &RunAsk<'p>,
+    seat: &mut ReporterSeat,
+    world: &mut W,
+    jobs: Vec<Job<'p, W::Out>>,
+    traces: &mut Vec<Items<TraceItem>>,
+    count: u16,
+)
+    requires seat { IsReporter recorder.now seat.old }
+    requires jobs { AllDone W.Out.account recorder.now ask.now.plan.now (options_of ask.now) (W.identity world.old) (W.tells world.old) count jobs.items }
+    requires room { (traces.old.items ≡ []) × (length jobs.items ≤ vec_capacity traces.old) }
+    ensures seat { IsReporter recorder.now seat.new }
+    ensures only { OnlyJoined (reports seat.old) (reports seat.new) }
+    ensures joined { (reports seat.new).joined ≡ (reports seat.old).joined ++ map joined_of jobs.entry.items }
+    ensures traces { traces.new.items ≡ map trace_of jobs.entry.items }
+    ensures labels { AllLabelled (length (labels_of ask.now.plan.now.elements)) traces.new.items }
+    ensures follows { W.tells world.old ≡ true → AllFollow ask.now.plan.now (options_of ask.now) (W.told world.new) traces.new.items }
+    ensures closed { W.closed world.new ≡ W.closed world.old ++ range_with_len 0 (length jobs.entry.items) }
+    ensures same { (W.identity world.new ≡ W.identity world.old) × (W.tells world.new ≡ W.tells world.old) × (W.opened world.new ≡ W.opened world.old) }
+{
+    for job in jobs {
+        let Job {
+            number,
+            worker,
+            out,
+            seat: gone,
+        } = job;
+        world.close(number, out);
+        recorder.join_writer(seat, gone);
+        let pushed = traces.push(Items::of(worker.into_trace()));
+        if pushed.is_err() {
+            unreachable!();
+        }
+    }
+}
+
+/// Takes in all workers: closes their outsides, joins their writers and keeps their traces, in the order of their numbers.
+/// It takes no memory: `traces` has room for them.
+pub fn join_all<'p, W: World>(
+    recorder: &Recorder,
+    ask: &RunAsk<'p>,
+    seat: &mut ReporterSeat,
+    world: &mut W,
+    jobs: Vec<Job<'p, W::Out>>,
+    traces: &mut Vec<Items<TraceItem>>,
+    count: u16,
+)
+    requires seat { IsReporter recorder.now seat.old }
+    requires first { (reports seat.old).joined ≡ [] }
+    requires count { (length jobs.items ≡ count) × (0 < count) }
+    requires jobs { AllDone W.Out.account recorder.now ask.now.plan.now (options_of ask.now) (W.identity world.old) (W.tells world.old) count jobs.items }
+    requires room { (traces.old.items ≡ []) × (count ≤ vec_capacity traces.old) }
+    ensures seat { IsReporter recorder.now seat.new }
+    ensures only { OnlyJoined (reports seat.old) (reports seat.new) }
+    ensures joined { AllJoined (reports seat.new) }
+    ensures lists { lists_of (reports seat.new).joined ≡ pairs_of traces.new.items }
+    ensures keep { AllKeep (numbers_of recorder.now).labels (numbers_of recorder.now).budget (pairs_of traces.new.items) }
+    ensures ends { (length traces.new.items ≡ count) × AllEnd traces.new.items }
+    ensures labels { AllLabelled (length (labels_of ask.now.plan.now.elements)) traces.new.items }
+    ensures follows { W.tells world.old ≡ true → AllFollow ask.now.plan.now (options_of ask.now) (W.told world.new) traces.new.items }
+    ensures closed { W.closed world.new ≡ W.closed world.old ++ range_with_len 0 count }
+    ensures same { (W.identity world.new ≡ W.identity world.old) × (W.tells world.new ≡ W.tells world.old) × (W.opened world.new ≡ W.opened world.old) }
+{
+    join_each(recorder, ask, seat, world, jobs, traces, count);
+}

@@ -1,0 +1,162 @@
+// The run of a plan's threads.
+
+ghost use Rattle.std.specs.Prelude.{◌≡◌, ◌<◌, ◌≤◌, ◌*◌, ◌-◌, ◌^◌, [], ℕ, false, true, length, vec_capacity, IfOk, IfErr, OnOk, OnErr};
+ghost use Rattle.std.specs.Io.KnownBytes.{Appends};
+ghost use Rattle.element_tree.specs.Names.{labels_of};
+ghost use Rattle.element_tree.specs.Tree.{threads_of};
+ghost use Rattle.interval_tables.specs.Rows.{sum_of, IsInBounds};
+ghost use Rattle.output_lines.specs.Reports.{report_text};
+ghost use Rattle.phaser_core.specs.Shares.{Partition};
+ghost use Rattle.phaser_words.specs.Kinds.{lists_of};
+ghost use Rattle.recorder_core.specs.Seats.{books_of, all_reports_of};
+ghost use Rattle.interval_reporter.specs.Judged.{Keeps};
+ghost use Rattle.reporter_loop.specs.Failing.{IsCause};
+ghost use Rattle.reporter_loop.specs.Reported.{any_over};
+ghost use Rattle.reporter_loop.specs.Ticked.{HasTickedWhere, TickedSoFar};
+ghost use Rattle.reporter_loop.specs.Written.{texts_of, WritesPrefix};
+ghost use Rattle.run_engine.specs.Asked.{options_of};
+ghost use Rattle.run_engine.specs.Followed.{AllFollow};
+ghost use Rattle.run_engine.specs.Joins.{AllEnd, AllLabelled};
+ghost use Rattle.run_engine.specs.Keeps.{all_entries};
+ghost use Rattle.run_engine.specs.Paired.{pairs_of};
+ghost use Rattle.run_engine.specs.Served.{AreServed};
+
+use crate::ask::RunAsk;
+use crate::beside::run_beside;
+use crate::books::RunBooks;
+use crate::finish::finish_run;
+use crate::joins::join_all;
+use crate::opens::open_all;
+use crate::seats::split_all;
+use edge_io::Sink;
+use interval_reporter::{Reporter, Verdict};
+use interval_tables::Report;
+use jm_base::{Items, M, Outside};
+use outside_world::{Ticker, World};
+use recorder_core::Recorder;
+use reporter_loop::{Ended, Rules, RunError};
+use std::alloc::Global;
+use std::sync::Wait;
+use std::thread::Threads;
+use thread_machine::TraceItem;
+
+// The room that a run needs at its end, taken at its start: the report that is open, the report of all samples and the list
+// of traces.
+#[derive(Drop)]
+struct Room {
+    report: Report,
+    total: Report,
+    traces: Vec<Items<TraceItem>>,
+}
+
+impl Room {
+    fn new(alloc: Global, labels: u16, threads: u16) -> M<Room>
+        ensures report { IfOk result (λ r. length r.report.rows ≡ labels) }
+        ensures total { IfOk result (λ r. r.total.rows ≡ sum_of labels []) }
+        ensures traces { IfOk result (λ r. (r.traces.items ≡ []) × (threads ≤ vec_capacity r.traces)) }
+    {
+        let report = Report::vacant(alloc, labels)?;
+        let total = Report::vacant(alloc, labels)?;
+        let traces = Vec::with_capacity(alloc, usize::from(threads))?;
+        Ok(Room {
+            report,
+            total,
+            traces,
+        })
+    }
+}
+
+/// Runs all threads of a plan at the same time, each over an outside of the world, in a thread of its own where one can be
+/// started. Meanwhile the reporter asks the ticker, at least once in a run. At each true answer it closes an interval, writes
+/// its report to `reports` at once and asks the hook of it; where the hook answers `Stop`, it raises stop. After 16,777,216
+/// intervals the ticker is asked no more. When all threads have ended, they are joined and the last report is written.
+///
+/// All seats of writers are made before the first thread starts. In each case no thread is left running, and each outside
+/// that was opened is closed.
+///
+/// `RunError::WriteFault` comes only where the sink's count of faults rose. Then, and out of memory, the traces are given up,
+/// and a prefix of the reports was written.
+pub fn run_threads<
+    R: Threads + Wait + Sync,
+    W: World,
+    T: Ticker,
+    F: Fn(&Report, u64) -> Verdict,
+    K: Sink,
+>(
+    rt: &R,
+    alloc: Global,
+    ask: &RunAsk<'_>,
+    world: &mut W,
+    ticker: &mut T,
+    reporter: &Reporter<F>,
+    reports: &mut K,
+) -> Result<RunBooks, RunError>
+    requires samples { length (threads_of ask.now.plan.now) * ask.now.budget ≤ 4194304 }
+    requires opened { W.opened world.old ≡ [] }
+    requires kept { Keeps F.Fn reporter.now }
+
+    // The outside of each thread was opened, and each was closed; in an error's case those of the first threads.
+    ensures world { OnOk result (AreServed (length (threads_of ask.now.plan.now)) (W.opened world.new) (W.closed world.old) (W.closed world.new)) }
+    ensures closed { (n : ℕ) × (n ≤ length (threads_of ask.now.plan.now)) × AreServed n (W.opened world.new) (W.closed world.old) (W.closed world.new) }
+
+    // A trace for each thread, which has its end and follows what the thread's outside was told, where the world tells.
+    ensures ends { IfOk result (λ b. (length b.traces ≡ length (threads_of ask.now.plan.now)) × AllEnd b.traces) }
+    ensures follows { IfOk result (λ b. W.tells world.old ≡ true → AllFollow ask.now.plan.now (options_of ask.now) (W.told world.new) b.traces) }
+    ensures labelled { IfOk result (λ b. AllLabelled (length (labels_of ask.now.plan.now.elements)) b.traces) }
+
+    // Each sample of each trace counts in exactly one report, which is that of its interval, and in the total.
+    ensures books { IfOk result (λ b. lists_of (books_of b.books).joined ≡ pairs_of b.traces) }
+    ensures parted { IfOk result (λ b. Partition (length (labels_of ask.now.plan.now.elements)) (pairs_of b.traces) (all_reports_of b.books)) }
+    ensures total { IfOk result (λ b. b.total.rows ≡ sum_of (length (labels_of ask.now.plan.now.elements)) (all_entries (pairs_of b.traces))) }
+    ensures bounds { IfOk result (λ b. IsInBounds b.total.rows) }
+
+    // The sink holds the text of every report, or a prefix of the text of reports that are numbered from 0.
+    ensures written { IfOk result (λ b. Appends (K.written reports.old) (K.written reports.new) (texts_of (report_text ask.now.plan.now) (all_reports_of b.books))) }
+    ensures prefix { OnErr result (WritesPrefix (report_text ask.now.plan.now) (K.written reports.old) (K.written reports.new)) }
+    ensures ok { OnOk result (K.faults reports.new ≡ K.faults reports.old) }
+    ensures cause { IfErr result (IsCause (K.faults reports.old) (K.faults reports.new)) }
+
+    // The ticker was asked, and gave as many true answers as there are reports before the last.
+    ensures count { IfOk result (λ b. length (books_of b.books).closed ≡ (books_of b.books).interval) }
+    ensures few { IfOk result (λ b. (books_of b.books).interval ≤ 16777216) }
+    ensures ticked { IfOk result (λ b. HasTickedWhere (books_of b.books).interval (T.ticks ticker.old) (T.ticks ticker.new)) }
+    ensures asked { OnErr result ((n : ℕ) × (n ≤ 16777216) × TickedSoFar n (T.ticks ticker.old) (T.ticks ticker.new)) }
+
+    // The reporter raised stop exactly where some report before the last has more errors than the limit: never at 2^64 - 1.
+    ensures raised { IfOk result (λ b. (books_of b.books).raised ≡ any_over ask.now.limit (books_of b.books).closed) }
+    ensures unlimited { IfOk result (λ b. ask.now.limit ≡ 2 ^ 64 - 1 → (books_of b.books).raised ≡ false) }
+{
+    let (threads, labels) = (ask.plan.threads(), ask.plan.labels());
+    let Ok(room) = Room::new(alloc, labels, threads) else {
+        return Err(RunError::NoMemory);
+    };
+    let Ok((recorder, seat, first)) = Recorder::new(alloc, labels, threads, ask.budget) else {
+        return Err(RunError::NoMemory);
+    };
+    let Ok(seats) = split_all(alloc, &recorder, first, threads) else {
+        return Err(RunError::NoMemory);
+    };
+    let Ok(jobs) = open_all(alloc, &recorder, world, ask, seats, threads) else {
+        return Err(RunError::NoMemory);
+    };
+    let Room {
+        report,
+        total,
+        mut traces,
+    } = room;
+    let ended = Ended::new(threads);
+    let rules = Rules {
+        plan: ask.plan,
+        reporter,
+        limit: ask.limit,
+        ended: &ended,
+    };
+    let (jobs, mut seat, outcome, report) = run_beside(
+        rt, alloc, &recorder, &rules, jobs, seat, report, ticker, reports,
+    );
+    join_all(&recorder, ask, &mut seat, world, jobs, &mut traces, threads);
+    match outcome {
+        Ok(()) => finish_run(alloc, recorder, ask, seat, traces, report, total, reports),
+        Err(error) => Err(error),
+    }
+}

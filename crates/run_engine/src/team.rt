@@ -1,0 +1,48 @@
+// All workers, each in a thread of its own where one can be started.
+
+ghost use Rattle.std.specs.Prelude.{All, ◌≡◌, ◌<◌, ℕ, length, slice_index_or};
+ghost use Rattle.run_engine.specs.Ran.{CanRun, JobRan};
+
+use crate::job::Job;
+use crate::samples::run_samples;
+use jm_base::Outside;
+use recorder_core::Recorder;
+use reporter_loop::Ended;
+use std::marker::Brand;
+use std::sync::ledger::Blank;
+use std::thread;
+use std::thread::Threads;
+
+/// The most threads that a run has.
+const MOST_THREADS: usize = 64;
+
+impl<'p, O: Outside> Job<'p, O> {
+    /// Runs the worker to its end, and counts it among those that have ended.
+    pub fn run(&mut self, recorder: &Recorder, ended: &Ended)
+        requires { CanRun recorder.now self.old }
+        ensures { JobRan O.account recorder.now self.old self.new }
+    {
+        run_samples::<O, Brand>(
+            recorder,
+            &mut self.worker,
+            &mut self.out,
+            &mut self.seat,
+            Blank::new(1),
+        );
+        ended.one_more();
+    }
+}
+
+/// Runs all workers to their ends at the same time. One whose thread can't be started runs on the thread that would have
+/// started it.
+pub fn run_team<'p, R: Threads + Sync, O: Outside + Send>(
+    rt: &R,
+    recorder: &Recorder,
+    ended: &Ended,
+    jobs: &mut [Job<'p, O>],
+)
+    requires { All (CanRun recorder.now) jobs.old }
+    ensures { (i : ℕ) (d : _) → i < length jobs.old → JobRan O.account recorder.now (slice_index_or jobs.old i d) (slice_index_or jobs.new i d) }
+{
+    thread::for_each_mut(rt, jobs, MOST_THREADS, &|_, job| job.run(recorder, ended));
+}
