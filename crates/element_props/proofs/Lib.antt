@@ -14,3 +14,4 @@ pub mod EntriesAgain
 pub mod RepliesAgain
 pub mod RowAgain
 pub mod RowsAgain
+pub mod CsvLaws

@@ -1,39 +1,41 @@
 // Texts of comma-separated values.
 
-ghost use Rattle.std.specs.Prelude.{◌≡◌, map, IfOk};
+ghost use Rattle.std.specs.Prelude.{◌≡◌, true, map, IfOk};
 ghost use Rattle.csv.specs.Records.{fields_of};
-ghost use Rattle.csv.specs.Reading.{AreRecords, default_config, strip_bom};
-ghost use Rattle.csv.specs.declared.parser.State.TheVariants as st;
+ghost use Rattle.csv.specs.Reading.{error_kind, stops_reader};
 ghost use Rattle.element_props.specs.Tables.{rows_of, is_table};
 
-use csv::{ByteRecord, Error, ReaderBuilder};
+use csv::{ByteRecord, Error, ErrorKind, ReaderBuilder};
 use jm_base::{M, NoMemory};
 use std::alloc::Global;
 
-fn read_rows(alloc: Global, text: &[u8]) -> Result<Vec<ByteRecord>, Error>
-    ensures { IfOk result (λ v. AreRecords default_config st.StartRecord (strip_bom text.now) (map fields_of v.items)) }
+/// What stops a reader of rows over a text: out of memory. A text gives no error of its own, though `csv` leaves that open.
+fn no_memory(error: Error) -> NoMemory
+    requires { stops_reader (error_kind error) ≡ true }
 {
-    let rdr = ReaderBuilder::new()
-        .has_headers(false)
-        .flexible(true)
-        .from_reader(alloc, text);
-    let mut rows = Vec::new(alloc);
-    for row in rdr.into_byte_records() {
-        if rows.push(row?).is_err() {
-            return Err(Error::out_of_memory());
-        }
+    match error.into_kind() {
+        ErrorKind::OutOfMemory | ErrorKind::Io(_) => NoMemory,
+        ErrorKind::Utf8 { .. } | ErrorKind::UnequalLengths { .. } => unreachable!(),
+        ErrorKind::Serialize(_) | ErrorKind::Deserialize { .. } => unreachable!(),
     }
-    Ok(rows)
 }
 
 /// The rows of a text, of any lengths.
 fn rows(alloc: Global, text: &[u8]) -> M<Vec<ByteRecord>>
     ensures { IfOk result (λ v. map fields_of v.items ≡ rows_of text.now) }
 {
-    match read_rows(alloc, text) {
-        Ok(rows) => Ok(rows),
-        Err(_) => Err(NoMemory),
+    let reader = ReaderBuilder::new()
+        .has_headers(false)
+        .flexible(true)
+        .from_reader(alloc, text);
+    let mut rows = Vec::new(alloc);
+    for row in reader.into_byte_records() {
+        match row {
+            Ok(row) => rows.push(row)?,
+            Err(error) => return Err(no_memory(error)),
+        }
     }
+    Ok(rows)
 }
 
 /// Whether there is a row, and each row has that many fields.
