@@ -176,11 +176,11 @@ gives_judged seen a b r (Err e) g = tt
 
 pub gives_refused : {X A : Type 0} (seen : X → A) (a b : Asked) (r : Reads A) (res : Result X BuildError) (e : BuildError) → Gives seen a r res b → res ≡ Err e → IsByPlan e → judged r ≡ Err e
 gives_refused seen a b r (Ok x) e g is h = cc
-gives_refused seen a b r (Err f) e g is h = let same : f ≡ e = cc in stops_judged (ap is_of_maker same ∙ h.0) (g (λ none. h.1 (sym same ∙ none))) ∙ ap Err same
+gives_refused seen a b r (Err f) e g is h = let same : f ≡ e = cc in stops_judged (ap is_of_maker same ∙ h.0) (g.stops (λ none. h.1 (sym same ∙ none))) ∙ ap Err same
 
 pub gives_size : {X A : Type 0} (seen : X → A) (a b : Asked) (r : Reads A) (res : Result X BuildError) (p : Place) → Own r → Gives seen a r res b → res ≡ Err (errors.BadPattern p Size) → Rose a.oversize b.oversize
 gives_size seen a b r (Ok x) p own g is = cc
-gives_size seen a b r (Err f) p own g is = let same : f ≡ errors.BadPattern p Size = cc in let s = g (λ none. cc) in has_risen same (own_path s.path own) s.ends
+gives_size seen a b r (Err f) p own g is = let same : f ≡ errors.BadPattern p Size = cc in let s = g.stops (λ none. cc) in has_risen same (own_path s.path own) s.ends
 
 refused_path : {A : Type 0} {e : BuildError} {s : Reads A} {ts : List (List ℕ)} → Path (refuse e) ts s → s ≡ refuse e
 refused_path here = refl
@@ -192,7 +192,7 @@ refused_ends refused = refl
 pub gives_refusal : {X A : Type 0} (seen : X → A) (a b : Asked) (r : Reads A) (res : Result X BuildError) (e : BuildError) → Gives seen a r res b → outcome r ≡ Err e → r ≡ refuse e → Answered res e
 gives_refusal seen a b r (Ok x) e g o is = λ m. absurd (let k = goes_outcome g in cc)
 gives_refusal seen a b r (Err f) e g o is = λ m.
-    let s = rw is at (g (λ none. m (ap Err none))) in ap Err (refused_ends (rw (refused_path s.path) at s.ends))
+    let s = rw is at (g.stops (λ none. m (ap Err none))) in ap Err (refused_ends (rw (refused_path s.path) at s.ends))
 
 pub unknown_refused : (places : List ℕ) (ms : Members) (rows : List Row) (name : List ℕ) → unknown rows ms ≡ Some name → own_properties places ms rows ≡ refuse (errors.BadProp (prop_at places name))
 unfolding own_properties

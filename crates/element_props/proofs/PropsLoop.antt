@@ -12,10 +12,10 @@ use Rattle.element_props.specs.Rows as table
 use Rattle.element_props.specs.Seen.{row_seen, presence_seen}
 use Rattle.element_props.specs.Rows.{is_short, are_short}
 use Rattle.element_props.specs.Patterns.{Asked}
-use Rattle.element_props.specs.Reads.{Reads, over, refuse, ask, ◌>>=◌, Goes, Stops, Gives}
+use Rattle.element_props.specs.Reads.{Reads, over, refuse, ask, ◌>>=◌, Goes, Fails, Gives}
 use Rattle.element_props.specs.Forms.{given}
 use Rattle.element_props.specs.Props.{prop_at, absent_value, property, properties, unknown, missing, own_properties}
-use Rattle.element_props.proofs.ReadsLaws.{goes_nothing, goes_append, goes_bind, stops_after, stops_bind, stops_refuse}
+use Rattle.element_props.proofs.ReadsLaws.{goes_nothing, goes_append, goes_bind, fails_after, fails_bind, fails_refuse}
 
 pub property_absent : (places : List ℕ) (ms : Members) (row : table.Row) (a : Asked) (p : Prop) → get_member row.name ms ≡ None → p ≡ absent_value row.form row.presence → Goes a (property places ms row) (over p) a
 unfolding property
@@ -64,9 +64,9 @@ module _ (places : List ℕ) (ms : Members) (rows : List Row) (i : ℕ) (row : R
       let P : Reads (List Prop) → Type 0 = λ r. Goes b (props_before front (properties places ms (row_seen row ∷ map row_seen (drop (i + 1) rows)))) r c in
       goes_append here (subst P (shift front p rest) second)
 
-  pub row_fails : (e : BuildError) → Stops b (property places ms (row_seen row)) e c → Stops a (properties places ms (map row_seen rows)) e c
+  pub row_fails : (e : BuildError) → Fails b (property places ms (row_seen row)) e c → Fails a (properties places ms (map row_seen rows)) e c
   unfolding properties
-  row_fails e s = stops_after here (stops_bind _ (stops_bind _ s))
+  row_fails e s = fails_after here (fails_bind _ (fails_bind _ s))
 
 pub rows_end : (places : List ℕ) (ms : Members) (rows : List Row) (i : ℕ) (front : List Prop) (a b : Asked) → length rows ≤ i
     → Goes a (properties places ms (map row_seen rows)) (props_before front (properties places ms (map row_seen (drop i rows)))) b
@@ -98,13 +98,13 @@ same_row (r ∷ rows) (suc i) d h = same_row rows i d (omega arith)
 
 -- ---- an element's properties
 
-pub unknown_fails : (places : List ℕ) (ms : Members) (rows : List table.Row) (name : List ℕ) (a : Asked) → unknown rows ms ≡ Some name → Stops a (own_properties places ms rows) (errors.BadProp (prop_at places name)) a
+pub unknown_fails : (places : List ℕ) (ms : Members) (rows : List table.Row) (name : List ℕ) (a : Asked) → unknown rows ms ≡ Some name → Fails a (own_properties places ms rows) (errors.BadProp (prop_at places name)) a
 unfolding own_properties
-unknown_fails places ms rows name a h = rw h (stops_refuse a _)
+unknown_fails places ms rows name a h = rw h (fails_refuse a _)
 
-pub missing_fails : (places : List ℕ) (ms : Members) (rows : List table.Row) (name : List ℕ) (a : Asked) → unknown rows ms ≡ None → missing ms rows ≡ Some name → Stops a (own_properties places ms rows) (errors.MissingProp (prop_at places name)) a
+pub missing_fails : (places : List ℕ) (ms : Members) (rows : List table.Row) (name : List ℕ) (a : Asked) → unknown rows ms ≡ None → missing ms rows ≡ Some name → Fails a (own_properties places ms rows) (errors.MissingProp (prop_at places name)) a
 unfolding own_properties
-missing_fails places ms rows name a h k = rw (h, k) (stops_refuse a _)
+missing_fails places ms rows name a h k = rw (h, k) (fails_refuse a _)
 
 pub own_gives : {X : Type 0} (seen : X → List Prop) (places : List ℕ) (ms : Members) (rows : List table.Row) (a b : Asked) (r : Result X BuildError) → unknown rows ms ≡ None → missing ms rows ≡ None
     → Gives seen a (properties places ms rows) r b → Gives seen a (own_properties places ms rows) r b

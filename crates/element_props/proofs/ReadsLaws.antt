@@ -1,6 +1,6 @@
 -- Readings one after another.
 use Rattle.std.proofs.lemmas.List.{append-nil, drop_all, take_all, map-append}
-use Rattle.std.proofs.Common.{◌≡◌, ℕ, ◌+◌, ◌<◌, ◌≤◌, List, [], ◌∷◌, ◌++◌, Option, Some, None, Result, Ok, Err, refl, sym, ap, ◌∙◌, arith, append_assoc, true, false, Bool, ◌||◌, inl, inr, length, get_or, drop, take, map, Bor, OnOk, add-one, drop-cons, subst, option_and_then, codes}
+use Rattle.std.proofs.Common.{◌≡◌, ℕ, ◌+◌, ◌<◌, ◌≤◌, List, [], ◌∷◌, ◌++◌, Option, Some, None, Result, Ok, Err, refl, sym, ap, ◌∙◌, arith, append_assoc, true, false, Bool, ◌||◌, inl, inr, length, get_or, drop, take, map, Bor, OnOk, ◌⊎◌, add-one, drop-cons, subst, option_and_then, codes}
 use Rattle.std.proofs.Math.Seq.{take-suc}
 use Rattle.std.specs.Option.{option_map}
 use Rattle.jm_base.specs.Counts.{Rose}
@@ -16,7 +16,7 @@ use Rattle.element_props.specs.declared.prop.Prop.{Prop}
 use Rattle.element_props.specs.declared.prop.Prop.TheVariants as props
 use Rattle.element_props.specs.Rows.{Form}
 use Rattle.element_props.specs.Forms.{is_too_long, value_of, finished, pattern_asked, pattern_checked, around, around_asked, one_asked, each_asked, is_test, whole_of, regexes_checked, tests_checked, tests_given, few_of, is_pattern, is_test_patterns, has_reference, given}
-use Rattle.element_props.specs.Reads.{Reads, over, refuse, ask, ◌>>=◌, Path, here, asked, Goes, Ends, refused, unread, too_large, Stops, Gives, Answers}
+use Rattle.element_props.specs.Reads.{Reads, over, refuse, ask, ◌>>=◌, Path, here, asked, Goes, Ends, refused, unread, too_large, Stops, Next, nothing, asking, RunsOut, Fails, Gives, Answers}
 
 no_more : (t : Option (List (List ℕ))) → t ≡ option_map (λ t. t ++ []) t
 no_more None = refl
@@ -58,7 +58,7 @@ ends_since h refused = refused
 ends_since h (unread k) = unread k
 ends_since h (too_large k) = too_large (rose_since h k)
 
-pub stops_after : {A : Type 0} {a b c : Asked} {r s : Reads A} {e : BuildError} → Goes a r s b → Stops b s e c → Stops a r e c
+stops_after : {A : Type 0} {a b c : Asked} {r s : Reads A} {e : BuildError} → Goes a r s b → Stops b s e c → Stops a r e c
 stops_after g h = record {
   texts = g.texts ++ h.texts;
   last = h.last;
@@ -73,34 +73,82 @@ ends_bind f refused = refused
 ends_bind f (unread h) = unread h
 ends_bind f (too_large h) = too_large h
 
-pub stops_bind : {A B : Type 0} {a b : Asked} {r : Reads A} {e : BuildError} (f : A → Reads B) → Stops a r e b → Stops a (r >>= f) e b
+stops_bind : {A B : Type 0} {a b : Asked} {r : Reads A} {e : BuildError} (f : A → Reads B) → Stops a r e b → Stops a (r >>= f) e b
 stops_bind f h = record { texts = h.texts; last = h.last; rest = h.rest >>= f; asks = h.asks; path = path_bind f h.path; ends = ends_bind f h.ends }
 
-pub stops_refuse : {A : Type 0} (a : Asked) (e : BuildError) → Stops {A = A} a (refuse e) e a
+stops_refuse : {A : Type 0} (a : Asked) (e : BuildError) → Stops {A = A} a (refuse e) e a
 stops_refuse a e = record { texts = []; last = []; rest = refuse e; asks = asks_nothing a; path = here; ends = refused }
+
+-- ---- a reading that a call answers with an error
+
+next_bind : {A B : Type 0} {r : Reads A} {last : List (List ℕ)} (f : A → Reads B) → Next r last → Next (r >>= f) last
+next_bind f nothing = nothing
+next_bind f asking = asking
+
+runs_out : {A : Type 0} (a : Asked) (r : Reads A) → RunsOut a r a
+runs_out a r = record { texts = []; last = []; rest = r; asks = asks_nothing a; path = here; next = nothing }
+
+out_after : {A : Type 0} {a b c : Asked} {r s : Reads A} → Goes a r s b → RunsOut b s c → RunsOut a r c
+out_after g h = record {
+  texts = g.texts ++ h.texts;
+  last = h.last;
+  rest = h.rest;
+  asks = rw (append_assoc g.texts h.texts h.last) (asks_append g.asks h.asks);
+  path = path_append g.path h.path;
+  next = h.next;
+}
+
+out_bind : {A B : Type 0} {a b : Asked} {r : Reads A} (f : A → Reads B) → RunsOut a r b → RunsOut a (r >>= f) b
+out_bind f h = record { texts = h.texts; last = h.last; rest = h.rest >>= f; asks = h.asks; path = path_bind f h.path; next = next_bind f h.next }
+
+pub fails_after : {A : Type 0} {a b c : Asked} {r s : Reads A} {e : BuildError} → Goes a r s b → Fails b s e c → Fails a r e c
+fails_after g h = record { stops = λ other. stops_after g (h.stops other); memory = λ none. out_after g (h.memory none) }
+
+pub fails_bind : {A B : Type 0} {a b : Asked} {r : Reads A} {e : BuildError} (f : A → Reads B) → Fails a r e b → Fails a (r >>= f) e b
+fails_bind f h = record { stops = λ other. stops_bind f (h.stops other); memory = λ none. out_bind f (h.memory none) }
+
+-- of a call that asks for no pattern
+pub fails_first : {A : Type 0} (a : Asked) (r : Reads A) (e : BuildError) → ((e ≡ errors.NoMemory → ⊥) → r ≡ refuse e) → Fails a r e a
+fails_first a r e h = record { stops = λ other. rw (h other) (stops_refuse a e); memory = λ none. runs_out a r }
+
+pub fails_refuse : {A : Type 0} (a : Asked) (e : BuildError) → Fails {A = A} a (refuse e) e a
+fails_refuse a e = fails_first a (refuse e) e (λ other. refl)
+
+pub no_memory : {A : Type 0} (a : Asked) (r : Reads A) (e : BuildError) → e ≡ errors.NoMemory → Fails a r e a
+no_memory a r e none = fails_first a r e (λ other. absurd (other none))
+
+pub no_memory_after : {A : Type 0} (a b : Asked) (r s : Reads A) (e : BuildError) → Goes a r s b → e ≡ errors.NoMemory → Fails a r e b
+no_memory_after a b r s e g none = fails_after g (no_memory b s e none)
+
+by_stop : {A : Type 0} {a b : Asked} {r : Reads A} {e : BuildError} → (e ≡ errors.NoMemory → ⊥) → Stops a r e b → Fails a r e b
+by_stop other s = record { stops = λ _. s; memory = λ none. absurd (other none) }
 
 pub answers_gives : {X A : Type 0} (seen : X → A) (a : Asked) (reading : Reads A) (r : Result X BuildError) → Answers seen reading r → Gives seen a reading r a
 answers_gives seen a reading (Ok x) h = rw h (goes_nothing a _)
-answers_gives seen a reading (Err e) h = λ other. rw (h other) (stops_refuse a e)
+answers_gives seen a reading (Err e) h = fails_first a reading e h
 
 pub gives_bind : {X A B : Type 0} (seen : X → B) (f : A → Reads B) (a b c : Asked) (r : Reads A) (x : A) (res : Result X BuildError) → Goes a r (over x) b → Gives seen b (f x) res c → Gives seen a (r >>= f) res c
 gives_bind seen f a b c r x (Ok y) g h = goes_append (goes_bind f g) h
-gives_bind seen f a b c r x (Err e) g h = λ other. stops_after (goes_bind f g) (h other)
+gives_bind seen f a b c r x (Err e) g h = fails_after (goes_bind f g) h
 
 -- ---- a pattern
 
 pub asked_made : (a b : Asked) (p : Place) (s : List ℕ) → Asks a (s ∷ []) b → HasReading s → Goes a (ask p s (over s)) (over s) b
 asked_made a b p s k some = record { texts = s ∷ []; asks = k; path = asked some here }
 
-pub asked_unread : (a b : Asked) (p : Place) (s : List ℕ) → Asks a (s ∷ []) b → reading_of s ≡ None → Stops a (ask p s (over s)) (errors.BadPattern p Syntax) b
-asked_unread a b p s k none = record { texts = []; last = s ∷ []; rest = ask p s (over s); asks = k; path = here; ends = unread none }
+pub asked_unread : (a b : Asked) (p : Place) (s : List ℕ) → Asks a (s ∷ []) b → reading_of s ≡ None → Fails a (ask p s (over s)) (errors.BadPattern p Syntax) b
+asked_unread a b p s k none = by_stop (λ is. cc) (record { texts = []; last = s ∷ []; rest = ask p s (over s); asks = k; path = here; ends = unread none })
 
-pub asked_large : (a b : Asked) (p : Place) (s : List ℕ) → Asks a (s ∷ []) b → Rose a.oversize b.oversize → Stops a (ask p s (over s)) (errors.BadPattern p Size) b
-asked_large a b p s k more = record { texts = []; last = s ∷ []; rest = ask p s (over s); asks = k; path = here; ends = too_large more }
+pub asked_large : (a b : Asked) (p : Place) (s : List ℕ) → Asks a (s ∷ []) b → Rose a.oversize b.oversize → Fails a (ask p s (over s)) (errors.BadPattern p Size) b
+asked_large a b p s k more = by_stop (λ is. cc) (record { texts = []; last = s ∷ []; rest = ask p s (over s); asks = k; path = here; ends = too_large more })
 
-pub pattern_refers : (a : Asked) (p : Place) (s : List ℕ) → has_reference s ≡ true → Stops a (pattern_asked p s (has_reference s)) (errors.BadPattern p Reference) a
+pub asked_cut : (a b : Asked) (p : Place) (s : List ℕ) (e : BuildError) → Asks a [] b ⊎ Asks a (s ∷ []) b → e ≡ errors.NoMemory → Fails a (ask p s (over s)) e b
+asked_cut a b p s e (inl k) none = record { stops = λ other. absurd (other none); memory = λ _. record { texts = []; last = []; rest = ask p s (over s); asks = k; path = here; next = nothing } }
+asked_cut a b p s e (inr k) none = record { stops = λ other. absurd (other none); memory = λ _. record { texts = []; last = s ∷ []; rest = ask p s (over s); asks = k; path = here; next = asking } }
+
+pub pattern_refers : (a : Asked) (p : Place) (s : List ℕ) → has_reference s ≡ true → Fails a (pattern_asked p s (has_reference s)) (errors.BadPattern p Reference) a
 unfolding pattern_asked
-pattern_refers a p s h = rw h (stops_refuse a _)
+pattern_refers a p s h = rw h (fails_refuse a _)
 
 pub pattern_gives : {X : Type 0} (seen : X → List ℕ) (a b : Asked) (p : Place) (s : List ℕ) (r : Result X BuildError) → has_reference s ≡ false → Gives seen a (ask p s (over s)) r b → Gives seen a (pattern_asked p s (has_reference s)) r b
 unfolding pattern_asked
@@ -110,9 +158,9 @@ pub pattern_kept : (a b : Asked) (p : Place) (s t : List ℕ) (refers : Bool) �
 unfolding pattern_checked
 pattern_kept a b p s t refers g = goes_bind (λ (t : List ℕ). over (props.Pattern t)) g
 
-pub pattern_fails : (a b : Asked) (p : Place) (s : List ℕ) (refers : Bool) (e : BuildError) → Stops a (pattern_asked p s refers) e b → Stops a (pattern_checked p s refers) e b
+pub pattern_fails : (a b : Asked) (p : Place) (s : List ℕ) (refers : Bool) (e : BuildError) → Fails a (pattern_asked p s refers) e b → Fails a (pattern_checked p s refers) e b
 unfolding pattern_checked
-pattern_fails a b p s refers e g = stops_bind (λ (t : List ℕ). over (props.Pattern t)) g
+pattern_fails a b p s refers e g = fails_bind (λ (t : List ℕ). over (props.Pattern t)) g
 
 -- ---- the patterns of a list
 
@@ -124,9 +172,9 @@ pub around_made : (a b : Asked) (p : Place) (s t u : List ℕ) → t ≡ around 
 unfolding around_asked
 around_made a b p s t u e g = let P : List ℕ → Type 0 = λ v. Goes a (ask p v (over tt)) (over tt) b in subst P e (goes_bind (λ (v : List ℕ). over tt) g)
 
-pub around_fails : (a b : Asked) (p : Place) (s t : List ℕ) (e : BuildError) → t ≡ around s → Stops a (ask p t (over t)) e b → Stops a (around_asked p true s) e b
+pub around_fails : (a b : Asked) (p : Place) (s t : List ℕ) (e : BuildError) → t ≡ around s → Fails a (ask p t (over t)) e b → Fails a (around_asked p true s) e b
 unfolding around_asked
-around_fails a b p s t e same g = let P : List ℕ → Type 0 = λ v. Stops a (ask p v (over tt)) e b in subst P same (stops_bind (λ (v : List ℕ). over tt) g)
+around_fails a b p s t e same g = let P : List ℕ → Type 0 = λ v. Fails a (ask p v (over tt)) e b in subst P same (fails_bind (λ (v : List ℕ). over tt) g)
 
 pub on_ok : {X E : Type 0} {P : Type 0} (r : Result X E) → P → OnOk r P
 on_ok (Ok x) p = p
@@ -137,9 +185,9 @@ pub one_made : {X : Type 0} (seen : X → Unit {0}) (a b c : Asked) (p : Place) 
 unfolding one_asked
 one_made seen a b c p fully s r t g h = gives_bind seen (λ (u : List ℕ). around_asked p fully s) a b c _ t r g h
 
-pub one_fails : (a b : Asked) (p : Place) (fully : Bool) (s : List ℕ) (e : BuildError) → Stops a (pattern_asked p s (has_reference s)) e b → Stops a (one_asked p fully s) e b
+pub one_fails : (a b : Asked) (p : Place) (fully : Bool) (s : List ℕ) (e : BuildError) → Fails a (pattern_asked p s (has_reference s)) e b → Fails a (one_asked p fully s) e b
 unfolding one_asked
-one_fails a b p fully s e g = stops_bind (λ (t : List ℕ). around_asked p fully s) g
+one_fails a b p fully s e g = fails_bind (λ (t : List ℕ). around_asked p fully s) g
 
 strings_step : (ts : List (Bor (List ℕ))) (i : ℕ) (d : Bor (List ℕ)) → i < length ts → map (λ t. t.now) (drop i ts) ≡ (get_or ts i d).now ∷ map (λ t. t.now) (drop (i + 1) ts)
 strings_step ts i d h = rw add-one (ap (map (λ (t : Bor (List ℕ)). t.now)) (drop-cons ts i d h))
@@ -153,11 +201,11 @@ asked_step a b c p fully r ts i d h kept g =
     goes_append (subst P (strings_step ts i d h) kept) (goes_bind (λ (t : Unit {0}). each_asked p fully (map (λ t. t.now) (drop (i + 1) ts))) g)
 
 pub asked_stops : (a b c : Asked) (p : Place) (fully : Bool) (r : Reads (Unit {0})) (ts : List (Bor (List ℕ))) (i : ℕ) (d : Bor (List ℕ)) (e : BuildError) → i < length ts
-    → Goes a r (each_asked p fully (map (λ t. t.now) (drop i ts))) b → Stops b (one_asked p fully (get_or ts i d).now) e c → Stops a r e c
+    → Goes a r (each_asked p fully (map (λ t. t.now) (drop i ts))) b → Fails b (one_asked p fully (get_or ts i d).now) e c → Fails a r e c
 unfolding each_asked
 asked_stops a b c p fully r ts i d e h kept g =
     let P : List (List ℕ) → Type 0 = λ ss. Goes a r (each_asked p fully ss) b in
-    stops_after (subst P (strings_step ts i d h) kept) (stops_bind (λ (t : Unit {0}). each_asked p fully (map (λ t. t.now) (drop (i + 1) ts))) g)
+    fails_after (subst P (strings_step ts i d h) kept) (fails_bind (λ (t : Unit {0}). each_asked p fully (map (λ t. t.now) (drop (i + 1) ts))) g)
 
 pub asked_end : (a b : Asked) (p : Place) (fully : Bool) (r : Reads (Unit {0})) (ts : List (Bor (List ℕ))) (i : ℕ) → length ts ≤ i
     → Goes a r (each_asked p fully (map (λ t. t.now) (drop i ts))) b → Goes a r (over tt) b
@@ -199,9 +247,9 @@ regexes_done a b p fully ts i texts own whole h e f g kept =
     let all = strings_all ts i h in
     rw (e, f ∙ all, g ∙ ap (whole_of fully) all) (regexes_made a b p fully (map (λ t. t.now) ts) (asked_end a b p fully _ ts i h kept))
 
-pub regexes_fail : (a b : Asked) (p : Place) (fully : Bool) (ss : List (List ℕ)) (e : BuildError) → Stops a (each_asked p fully ss) e b → Stops a (regexes_checked p fully ss) e b
+pub regexes_fail : (a b : Asked) (p : Place) (fully : Bool) (ss : List (List ℕ)) (e : BuildError) → Fails a (each_asked p fully ss) e b → Fails a (regexes_checked p fully ss) e b
 unfolding regexes_checked
-regexes_fail a b p fully ss e g = stops_bind (λ (t : Unit {0}). over (props.Patterns ss ss (whole_of fully ss))) g
+regexes_fail a b p fully ss e g = fails_bind (λ (t : Unit {0}). over (props.Patterns ss ss (whole_of fully ss))) g
 
 pub tests_regex : {X : Type 0} (seen : X → Prop) (a b : Asked) (p : Place) (regex fully : Bool) (ss : List (List ℕ)) (r : Result X BuildError) → (regex || fully) ≡ true
     → Gives seen a (regexes_checked p fully ss) r b → Gives seen a (tests_checked p regex fully ss) r b
@@ -212,9 +260,9 @@ pub tests_plain : (a : Asked) (p : Place) (regex fully : Bool) (ss : List (List 
 unfolding tests_checked
 tests_plain a p regex fully ss h = rw h (goes_nothing a _)
 
-pub no_tests : (place : Place) (ms : Members) (d : Data) (a : Asked) → option_and_then (few_of 64 as_str) (as_array d) ≡ None → Stops a (tests_given place ms d) (errors.BadProp place) a
+pub no_tests : (place : Place) (ms : Members) (d : Data) (a : Asked) → option_and_then (few_of 64 as_str) (as_array d) ≡ None → Fails a (tests_given place ms d) (errors.BadProp place) a
 unfolding tests_given
-no_tests place ms d a e = rw e (stops_refuse a _)
+no_tests place ms d a e = rw e (fails_refuse a _)
 
 pub some_tests : (place : Place) (ms : Members) (d : Data) (a b : Asked) (regex fully : Bool) (ss texts : List (List ℕ)) (r : Result Prop BuildError)
     → regex ≡ is_test (codes "contains") ms → fully ≡ is_test (codes "matches") ms → texts ≡ ss → option_and_then (few_of 64 as_str) (as_array d) ≡ Some ss
@@ -225,13 +273,13 @@ some_tests place ms d a b regex fully ss texts r p q t e g = rw e (rw (← p, �
 -- ---- a property that is there
 
 module _ (form : Form) (ms : Members) (place : Place) (d : Data) (a : Asked) where
-  pub given_long : is_too_long form d ≡ true → Stops a (given form ms place d) (errors.TooMany place what.Text) a
+  pub given_long : is_too_long form d ≡ true → Fails a (given form ms place d) (errors.TooMany place what.Text) a
   unfolding given
-  given_long h = rw h (stops_refuse a _)
+  given_long h = rw h (fails_refuse a _)
 
-  pub given_no_text : is_too_long form d ≡ false → is_pattern form ≡ true → as_str d ≡ None → Stops a (given form ms place d) (errors.BadProp place) a
+  pub given_no_text : is_too_long form d ≡ false → is_pattern form ≡ true → as_str d ≡ None → Fails a (given form ms place d) (errors.BadProp place) a
   unfolding given
-  given_no_text h p e = rw (h, p, e) (stops_refuse a _)
+  given_no_text h p e = rw (h, p, e) (fails_refuse a _)
 
   pub given_pattern : (b : Asked) (s : List ℕ) (r : Result Prop BuildError) → is_too_long form d ≡ false → is_pattern form ≡ true → as_str d ≡ Some s
       → Gives (λ p. p) a (pattern_checked place s (has_reference s)) r b → Gives (λ p. p) a (given form ms place d) r b
@@ -243,9 +291,9 @@ module _ (form : Form) (ms : Members) (place : Place) (d : Data) (a : Asked) whe
   unfolding given
   given_tests b r h p t g = rw (h, p, t) g
 
-  pub given_none : is_too_long form d ≡ false → is_pattern form ≡ false → is_test_patterns form ≡ false → value_of form ms d ≡ None → Stops a (given form ms place d) (errors.BadProp place) a
+  pub given_none : is_too_long form d ≡ false → is_pattern form ≡ false → is_test_patterns form ≡ false → value_of form ms d ≡ None → Fails a (given form ms place d) (errors.BadProp place) a
   unfolding given
-  given_none h p t e = rw (h, p, t, e) (stops_refuse a _)
+  given_none h p t e = rw (h, p, t, e) (fails_refuse a _)
 
   pub given_value : (v : Prop) (r : Result Prop BuildError) → is_too_long form d ≡ false → is_pattern form ≡ false → is_test_patterns form ≡ false → value_of form ms d ≡ Some v
       → Answers (λ p. p) (finished place v) r → Gives (λ p. p) a (given form ms place d) r a

@@ -70,10 +70,29 @@ pub record Stops {A : Type 0} (before : Asked) (reading : Reads A) (e : BuildErr
   pub path : Path reading texts rest
   pub ends : Ends before.oversize after.oversize e rest last
 
--- What a call answered, seen by this, is what the reading gives, unless memory ran out.
+-- no text, or the one that a reading asks for now
+pub data Next {A : Type 0} : Reads A → List (List ℕ) → Type 0 where
+  nothing : {r : Reads A} → Next r []
+  asking : {p : Place} {t : List ℕ} {r : Reads A} → Next (ask p t r) (t ∷ [])
+
+-- Between two moments of the maker of patterns memory ran out: it was given what the reading asks for up to some place, and perhaps the text that comes there, of which nothing was made.
+pub record RunsOut {A : Type 0} (before : Asked) (reading : Reads A) (after : Asked) : Type 0 where
+  pub texts : List (List ℕ)
+  pub last : List (List ℕ)
+  pub rest : Reads A
+  pub asks : Asks before (texts ++ last) after
+  pub path : Path reading texts rest
+  pub next : Next rest last
+
+-- How far a reading came that a call answered with this error.
+pub record Fails {A : Type 0} (before : Asked) (reading : Reads A) (e : BuildError) (after : Asked) : Type 0 where
+  pub stops : (e ≡ errors.NoMemory → ⊥) → Stops before reading e after
+  pub memory : e ≡ errors.NoMemory → RunsOut before reading after
+
+-- What a call answered, seen by this, is what the reading gives, unless memory ran out on the way.
 abbrev pub Gives : {X A : Type 0} → (X → A) → Asked → Reads A → Result X BuildError → Asked → Type 0
 Gives seen before reading (Ok x) after = Goes before reading (over (seen x)) after
-Gives seen before reading (Err e) after = (e ≡ errors.NoMemory → ⊥) → Stops before reading e after
+Gives seen before reading (Err e) after = Fails before reading e after
 
 -- The same of a call that asks for no pattern.
 abbrev pub Answers : {X A : Type 0} → (X → A) → Reads A → Result X BuildError → Type 0

@@ -20,6 +20,7 @@ use serde_json::Value;
 use std::alloc::Global;
 
 /// A text, with what the maker makes of it.
+#[tactic(auto, using(crate::proofs::ReadsLaws::no_memory))]
 fn made<G: Patterns>(
     alloc: Global,
     places: &[u64],
@@ -46,6 +47,7 @@ fn made<G: Patterns>(
 }
 
 /// A pattern, which may hold no `${`.
+#[tactic(auto, using(crate::proofs::ReadsLaws::no_memory))]
 fn pattern<G: Patterns>(
     alloc: Global,
     places: &[u64],
@@ -90,6 +92,7 @@ fn around(alloc: Global, text: &str) -> M<String>
 }
 
 /// Adds what is made of the text around a pattern, where a whole text must match.
+#[tactic(auto, using(crate::proofs::ReadsLaws::no_memory))]
 fn add_whole<G: Patterns>(
     alloc: Global,
     places: &[u64],
@@ -116,6 +119,7 @@ fn add_whole<G: Patterns>(
 }
 
 /// Adds what is made of a pattern, and of the text around it where a whole text must match.
+#[tactic(auto, using(crate::proofs::ReadsLaws::no_memory))]
 fn add_pattern<G: Patterns>(
     alloc: Global,
     places: &[u64],
@@ -140,6 +144,7 @@ fn add_pattern<G: Patterns>(
 }
 
 /// A property that is a list of patterns, all of them regular expressions.
+#[tactic(auto, using(crate::proofs::ReadsLaws::no_memory))]
 fn regexes_prop<G: Patterns>(
     alloc: Global,
     places: &[u64],
@@ -194,6 +199,7 @@ fn either(a: bool, b: bool) -> bool
 }
 
 /// The patterns of a Response Assertion: regular expressions that must be found or that a whole text must match, or plain texts.
+#[tactic(auto, using(crate::proofs::ReadsLaws::no_memory))]
 fn tests_prop<G: Patterns>(
     alloc: Global,
     places: &[u64],
@@ -232,6 +238,7 @@ fn is_text(value: &Value, word: &str) -> bool
 }
 
 /// The patterns of a Response Assertion with these properties.
+#[tactic(auto, using(crate::proofs::ReadsLaws::no_memory))]
 pub(crate) fn tests_given<G: Patterns>(
     alloc: Global,
     places: &[u64],

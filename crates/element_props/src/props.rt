@@ -136,6 +136,7 @@ fn is_test_patterns(form: Form) -> bool
 }
 
 /// A property that is there.
+#[tactic(auto, using(crate::proofs::ReadsLaws::no_memory))]
 pub fn given<G: Patterns>(
     alloc: Global,
     form: Form,
@@ -209,6 +210,7 @@ fn is_template(form: Form) -> bool
 }
 
 /// The property of a row.
+#[tactic(auto, using(crate::proofs::ReadsLaws::no_memory))]
 fn property<G: Patterns>(
     alloc: Global,
     row: &Row,
@@ -229,6 +231,7 @@ fn property<G: Patterns>(
 }
 
 /// The properties of these rows, in their order.
+#[tactic(auto, using(crate::proofs::ReadsLaws::no_memory))]
 fn properties<G: Patterns>(
     alloc: Global,
     rows: &[Row],
@@ -297,6 +300,7 @@ fn is_required(presence: Presence) -> bool
 }
 
 /// The properties of an element.
+#[tactic(auto, using(crate::proofs::ReadsLaws::no_memory))]
 fn read_own<G: Patterns>(
     alloc: Global,
     rows: &[Row],

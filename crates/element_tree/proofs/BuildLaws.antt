@@ -8,11 +8,11 @@ use Rattle.element_props.specs.declared.error.BuildError.{BuildError}
 use Rattle.jm_base.specs.Counts.{Rose}
 use Rattle.element_props.specs.Answers.{IsByPlan}
 use Rattle.element_props.specs.Patterns.{Asked}
-use Rattle.element_props.specs.declared.error.BuildError.TheVariants.{BadPattern}
+use Rattle.element_props.specs.declared.error.BuildError.TheVariants.{BadPattern, NoMemory}
 use Rattle.element_props.specs.declared.error.PatternFault.TheVariants.{Size}
 use Rattle.plan_json.specs.Place.{Place}
-use Rattle.element_props.specs.Reads.{Reads, over, refuse, ◌>>=◌, judged, Goes, Stops, Gives}
-use Rattle.element_props.proofs.ReadsLaws.{goes_nothing, goes_append, goes_bind, stops_after, stops_bind, stops_refuse}
+use Rattle.element_props.specs.Reads.{Reads, over, refuse, ◌>>=◌, judged, Goes, Fails, Gives}
+use Rattle.element_props.proofs.ReadsLaws.{goes_nothing, goes_append, goes_bind, fails_after, fails_bind, fails_first}
 use Rattle.element_props.proofs.OwnLaws.{goes_outcome, gives_judged, gives_refused, gives_size}
 use Rattle.element_tree.proofs.RefusalLaws.{own_reading}
 use Rattle.element_tree.specs.declared.kinds.Element.{Element}
@@ -31,12 +31,12 @@ module _ (r : RawElement) (version : ℕ) (places : List ℕ) (old : List Elemen
   start_is : start version places ≡ root_spot (version_of (props_of (raw_view r)))
   start_is = rw (no_places, is, ← root_props r) refl
 
-  pub walk_refuses : (e : BuildError) → Stops a (elements (start version places) (length old) (raw_view r)) e b → Stops a (reading (raw_view r)) e b
+  pub walk_refuses : (e : BuildError) → Fails a (elements (start version places) (length old) (raw_view r)) e b → Fails a (reading (raw_view r)) e b
   unfolding reading walked
   walk_refuses e s =
       let at_zero = rw none_old at s in
-      let P : Spot → Type 0 = λ spot. Stops a (elements spot 0 (raw_view r)) e b in
-      stops_bind counted (subst P start_is at_zero)
+      let P : Spot → Type 0 = λ spot. Fails a (elements spot 0 (raw_view r)) e b in
+      fails_bind counted (subst P start_is at_zero)
 
   pub walk_done : (new xs : List Element) → new ≡ old ++ xs → Goes a (elements (start version places) (length old) (raw_view r)) (over xs) b → Goes a (walked (raw_view r)) (over new) b
   unfolding walked
@@ -53,9 +53,9 @@ pub plan_done : (r : RawElement) (a b : Asked) (new : List Element) (plan : Tree
 unfolding reading
 plan_done r a b new plan g h = goes_append (goes_bind counted g) (rw h (goes_nothing b _))
 
-pub plan_refuses : (r : RawElement) (a b : Asked) (new : List Element) (e : BuildError) → Goes a (walked (raw_view r)) (over new) b → counted new ≡ refuse e → Stops a (reading (raw_view r)) e b
+pub plan_refuses : (r : RawElement) (a b : Asked) (new : List Element) (e : BuildError) → Goes a (walked (raw_view r)) (over new) b → ((e ≡ NoMemory → ⊥) → counted new ≡ refuse e) → Fails a (reading (raw_view r)) e b
 unfolding reading
-plan_refuses r a b new e g h = stops_after (goes_bind counted g) (rw h (stops_refuse b e))
+plan_refuses r a b new e g h = fails_after (goes_bind counted g) (fails_first b _ e h)
 
 -- ---- what the answer says
 

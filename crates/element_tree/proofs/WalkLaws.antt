@@ -21,28 +21,33 @@ use Rattle.element_tree.specs.Types.{class_of_type, is_section_type}
 use Rattle.element_tree.specs.Kinds.{kind_of}
 use Rattle.element_props.specs.Patterns.{Asked}
 use Rattle.element_props.specs.Props.{own_properties}
-use Rattle.element_props.specs.Reads.{Reads, over, refuse, ask, ◌>>=◌, Goes, Stops, Gives}
+use Rattle.element_props.specs.Reads.{Reads, over, refuse, ask, ◌>>=◌, Goes, Fails, Gives}
 use Rattle.element_tree.specs.Walk.{Spot, placed, own, own_of, child_spot, spot_of, at_place, node, elements, below, is_enabled, has_enabled, with_children}
-use Rattle.element_props.proofs.ReadsLaws.{goes_nothing, goes_append, goes_bind, stops_after, stops_bind, stops_refuse}
+use Rattle.element_props.proofs.ReadsLaws.{goes_nothing, goes_append, goes_bind, fails_after, fails_bind, fails_first, fails_refuse, no_memory}
 
 -- an element is its fields
 pub raw_seen : (r : RawElement) → raw_view r ≡ raw (out-RawElement r).kind (out-RawElement r).name (out-RawElement r).enabled (members_in (view (out-RawElement r).props)) (raws_of (map raw_view (out-RawElement r).children.items))
 raw_seen r = search (rules, the_lemmas)
 
 module _ (spot : Spot) (number : ℕ) (kind name : List ℕ) (enabled : Bool) (ms : Members) (cs : Raws) (a b : Asked) where
-  pub own_unplaced : (e : BuildError) → placed spot number kind name enabled cs ≡ refuse e → Stops a (own spot number kind name enabled ms cs) e a
+  pub own_unplaced : (e : BuildError) → ((e ≡ errors.NoMemory → ⊥) → placed spot number kind name enabled cs ≡ refuse e) → Fails a (own spot number kind name enabled ms cs) e a
   unfolding own
-  own_unplaced e h = rw h (stops_refuse a e)
+  own_unplaced e h = fails_bind _ (fails_first a _ e h)
 
-  pub own_no_props : (t : ElementType) (rs : List table.Row) (e : BuildError) → placed spot number kind name enabled cs ≡ over t → rs ≡ rows spot.version t → Stops a (own_properties spot.places ms rs) e b
-      → Stops a (own spot number kind name enabled ms cs) e b
+  pub own_no_props : (t : ElementType) (rs : List table.Row) (e : BuildError) → placed spot number kind name enabled cs ≡ over t → rs ≡ rows spot.version t → Fails a (own_properties spot.places ms rs) e b
+      → Fails a (own spot number kind name enabled ms cs) e b
   unfolding own
-  own_no_props t rs e h k s = rw (h, ← k) (stops_bind _ s)
+  own_no_props t rs e h k s = rw (h, ← k) (fails_bind _ s)
 
   pub own_no_kind : (t : ElementType) (rs : List table.Row) (ps : List Prop) → placed spot number kind name enabled cs ≡ over t → rs ≡ rows spot.version t → Goes a (own_properties spot.places ms rs) (over ps) b
-      → kind_of t ps ≡ None → Stops a (own spot number kind name enabled ms cs) (errors.BadProp (at spot.places)) b
+      → kind_of t ps ≡ None → Fails a (own spot number kind name enabled ms cs) (errors.BadProp (at spot.places)) b
   unfolding own
-  own_no_kind t rs ps h k g none = rw (h, ← k) (stops_after (goes_bind _ g) (rw none (stops_refuse b _)))
+  own_no_kind t rs ps h k g none = rw (h, ← k) (fails_after (goes_bind _ g) (rw none (fails_refuse b _)))
+
+  pub own_cut : (t : ElementType) (rs : List table.Row) (ps : List Prop) (e : BuildError) → placed spot number kind name enabled cs ≡ over t → rs ≡ rows spot.version t → Goes a (own_properties spot.places ms rs) (over ps) b
+      → e ≡ errors.NoMemory → Fails a (own spot number kind name enabled ms cs) e b
+  unfolding own
+  own_cut t rs ps e h k g none = rw (h, ← k) (fails_after (goes_bind _ g) (no_memory b _ e none))
 
   pub own_done : (t : ElementType) (rs : List table.Row) (ps : List Prop) (made : Kind) → placed spot number kind name enabled cs ≡ over t → rs ≡ rows spot.version t → Goes a (own_properties spot.places ms rs) (over ps) b
       → kind_of t ps ≡ Some made → Goes a (own spot number kind name enabled ms cs) (over (t, made)) b
@@ -93,20 +98,20 @@ module _ (whole : Reads (List Element)) (spot : Spot) (name : List ℕ) (made : 
       let opened : Goes a whole (walk_before name made parent numbers xs (elements (at_place spot i) n (raw_view v) >>= (λ zs. below spot (i + 1) (n + length zs) left >>= (λ b. over (n ∷ b.0, zs ++ b.1))))) b = rw e at here in
       goes_append opened (subst P (shift name made parent numbers xs ys n (below spot (i + 1) (n + length ys) left)) second)
 
-  pub child_fails : (c : Asked) (e : BuildError) → (out-RawElement v).enabled ≡ true → Stops b (elements (at_place spot i) n (raw_view v)) e c → Stops a whole e c
+  pub child_fails : (c : Asked) (e : BuildError) → (out-RawElement v).enabled ≡ true → Fails b (elements (at_place spot i) n (raw_view v)) e c → Fails a whole e c
   unfolding elements
   child_fails c e on s =
       let left = raws_of (map raw_view (drop (i + 1) cs)) in
       let t = is_enabled_seen v ∙ on in
       let opened : Goes a whole (walk_before name made parent numbers xs (elements (at_place spot i) n (raw_view v) >>= (λ zs. below spot (i + 1) (n + length zs) left >>= (λ b. over (n ∷ b.0, zs ++ b.1))))) b = rw t at here in
-      stops_after opened (stops_bind _ (stops_bind _ s))
+      fails_after opened (fails_bind _ (fails_bind _ s))
 
   pub child_added : (c : Asked) (ys : List Element) (now more : List ℕ) (k m : ℕ) → (out-RawElement v).enabled ≡ true → now ≡ spot.places ++ i ∷ [] → k ≡ n → more ≡ numbers ++ k ∷ [] → m ≡ n + length ys
       → Goes b (elements (record spot { places = now }) n (raw_view v)) (over ys) c
       → Goes a whole (walk_before name made parent more (xs ++ ys) (below spot (i + 1) m (raws_of (map raw_view (drop (i + 1) cs))))) c
   child_added c ys now more k m on at_now is_n is_more is_m g = rw (is_more, is_n, is_m) (child_done c ys on (rw at_now at g))
 
-  pub child_stops : (c : Asked) (e : BuildError) (now : List ℕ) → (out-RawElement v).enabled ≡ true → now ≡ spot.places ++ i ∷ [] → Stops b (elements (record spot { places = now }) n (raw_view v)) e c → Stops a whole e c
+  pub child_stops : (c : Asked) (e : BuildError) (now : List ℕ) → (out-RawElement v).enabled ≡ true → now ≡ spot.places ++ i ∷ [] → Fails b (elements (record spot { places = now }) n (raw_view v)) e c → Fails a whole e c
   child_stops c e now on at_now s = child_fails c e on (rw at_now at s)
 
 pub walk_end : (whole : Reads (List Element)) (spot : Spot) (name : List ℕ) (made : Kind) (parent : ℕ) (numbers : List ℕ) (xs : List Element) (cs : List RawElement) (i n : ℕ) (a b : Asked) → length cs ≤ i
@@ -126,16 +131,16 @@ start_raw : (spot : Spot) (number : ℕ) (kind name : List ℕ) (enabled : Bool)
 unfolding elements
 start_raw spot number kind name enabled ms cs t made a b g = goes_bind _ g
 
-fails_raw : (spot : Spot) (number : ℕ) (kind name : List ℕ) (enabled : Bool) (ms : Members) (cs : Raws) (a b : Asked) (e : BuildError) → Stops a (own spot number kind name enabled ms cs) e b
-    → Stops a (elements spot number (raw kind name enabled ms cs)) e b
+fails_raw : (spot : Spot) (number : ℕ) (kind name : List ℕ) (enabled : Bool) (ms : Members) (cs : Raws) (a b : Asked) (e : BuildError) → Fails a (own spot number kind name enabled ms cs) e b
+    → Fails a (elements spot number (raw kind name enabled ms cs)) e b
 unfolding elements
-fails_raw spot number kind name enabled ms cs a b e s = stops_bind _ s
+fails_raw spot number kind name enabled ms cs a b e s = fails_bind _ s
 
 pub walk_start : (spot : Spot) (number : ℕ) (r : RawElement) (t : ElementType) (made : Kind) (a b : Asked) → Goes a (own_of spot number (raw_view r)) (over (t, made)) b
     → Goes a (elements spot number (raw_view r)) (walk_before (out-RawElement r).name made spot.parent [] [] (below (child_spot spot t number) 0 (number + 1) (raws_of (map raw_view (out-RawElement r).children.items)))) b
 walk_start spot number r t made a b g = rw (raw_seen r) (start_raw spot number _ _ _ _ _ t made a b (rw (raw_seen r) at g))
 
-pub walk_fails : (spot : Spot) (number : ℕ) (r : RawElement) (a b : Asked) (e : BuildError) → Stops a (own_of spot number (raw_view r)) e b → Stops a (elements spot number (raw_view r)) e b
+pub walk_fails : (spot : Spot) (number : ℕ) (r : RawElement) (a b : Asked) (e : BuildError) → Fails a (own_of spot number (raw_view r)) e b → Fails a (elements spot number (raw_view r)) e b
 walk_fails spot number r a b e s = rw (raw_seen r) (fails_raw spot number _ _ _ _ _ a b e (rw (raw_seen r) at s))
 
 pub walk_init : (spot : Spot) (n m : ℕ) (r : RawElement) (t : ElementType) (code : CodeSpot) (made : Kind) (a b : Asked) (numbers : List ℕ) (cs : List RawElement) → numbers ≡ []

@@ -11,7 +11,7 @@ use Rattle.element_props.specs.declared.error.What.TheVariants as what
 use Rattle.element_props.specs.Answers.{IsByPlan}
 use Rattle.element_props.specs.Patterns.{Asked}
 use Rattle.element_props.specs.Props.{own_properties}
-use Rattle.element_props.specs.Reads.{Reads, over, ◌>>=◌, refuse_if, or_refuse, outcome, Goes, Stops}
+use Rattle.element_props.specs.Reads.{Reads, over, ◌>>=◌, refuse_if, or_refuse, outcome, Goes, Fails}
 use Rattle.element_tree.specs.declared.kinds.Kind.{Kind}
 use Rattle.element_tree.specs.declared.kinds.Kind.TheVariants as kinds
 use Rattle.element_tree.specs.declared.kinds.Element.{Element}
@@ -175,4 +175,4 @@ Refuses (Err r) e = IsByPlan r → r ≡ e
 -- what a call added to a list of elements is what the reading gives, unless it ran out of memory
 abbrev pub Adds : Asked → Reads (List Element) → List Element → Result (Unit {0}) BuildError → List Element → Asked → Type 0
 Adds before reading old (Ok _) new after = (xs : List Element) × (new ≡ old ++ xs) × Goes before reading (over xs) after
-Adds before reading old (Err e) new after = (e ≡ NoMemory → ⊥) → Stops before reading e after
+Adds before reading old (Err e) new after = Fails before reading e after

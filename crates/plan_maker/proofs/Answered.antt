@@ -32,4 +32,4 @@ gives_plan r x (Err e) h k = tt
 
 pub gives_memory : {A : Type 0} (a b : Asked) (r : Reads A) (x : A) (result : Result A BuildError) → r ≡ over x → Gives (λ (y : A). y) a r result b → IfErr result (λ e. e ≡ NoMemory)
 gives_memory a b r x (Ok y) h g = tt
-gives_memory a b r x (Err e) h g = memory_alone a b r x e h g
+gives_memory a b r x (Err e) h g = memory_alone a b r x e h g.stops

@@ -5,4 +5,4 @@ pub returns-in-Ok : goal.returns-in-Ok
 returns-in-Ok g c = pattern_kept _ _ _ _ _ _ c.in-Ok.ensures.gives
 
 pub returns-in-Err : goal.returns-in-Err
-returns-in-Err g c = λ other. pattern_fails _ _ _ _ _ _ (c.in-Err.ensures.gives other)
+returns-in-Err g c = pattern_fails _ _ _ _ _ _ c.in-Err.ensures.gives

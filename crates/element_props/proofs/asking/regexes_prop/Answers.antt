@@ -1,5 +1,6 @@
 use Rattle.std.proofs.Common.{◌∙◌, refl, arith}
-use Rattle.element_props.proofs.ReadsLaws.{goes_nothing, asked_step, asked_stops, regexes_done, regexes_fail, whole_none, own_more, around_more}
+use Rattle.std.proofs.lemmas.Result.{err_from_is_err_and}
+use Rattle.element_props.proofs.ReadsLaws.{no_memory_after, goes_nothing, asked_step, asked_stops, regexes_done, regexes_fail, whole_none, own_more, around_more}
 use Rattle.element_props.proofs.asking.regexes_prop.Goals as goal
 
 pub texts-init : goal.texts-init
@@ -13,7 +14,12 @@ texts-preserved g c = record {
 }
 
 pub returns-in-Err : goal.returns-in-Err
-returns-in-Err g c = λ other. regexes_fail _ _ _ _ _ _ (asked_stops _ _ _ _ _ _ _ _ _ _ c.texts-test.true c.texts.invariant.asked (c.in-Err.ensures.asks other))
+returns-in-Err g c = regexes_fail _ _ _ _ _ _ (asked_stops _ _ _ _ _ _ _ _ _ _ c.texts-test.true c.texts.invariant.asked c.in-Err.ensures.asks)
 
 pub returns : goal.returns
 returns g c = regexes_done _ _ _ _ _ _ _ _ _ (omega arith) c.in_ok-texts.ensures (c.of.ensures ∙ c.texts.invariant.own) (c.of-2.ensures ∙ c.texts.invariant.around) c.texts.invariant.asked
+
+pub returns-in_err-texts : goal.returns-in_err-texts
+returns-in_err-texts g c =
+    let p = err_from_is_err_and c.from_residual.result c.from_residual.ensures.1 in
+    rw p.1 (regexes_fail _ _ _ _ _ _ (no_memory_after _ _ _ _ _ c.texts.invariant.asked p.2))

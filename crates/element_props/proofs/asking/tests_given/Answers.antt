@@ -9,4 +9,4 @@ returns-in-Some g c =
 
 pub returns-in_ok-prop_path-in-None : goal.returns-in_ok-prop_path-in-None
 returns-in_ok-prop_path-in-None g c =
-    rw (c.in_ok-prop_path-in-None.ensures) (λ _. no_tests _ _ _ _ (sym c.in_ok-strings.ensures ∙ ap (option_map (λ (v : Vec (Bor (List ℕ)) Global). map (λ (s : Bor (List ℕ)). s.now) v.items)) c.in-None.is))
+    rw (c.in_ok-prop_path-in-None.ensures) (no_tests _ _ _ _ (sym c.in_ok-strings.ensures ∙ ap (option_map (λ (v : Vec (Bor (List ℕ)) Global). map (λ (s : Bor (List ℕ)). s.now) v.items)) c.in-None.is))

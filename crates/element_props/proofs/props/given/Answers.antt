@@ -3,13 +3,13 @@ use Rattle.element_props.proofs.ReadsLaws.{given_long, given_no_text, given_patt
 use Rattle.element_props.proofs.props.given.Goals as goal
 
 pub returns-then-is_too_long : goal.returns-then-is_too_long
-returns-then-is_too_long g c = rw (c.in_ok-prop_path.ensures) (λ _. given_long _ _ _ _ _ (sym c.is_too_long.ensures.exact ∙ c.if-is_too_long.true))
+returns-then-is_too_long g c = rw (c.in_ok-prop_path.ensures) (given_long _ _ _ _ _ (sym c.is_too_long.ensures.exact ∙ c.if-is_too_long.true))
 
 pub returns-in_default : goal.returns-in_default
-returns-in_default g c = rw (c.in_ok-prop_path-2.ensures) (λ _. given_no_text _ _ _ _ _ (sym c.is_too_long.ensures.exact ∙ c.if-is_too_long.false) (sym c.is_pattern.ensures ∙ c.if-is_pattern.true) (sym c.in_default.ensures))
+returns-in_default g c = rw (c.in_ok-prop_path-2.ensures) (given_no_text _ _ _ _ _ (sym c.is_too_long.ensures.exact ∙ c.if-is_too_long.false) (sym c.is_pattern.ensures ∙ c.if-is_pattern.true) (sym c.in_default.ensures))
 
 pub returns-in_default-2 : goal.returns-in_default-2
-returns-in_default-2 g c = rw (c.in_ok-prop_path-3.ensures) (λ _. given_none _ _ _ _ _ (sym c.is_too_long.ensures.exact ∙ c.if-is_too_long.false) (sym c.is_pattern.ensures ∙ c.if-is_pattern.false) (sym c.is_test_patterns.ensures ∙ c.if-is_test_patterns.false) (sym c.in_ok-prop.ensures.value ∙ c.in_default-2.is))
+returns-in_default-2 g c = rw (c.in_ok-prop_path-3.ensures) (given_none _ _ _ _ _ (sym c.is_too_long.ensures.exact ∙ c.if-is_too_long.false) (sym c.is_pattern.ensures ∙ c.if-is_pattern.false) (sym c.is_test_patterns.ensures ∙ c.if-is_test_patterns.false) (sym c.in_ok-prop.ensures.value ∙ c.in_default-2.is))
 
 pub returns : goal.returns
 returns g c = given_value _ _ _ _ _ c.in-Some-2.prop _ (sym c.is_too_long.ensures.exact ∙ c.if-is_too_long.false) (sym c.is_pattern.ensures ∙ c.if-is_pattern.false) (sym c.is_test_patterns.ensures ∙ c.if-is_test_patterns.false) (sym c.in_ok-prop.ensures.value ∙ c.in-Some-2.is) c.finished.ensures

@@ -6,7 +6,7 @@ pub returns : goal.returns
 returns g c = own_gives _ _ _ _ _ _ _ (sym c.in_default.ensures) (sym c.in_default-missing.ensures) c.properties.ensures
 
 pub returns-in-Some : goal.returns-in-Some
-returns-in-Some g c = rw (c.in_ok-prop_path.ensures) (λ _. unknown_fails _ _ _ _ _ (sym c.in-Some.ensures))
+returns-in-Some g c = rw (c.in_ok-prop_path.ensures) (unknown_fails _ _ _ _ _ (sym c.in-Some.ensures))
 
 pub returns-in-Some-missing : goal.returns-in-Some-missing
-returns-in-Some-missing g c = rw (c.in_ok-prop_path-2.ensures) (λ _. missing_fails _ _ _ _ _ (sym c.in_default.ensures) (sym c.in-Some-missing.ensures))
+returns-in-Some-missing g c = rw (c.in_ok-prop_path-2.ensures) (missing_fails _ _ _ _ _ (sym c.in_default.ensures) (sym c.in-Some-missing.ensures))

@@ -3,6 +3,7 @@ use Rattle.std.proofs.lemmas.List.{append-nil}
 use Rattle.std.proofs.lemmas.Result.{err_from_is_err_and}
 use Rattle.plan_json.proofs.ShapeLaws.{popped}
 use Rattle.plan_json.specs.declared.raw.RawElement.{out-RawElement}
+use Rattle.element_props.proofs.ReadsLaws.{no_memory_after}
 use Rattle.element_tree.specs.declared.kinds.Element.{Element}
 use Rattle.element_tree.specs.Walk.{node, with_children}
 use Rattle.element_tree.proofs.WalkLaws.{walk_init, walk_fails, walk_end, child_skipped, child_added, child_stops, with_middle, len_with}
@@ -12,7 +13,7 @@ pub returns-in_err-kind-clause-adds : goal.returns-in_err-kind-clause-adds
 returns-in_err-kind-clause-adds g t c =
     let p = err_from_is_err_and c.from_residual.result c.from_residual.ensures.1 in
     let n : c.len-number.result ≡ length c.args.out.now.items = let k = c.args.out.now.ok in c.len-number.ensures ∙ k.0 in
-    rw (p.1, p.2, ← n, ← c.deref.ensures.value) (λ other. walk_fails _ _ _ _ _ _ (c.in_err-kind.ensures.gives other))
+    rw (p.1, p.2, ← n, ← c.deref.ensures.value) (walk_fails _ _ _ _ _ _ c.in_err-kind.ensures.gives)
 
 pub below-init : goal.below-init
 below-init g t c =
@@ -55,8 +56,8 @@ below-preserved g t c =
 pub returns-in_err-walk-clause-adds : goal.returns-in_err-walk-clause-adds
 returns-in_err-walk-clause-adds g t c =
     let p = err_from_is_err_and c.from_residual-in_err-walk.result c.from_residual-in_err-walk.ensures.1 in
-    rw (p.1, p.2) (λ other. child_stops _ _ _ _ _ _ _ _ _ _ _ _ _ c.below-test.true c.child-item.is c.below.invariant.kept _ _ _ c.if-not-child.false
-    (c.in_ok-push-3.ensures.items ∙ ap (λ (ps : List ℕ). ps ++ c.below.place ∷ []) c.below.invariant.places) (c.in_err-walk.ensures.adds other))
+    rw (p.1, p.2) (child_stops _ _ _ _ _ _ _ _ _ _ _ _ _ c.below-test.true c.child-item.is c.below.invariant.kept _ _ _ c.if-not-child.false
+    (c.in_ok-push-3.ensures.items ∙ ap (λ (ps : List ℕ). ps ++ c.below.place ∷ []) c.below.invariant.places) c.in_err-walk.ensures.adds)
 
 pub returns-clause-adds : goal.returns-clause-adds
 returns-clause-adds g t c =
@@ -68,3 +69,25 @@ returns-clause-adds g t c =
 
 pub returns-clause-room : goal.returns-clause-room
 returns-clause-room g t c = rw (c.set_children.ensures, len_with c.below.out.items c.len-number.result c.below.numbers.items) c.below.invariant.room
+
+pub returns-in_err-childless-clause-adds : goal.returns-in_err-childless-clause-adds
+returns-in_err-childless-clause-adds g t c =
+    let p = err_from_is_err_and c.from_residual-in_err-childless.result c.from_residual-in_err-childless.ensures.1 in
+    let n : c.len-number.result ≡ length c.args.out.now.items = let k = c.args.out.now.ok in c.len-number.ensures ∙ k.0 in
+    rw (p.1, ← n, ← c.deref.ensures.value) (walk_fails _ _ _ _ _ _ (no_memory_after _ _ _ _ _ c.in_ok-kind.ensures.gives p.2))
+
+pub returns-in_err-push-clause-adds : goal.returns-in_err-push-clause-adds
+returns-in_err-push-clause-adds g t c =
+    let p = err_from_is_err_and c.from_residual-in_err-push.result c.from_residual-in_err-push.ensures.1 in
+    let n : c.len-number.result ≡ length c.args.out.now.items = let k = c.args.out.now.ok in c.len-number.ensures ∙ k.0 in
+    rw (p.1, ← n, ← c.deref.ensures.value) (walk_fails _ _ _ _ _ _ (no_memory_after _ _ _ _ _ c.in_ok-kind.ensures.gives p.2))
+
+pub returns-in_err-push-2-clause-adds : goal.returns-in_err-push-2-clause-adds
+returns-in_err-push-2-clause-adds g t c =
+    let p = err_from_is_err_and c.from_residual-in_err-push-2.result c.from_residual-in_err-push-2.ensures.1 in
+    rw p.1 (no_memory_after _ _ _ _ _ c.below.invariant.kept p.2)
+
+pub returns-in_err-push-3-clause-adds : goal.returns-in_err-push-3-clause-adds
+returns-in_err-push-3-clause-adds g t c =
+    let p = err_from_is_err_and c.from_residual-in_err-push-3.result c.from_residual-in_err-push-3.ensures.1 in
+    rw p.1 (no_memory_after _ _ _ _ _ c.below.invariant.kept p.2)

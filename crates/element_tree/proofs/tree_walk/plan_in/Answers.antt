@@ -6,7 +6,7 @@ use Rattle.element_tree.proofs.tree_walk.plan_in.Goals as goal
 pub returns-in_err-walk : goal.returns-in_err-walk
 returns-in_err-walk g c =
     let p = err_from_is_err_and c.from_residual.result c.from_residual.ensures.1 in
-    rw (p.1, p.2) (λ other. walk_refuses _ _ _ _ c.version_of.ensures c.new-places.ensures.items c.new-elements.ensures.items _ _ _ (c.in_err-walk.ensures.adds other))
+    rw (p.1, p.2) (walk_refuses _ _ _ _ c.version_of.ensures c.new-places.ensures.items c.new-elements.ensures.items _ _ _ c.in_err-walk.ensures.adds)
 
 pub plan_of-requires-clause-walked : goal.plan_of-requires-clause-walked
 plan_of-requires-clause-walked g c =
@@ -17,7 +17,7 @@ pub returns-in_err-plan : goal.returns-in_err-plan
 returns-in_err-plan g c =
     let p = err_from_is_err_and c.from_residual-in_err-plan.result c.from_residual-in_err-plan.ensures.1 in
     let adds = c.in_ok-walk.ensures.adds in
-    rw (p.1, p.2) (λ other. plan_refuses _ _ _ _ _ (walk_done _ _ _ _ c.version_of.ensures c.new-places.ensures.items c.new-elements.ensures.items _ _ _ adds.0 adds.1 adds.2) (c.in_err-plan.ensures other))
+    rw (p.1, p.2) (plan_refuses _ _ _ _ _ (walk_done _ _ _ _ c.version_of.ensures c.new-places.ensures.items c.new-elements.ensures.items _ _ _ adds.0 adds.1 adds.2) c.in_err-plan.ensures)
 
 pub returns : goal.returns
 returns g c =
