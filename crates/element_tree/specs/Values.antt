@@ -76,38 +76,46 @@ abbrev pub loops_number : Loops → ℤ
 loops_number Forever = negsuc 0
 loops_number (Times n) = pos n
 
+-- of what comes before or after a sample; no other kind has any here
+abbrev pub attached_values : Kind → List Prop
+attached_values (kinds.UserParameters vars) = Pairs vars ∷ []
+attached_values (kinds.ConstantTimer delay) = Template delay ∷ []
+attached_values (kinds.UniformTimer offset range) = Template offset ∷ Template range ∷ []
+attached_values (kinds.RegexExtractor x) = maybe x.default ∷ Choice (field_place x.field) ∷ Number x.match_ ∷ Pattern x.pattern ∷ Text x.ref_ ∷ Text x.template ∷ []
+attached_values (kinds.JsonExtractor x) = maybe x.default ∷ Number x.match_ ∷ Text x.path ∷ Text x.ref_ ∷ []
+attached_values (kinds.BoundaryExtractor x) = maybe x.default ∷ Choice (field_place x.field) ∷ Text x.left ∷ Number x.match_ ∷ Text x.ref_ ∷ Text x.right ∷ []
+attached_values (kinds.ResponseAssertion (Response field ignore_status not or patterns regexes test whole_regexes)) = Choice (field_place field) ∷ Truth ignore_status ∷ Truth not ∷ Truth or ∷ Patterns patterns regexes whole_regexes ∷ Choice (test_place test) ∷ []
+attached_values (kinds.DurationAssertion (Duration ms)) = Number (pos ms) ∷ []
+attached_values (kinds.SizeAssertion (Size op size)) = Choice (comparison_place op) ∷ Number (pos size) ∷ []
+attached_values kind = []
+
+-- of configuration
+abbrev pub config_values : Kind → List Prop
+config_values (kinds.UserVariables vars) = Pairs vars ∷ []
+config_values (kinds.HttpDefaults host path port) = Template host ∷ Template path ∷ Template port ∷ []
+config_values (kinds.HeaderManager headers) = Pairs headers ∷ []
+config_values (kinds.Counter increment maximum start var) = Number (pos increment) ∷ Number (pos maximum) ∷ Number (pos start) ∷ Text var ∷ []
+config_values (kinds.DataSet at_end names share text) = Choice (at_end_place at_end) ∷ Texts names ∷ Choice (share_place share) ∷ Text text ∷ []
+config_values kind = attached_values kind
+
+-- of samplers
+abbrev pub sampler_values : Kind → List Prop
+sampler_values (kinds.Script replies request) = Replies replies ∷ Template request ∷ []
+sampler_values (kinds.Http body host method params path port replies) = Template body ∷ Template host ∷ Choice (method_place method) ∷ Pairs params ∷ Template path ∷ Template port ∷ maybe_replies replies ∷ []
+sampler_values kind = config_values kind
+
+-- of controllers
+abbrev pub controller_values : Kind → List Prop
+controller_values (kinds.Loop loops) = Template loops ∷ []
+controller_values (kinds.If all condition) = Truth all ∷ Template condition ∷ []
+controller_values (kinds.While condition) = Template condition ∷ []
+controller_values (kinds.Switch value) = Template value ∷ []
+controller_values (kinds.ForEach end input output separator start) = Number (pos end) ∷ Text input ∷ Text output ∷ Truth separator ∷ Number (pos start) ∷ []
+controller_values (kinds.CriticalSection lock) = Text lock ∷ []
+controller_values kind = sampler_values kind
+
+-- of any kind
 abbrev pub values_of : Kind → List Prop
 values_of (kinds.TestPlan version) = Number (pos version) ∷ []
 values_of (kinds.ThreadGroup loops on_error ramp_ms threads) = Number (loops_number loops) ∷ Choice (on_error_place on_error) ∷ Number (pos ramp_ms) ∷ Number (pos threads) ∷ []
-values_of kinds.Simple = []
-values_of kinds.OnceOnly = []
-values_of kinds.Interleave = []
-values_of kinds.Random = []
-values_of kinds.RandomOrder = []
-values_of kinds.Transaction = []
-values_of (kinds.Loop loops) = Template loops ∷ []
-values_of (kinds.If all condition) = Truth all ∷ Template condition ∷ []
-values_of (kinds.While condition) = Template condition ∷ []
-values_of (kinds.Switch value) = Template value ∷ []
-values_of (kinds.ForEach end input output separator start) = Number (pos end) ∷ Text input ∷ Text output ∷ Truth separator ∷ Number (pos start) ∷ []
-values_of (kinds.CriticalSection lock) = Text lock ∷ []
-values_of (kinds.Script replies request) = Replies replies ∷ Template request ∷ []
-values_of (kinds.Http body host method params path port replies) = Template body ∷ Template host ∷ Choice (method_place method) ∷ Pairs params ∷ Template path ∷ Template port ∷ maybe_replies replies ∷ []
-values_of (kinds.UserVariables vars) = Pairs vars ∷ []
-values_of (kinds.HttpDefaults host path port) = Template host ∷ Template path ∷ Template port ∷ []
-values_of (kinds.HeaderManager headers) = Pairs headers ∷ []
-values_of (kinds.Counter increment maximum start var) = Number (pos increment) ∷ Number (pos maximum) ∷ Number (pos start) ∷ Text var ∷ []
-values_of (kinds.DataSet at_end names share text) = Choice (at_end_place at_end) ∷ Texts names ∷ Choice (share_place share) ∷ Text text ∷ []
-values_of (kinds.UserParameters vars) = Pairs vars ∷ []
-values_of (kinds.ConstantTimer delay) = Template delay ∷ []
-values_of (kinds.UniformTimer offset range) = Template offset ∷ Template range ∷ []
-values_of (kinds.RegexExtractor x) = maybe x.default ∷ Choice (field_place x.field) ∷ Number x.match_ ∷ Pattern x.pattern ∷ Text x.ref_ ∷ Text x.template ∷ []
-values_of (kinds.JsonExtractor x) = maybe x.default ∷ Number x.match_ ∷ Text x.path ∷ Text x.ref_ ∷ []
-values_of (kinds.BoundaryExtractor x) = maybe x.default ∷ Choice (field_place x.field) ∷ Text x.left ∷ Number x.match_ ∷ Text x.ref_ ∷ Text x.right ∷ []
-values_of (kinds.ResponseAssertion (Response field ignore_status not or patterns regexes test whole_regexes)) = Choice (field_place field) ∷ Truth ignore_status ∷ Truth not ∷ Truth or ∷ Patterns patterns regexes whole_regexes ∷ Choice (test_place test) ∷ []
-values_of (kinds.DurationAssertion (Duration ms)) = Number (pos ms) ∷ []
-values_of (kinds.SizeAssertion (Size op size)) = Choice (comparison_place op) ∷ Number (pos size) ∷ []
-values_of kinds.Listener = []
-values_of (kinds.ResponseAssertion assertion) = []
-values_of (kinds.DurationAssertion assertion) = []
-values_of (kinds.SizeAssertion assertion) = []
+values_of kind = controller_values kind

@@ -3,7 +3,7 @@
 ghost use Rattle.std.specs.Prelude.{◌≡◌, ◌^◌, ◌<◌, map, IfOk};
 ghost use Rattle.element_props.specs.Shown.{shown_seen};
 ghost use Rattle.element_tree.specs.Forms.{HasForms};
-ghost use Rattle.element_tree.specs.Values.{maybe, maybe_replies, loops_number, on_error_place, field_place, method_place, at_end_place, share_place, test_place, comparison_place, values_of};
+ghost use Rattle.element_tree.specs.Values.{maybe, maybe_replies, loops_number, on_error_place, field_place, method_place, at_end_place, share_place, test_place, comparison_place, attached_values, config_values, sampler_values, controller_values, values_of};
 
 use crate::kinds::{
     Assertion, AtEnd, BoundaryExtractor, Comparison, Field, JsonExtractor, Kind, Loops, OnError,
@@ -251,80 +251,31 @@ fn size_values(alloc: Global, assertion: &Assertion) -> M<Vec<Shown<'_>>>
     }
 }
 
-/// The values of a kind's properties, in byte order of their names.
-pub(crate) fn values_of(alloc: Global, kind: &Kind) -> M<Vec<Shown<'_>>>
-    requires { HasForms kind.now }
-    ensures { IfOk result (λ v. map shown_seen v.items ≡ values_of kind.now) }
+/// The values of what comes before or after a sample; no other kind has any here.
+fn attached_values(alloc: Global, kind: &Kind) -> M<Vec<Shown<'_>>>
+    ensures { IfOk result (λ v. map shown_seen v.items ≡ attached_values kind.now) }
 {
     match kind {
-        Kind::TestPlan { version } => list(alloc, &[Shown::Number(i64::from(*version))]),
-        Kind::ThreadGroup {
-            loops,
-            on_error,
-            ramp_ms,
-            threads,
-        } => list(
-            alloc,
-            &[
-                Shown::Number(loops_number(*loops)),
-                Shown::Choice(on_error_place(*on_error)),
-                Shown::Number(i64::from(*ramp_ms)),
-                Shown::Number(i64::from(*threads)),
-            ],
-        ),
-        Kind::Simple => list(alloc, &[]),
-        Kind::OnceOnly => list(alloc, &[]),
-        Kind::Interleave => list(alloc, &[]),
-        Kind::Random => list(alloc, &[]),
-        Kind::RandomOrder => list(alloc, &[]),
-        Kind::Transaction => list(alloc, &[]),
-        Kind::Loop { loops } => list(alloc, &[Shown::Template(loops)]),
-        Kind::If { all, condition } => {
-            list(alloc, &[Shown::Truth(*all), Shown::Template(condition)])
+        Kind::UserParameters { vars } => list(alloc, &[Shown::Pairs(vars.as_slice())]),
+        Kind::ConstantTimer { delay } => list(alloc, &[Shown::Template(delay)]),
+        Kind::UniformTimer { offset, range } => {
+            list(alloc, &[Shown::Template(offset), Shown::Template(range)])
         }
-        Kind::While { condition } => list(alloc, &[Shown::Template(condition)]),
-        Kind::Switch { value } => list(alloc, &[Shown::Template(value)]),
-        Kind::ForEach {
-            end,
-            input,
-            output,
-            separator,
-            start,
-        } => list(
-            alloc,
-            &[
-                Shown::Number(i64::from(*end)),
-                Shown::Text(input),
-                Shown::Text(output),
-                Shown::Truth(*separator),
-                Shown::Number(i64::from(*start)),
-            ],
-        ),
-        Kind::CriticalSection { lock } => list(alloc, &[Shown::Text(lock)]),
-        Kind::Script { replies, request } => list(
-            alloc,
-            &[Shown::Replies(replies.as_slice()), Shown::Template(request)],
-        ),
-        Kind::Http {
-            body,
-            host,
-            method,
-            params,
-            path,
-            port,
-            replies,
-        } => list(
-            alloc,
-            &[
-                Shown::Template(body),
-                Shown::Template(host),
-                Shown::Choice(method_place(*method)),
-                Shown::Pairs(params.as_slice()),
-                Shown::Template(path),
-                Shown::Template(port),
-                maybe_replies(replies),
-            ],
-        ),
+        Kind::RegexExtractor(x) => regex_extractor_values(alloc, x),
+        Kind::JsonExtractor(x) => json_extractor_values(alloc, x),
+        Kind::BoundaryExtractor(x) => boundary_extractor_values(alloc, x),
+        Kind::ResponseAssertion(assertion) => response_values(alloc, assertion),
+        Kind::DurationAssertion(assertion) => duration_values(alloc, assertion),
+        Kind::SizeAssertion(assertion) => size_values(alloc, assertion),
+        _ => list(alloc, &[]),
+    }
+}
+
+fn config_values(alloc: Global, kind: &Kind) -> M<Vec<Shown<'_>>>
+    requires { HasForms kind.now }
+    ensures { IfOk result (λ v. map shown_seen v.items ≡ config_values kind.now) }
+{
+    match kind {
         Kind::UserVariables { vars } => list(alloc, &[Shown::Pairs(vars.as_slice())]),
         Kind::HttpDefaults { host, path, port } => list(
             alloc,
@@ -355,17 +306,96 @@ pub(crate) fn values_of(alloc: Global, kind: &Kind) -> M<Vec<Shown<'_>>>
                 Shown::Text(text),
             ],
         ),
-        Kind::UserParameters { vars } => list(alloc, &[Shown::Pairs(vars.as_slice())]),
-        Kind::ConstantTimer { delay } => list(alloc, &[Shown::Template(delay)]),
-        Kind::UniformTimer { offset, range } => {
-            list(alloc, &[Shown::Template(offset), Shown::Template(range)])
+        _ => attached_values(alloc, kind),
+    }
+}
+
+fn sampler_values(alloc: Global, kind: &Kind) -> M<Vec<Shown<'_>>>
+    requires { HasForms kind.now }
+    ensures { IfOk result (λ v. map shown_seen v.items ≡ sampler_values kind.now) }
+{
+    match kind {
+        Kind::Script { replies, request } => list(
+            alloc,
+            &[Shown::Replies(replies.as_slice()), Shown::Template(request)],
+        ),
+        Kind::Http {
+            body,
+            host,
+            method,
+            params,
+            path,
+            port,
+            replies,
+        } => list(
+            alloc,
+            &[
+                Shown::Template(body),
+                Shown::Template(host),
+                Shown::Choice(method_place(*method)),
+                Shown::Pairs(params.as_slice()),
+                Shown::Template(path),
+                Shown::Template(port),
+                maybe_replies(replies),
+            ],
+        ),
+        _ => config_values(alloc, kind),
+    }
+}
+
+fn controller_values(alloc: Global, kind: &Kind) -> M<Vec<Shown<'_>>>
+    requires { HasForms kind.now }
+    ensures { IfOk result (λ v. map shown_seen v.items ≡ controller_values kind.now) }
+{
+    match kind {
+        Kind::Loop { loops } => list(alloc, &[Shown::Template(loops)]),
+        Kind::If { all, condition } => {
+            list(alloc, &[Shown::Truth(*all), Shown::Template(condition)])
         }
-        Kind::RegexExtractor(x) => regex_extractor_values(alloc, x),
-        Kind::JsonExtractor(x) => json_extractor_values(alloc, x),
-        Kind::BoundaryExtractor(x) => boundary_extractor_values(alloc, x),
-        Kind::ResponseAssertion(assertion) => response_values(alloc, assertion),
-        Kind::DurationAssertion(assertion) => duration_values(alloc, assertion),
-        Kind::SizeAssertion(assertion) => size_values(alloc, assertion),
-        Kind::Listener => list(alloc, &[]),
+        Kind::While { condition } => list(alloc, &[Shown::Template(condition)]),
+        Kind::Switch { value } => list(alloc, &[Shown::Template(value)]),
+        Kind::ForEach {
+            end,
+            input,
+            output,
+            separator,
+            start,
+        } => list(
+            alloc,
+            &[
+                Shown::Number(i64::from(*end)),
+                Shown::Text(input),
+                Shown::Text(output),
+                Shown::Truth(*separator),
+                Shown::Number(i64::from(*start)),
+            ],
+        ),
+        Kind::CriticalSection { lock } => list(alloc, &[Shown::Text(lock)]),
+        _ => sampler_values(alloc, kind),
+    }
+}
+
+/// The values of a kind's properties, in byte order of their names.
+pub(crate) fn values_of(alloc: Global, kind: &Kind) -> M<Vec<Shown<'_>>>
+    requires { HasForms kind.now }
+    ensures { IfOk result (λ v. map shown_seen v.items ≡ values_of kind.now) }
+{
+    match kind {
+        Kind::TestPlan { version } => list(alloc, &[Shown::Number(i64::from(*version))]),
+        Kind::ThreadGroup {
+            loops,
+            on_error,
+            ramp_ms,
+            threads,
+        } => list(
+            alloc,
+            &[
+                Shown::Number(loops_number(*loops)),
+                Shown::Choice(on_error_place(*on_error)),
+                Shown::Number(i64::from(*ramp_ms)),
+                Shown::Number(i64::from(*threads)),
+            ],
+        ),
+        _ => controller_values(alloc, kind),
     }
 }
