@@ -36,3 +36,8 @@ module _ {X E : Type 0} {P Q : X → Type 0} where
   pub if_ok_then : (r : Result X E) → IfOk r P → ((x : X) → P x → Q x) → IfOk r Q
   if_ok_then (Ok x) p f = f x p
   if_ok_then (Err e) p f = tt
+
+module _ {X E : Type 0} {P Q R : X → Type 0} where
+  pub if_ok_and : (r : Result X E) → IfOk r P → IfOk r Q → ((x : X) → P x → Q x → R x) → IfOk r R
+  if_ok_and (Ok x) p q f = f x p q
+  if_ok_and (Err e) p q f = tt

@@ -4,6 +4,7 @@ use Rattle.jm_base.specs.Outside.{Account}
 use Rattle.element_tree.specs.Tree.{Tree}
 use Rattle.jm_meaning.specs.Beginning.{Options}
 use Rattle.thread_machine.specs.declared.trace.TraceItem.{TraceItem}
+use Rattle.phaser_core.specs.declared.view.Joined.{Joined}
 use Rattle.phaser_core.specs.declared.view.Reading.{Reading}
 use Rattle.phaser_words.specs.Kinds.{lists_of}
 use Rattle.recorder_core.specs.declared.places.Recorder.{Recorder}
@@ -11,8 +12,9 @@ use Rattle.recorder_core.specs.Seats.{numbers_of}
 use Rattle.run_engine.specs.declared.job.Job.{Job}
 use Rattle.run_engine.specs.Joins.{joined_of, trace_of, AllDone, AllEnd}
 use Rattle.run_engine.specs.Keeps.{AllKeep}
+use Rattle.run_engine.specs.Marks.{AllMarked}
 use Rattle.run_engine.specs.Paired.{pairs_of}
-use Rattle.run_engine.proofs.Joining.{lists_are, len_map, keep_done, ends_done}
+use Rattle.run_engine.proofs.Joining.{lists_are, len_map, keep_done, ends_done, marks_done}
 
 module _ {O : Type 0} (js : List (Job O)) (traces : List (List TraceItem)) (traces_are : traces ≡ map trace_of js) where
   pub lists_so : (s : Reading) → s.joined ≡ map joined_of js → lists_of s.joined ≡ pairs_of traces
@@ -22,6 +24,11 @@ module _ {O : Type 0} (js : List (Job O)) (traces : List (List TraceItem)) (trac
       (all : AllDone account r plan options identity tells count js) (len : length js ≡ count) where
     pub keep_so : AllKeep (numbers_of r).labels (numbers_of r).budget (pairs_of traces)
     keep_so = subst (λ (ts : List (List TraceItem)). AllKeep (numbers_of r).labels (numbers_of r).budget (pairs_of ts)) (sym traces_are) (keep_done account r plan options identity tells count js all len)
+
+    pub marks_so : (s : Reading) → s.joined ≡ map joined_of js → AllMarked s.joined traces
+    marks_so s is =
+        subst (λ (ts : List (List TraceItem)). AllMarked s.joined ts) (sym traces_are)
+        (subst (λ (gone : List Joined). AllMarked gone (map trace_of js)) (sym is) (marks_done account r plan options identity tells count js all len))
 
     pub many : length traces ≡ count
     many = ap length traces_are ∙ len_map trace_of js ∙ len

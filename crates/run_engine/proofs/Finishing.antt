@@ -52,7 +52,8 @@ module _ {O : Type 0} (account : O → Account) (r : Recorder) (plan : Tree) (op
         number_is = h.number ∙ f.number_is;
         plan_is = h.plan ∙ f.plan_is;
         origin = h.outside.origin ∙ f.opened.origin;
-        made = h.marks.1 ∙ f.new.made;
+        made = h.made ∙ f.new.made;
+        marked = h.marked;
         whole = record { end = runs.0; ends = ends_so (account before.out) (account after.out) plan i options after.worker.trace runs.0 runs.1; keeps = h.keeps };
         follows = λ told. follows_so (account before.out) (account after.out) plan i options after.worker.trace (f.opened.told ∙ ap (λ (b : Bool). told_when b []) told) h.outside runs.0 runs.1;
       }

@@ -15,6 +15,7 @@ use Rattle.run_engine.specs.Followed.{EndsWith}
 use Rattle.run_engine.specs.Joins.{joined_of, trace_of, number_of, AllDone, AllEnd}
 use Rattle.run_engine.specs.Keeps.{KeepsTo, AllKeep}
 use Rattle.run_engine.specs.Made.{made_at}
+use Rattle.run_engine.specs.Marks.{IsMarked, AllMarked}
 use Rattle.run_engine.specs.Paired.{pairs, pairs_of}
 use Rattle.std.specs.List.{range_with_len}
 use Rattle.run_engine.proofs.Seqs.{numbers_from}
@@ -54,6 +55,11 @@ module _ {O : Type 0} where
   ends_all (j ∷ js) all zero d low = all 0 j (omega arith)
   ends_all (j ∷ js) all (suc i) d low = ends_all js (λ k e l. all (suc k) e (omega arith)) i d (omega arith)
 
+  marked_all : (js : List (Job O)) → ((i : ℕ) (d : Job O) → i < length js → IsMarked (writes (slice_index_or js i d).seat).raised (writes (slice_index_or js i d).seat).saw (trace_of (slice_index_or js i d)))
+      → AllMarked (map joined_of js) (map trace_of js)
+  marked_all [] all = tt
+  marked_all (j ∷ js) all = (all 0 j (omega arith), marked_all js (λ i d low. all (suc i) d (omega arith)))
+
   module _ (account : O → Account) (r : Recorder) (plan : Tree) (options : Options) (identity : ℕ) (tells : Bool) (count : ℕ) (js : List (Job O))
       (all : AllDone account r plan options identity tells count js) (len : length js ≡ count) where
     pub all_joined : (s : Reading) → 0 < count → s.joined ≡ map joined_of js → AllJoined s
@@ -66,6 +72,9 @@ module _ {O : Type 0} where
 
     pub ends_done : AllEnd (map trace_of js)
     ends_done = ends_all js (λ i d low. ((all i d low).whole.end, (all i d low).whole.ends))
+
+    pub marks_done : AllMarked (map joined_of js) (map trace_of js)
+    marks_done = marked_all js (λ i d low. (all i d low).marked)
 
   pub numbers_done : (account : O → Account) (r : Recorder) (plan : Tree) (options : Options) (identity : ℕ) (tells : Bool) (count : ℕ) (js : List (Job O)) → AllDone account r plan options identity tells count js → map number_of js ≡ range_with_len 0 (length js)
   numbers_done account r plan options identity tells count js all = numbers_from number_of 0 js (λ i d low. (all i d low).number_is ∙ (let e : i ≡ 0 + i = omega arith in e))

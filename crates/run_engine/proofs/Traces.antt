@@ -1,5 +1,5 @@
 -- What a step of a worker leaves of its samples and of its outside.
-use Rattle.std.proofs.Common.{◌≡◌, ◌∙◌, ℕ, ◌+◌, ◌-◌, ◌<◌, ◌≤◌, List, [], ◌∷◌, ◌++◌, length, None, refl, sym, ap, subst, inl, inr, arith, append_assoc}
+use Rattle.std.proofs.Common.{◌≡◌, ◌∙◌, ℕ, ◌+◌, ◌-◌, ◌<◌, ◌≤◌, Bool, false, List, [], ◌∷◌, ◌++◌, length, None, refl, sym, ap, subst, inl, inr, arith, append_assoc}
 use Rattle.std.specs.Option.{option_map}
 use Rattle.std.proofs.lemmas.List.{append-nil}
 use Rattle.jm_base.specs.declared.types.Entry.{Entry}
@@ -17,6 +17,8 @@ use Rattle.thread_machine.specs.Standing.{Standing, rest}
 use Rattle.thread_machine.specs.Stepped.{Begins, Gives, Steps, Ends, IsOver}
 use Rattle.thread_machine.proofs.Ends.{begun_on}
 use Rattle.thread_machine.proofs.Labels.{label_within}
+use Rattle.run_engine.specs.Followed.{EndsWith}
+use Rattle.run_engine.specs.Marks.{is_stopped}
 use Rattle.run_engine.specs.Paired.{pairs_in, pairs}
 use Rattle.run_engine.specs.Ran.{SameOutside}
 
@@ -90,9 +92,37 @@ module _ (a b : Account) (run : Run (Unit {0})) (old new : Standing) where
   pairs_ends ValueLimit o = pairs_over ValueLimit o
   pairs_ends NoMemory o = no_more old.trace new.trace (EndedItem NoMemory) (ap (λ s. s.trace) o.new_is) refl
 
+module _ (a b : Account) (run : Run (Unit {0})) (old new : Standing) where
+  over_traced : (end : End) → IsOver a b run old new end → EndsWith new.trace end
+  over_traced end o = record { before = old.trace; last = ap (λ s. s.trace) o.new_is }
+
+  ends_traced : (end : End) → Ends a b run old new end → EndsWith new.trace end
+  ends_traced Completed o = over_traced Completed o
+  ends_traced StopThread o = over_traced StopThread o
+  ends_traced StopTest o = over_traced StopTest o
+  ends_traced Stopped o = absurd o
+  ends_traced SampleLimit o = over_traced SampleLimit o
+  ends_traced RoundLimit o = over_traced RoundLimit o
+  ends_traced ValueLimit o = over_traced ValueLimit o
+  ends_traced NoMemory o = record { before = old.trace; last = ap (λ s. s.trace) o.new_is }
+
 module _ (a b : Account) (old new : Standing) where
   pub pairs_ended : (end : End) → Steps a b old new (Ended end) → pairs new.trace ≡ pairs old.trace
   pairs_ended end s = pairs_ends s.begun b (rest s.between) s.between new end s.gives ∙ pairs_begun a s.begun old s.between s.begins
+
+  -- the trace has its end, and no thread was stopped
+  pub ends_with : (end : End) → Steps a b old new (Ended end) → EndsWith new.trace end
+  ends_with end s = ends_traced s.begun b (rest s.between) s.between new end s.gives
+
+  pub not_stopped : (end : End) → Steps a b old new (Ended end) → is_stopped end ≡ false
+  not_stopped Completed s = refl
+  not_stopped StopThread s = refl
+  not_stopped StopTest s = refl
+  not_stopped Stopped s = absurd s.gives
+  not_stopped SampleLimit s = refl
+  not_stopped RoundLimit s = refl
+  not_stopped ValueLimit s = refl
+  not_stopped NoMemory s = refl
 
   pub pairs_null : Steps a b old new Null → pairs new.trace ≡ pairs old.trace
   pairs_null s = no_more s.between.trace new.trace (NullItem s.gives.number) (ap (λ w. w.trace) s.gives.new_is) refl ∙ pairs_begun a s.begun old s.between s.begins

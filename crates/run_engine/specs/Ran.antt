@@ -12,7 +12,7 @@ use Rattle.thread_machine.specs.Follows.{HasRun}
 use Rattle.recorder_core.specs.declared.places.Recorder.{Recorder}
 use Rattle.recorder_core.specs.Seats.{writes, numbers_of, IsWriter}
 use Rattle.run_engine.specs.declared.job.Job.{Job}
-use Rattle.run_engine.specs.Marks.{SameMarks}
+use Rattle.run_engine.specs.Marks.{IsMarked}
 use Rattle.run_engine.specs.Keeps.{KeepsTo}
 
 -- what two moments of an outside have in common: who opened it, and whether it tells
@@ -30,6 +30,8 @@ pub record CanRun {O : Type 0} (r : Recorder) (j : Job O) : Type 0 where
   pub owes_nothing : j.worker.owed ≡ None
   pub goes_on : j.worker.ended ≡ false
   pub none : (writes j.seat).list ≡ []
+  pub unraised : (writes j.seat).raised ≡ false
+  pub unseen : (writes j.seat).saw ≡ false
   pub labels : length (labels_of j.worker.plan.elements) ≤ (numbers_of r).labels
   pub budget : j.worker.units ≤ (numbers_of r).budget
 
@@ -37,7 +39,8 @@ pub record CanRun {O : Type 0} (r : Recorder) (j : Job O) : Type 0 where
 pub record JobRan {O : Type 0} (account : O → Account) (r : Recorder) (before after : Job O) : Type 0 where
   pub number : after.number ≡ before.number
   pub seat : IsWriter r after.seat
-  pub marks : SameMarks (writes before.seat) (writes after.seat)
+  pub made : (writes after.seat).made ≡ (writes before.seat).made
+  pub marked : IsMarked (writes after.seat).raised (writes after.seat).saw after.worker.trace
   pub plan : after.worker.plan ≡ before.worker.plan
   pub outside : SameOutside (account before.out) (account after.out)
   pub keeps : KeepsTo (numbers_of r).labels (numbers_of r).budget (writes after.seat).list

@@ -60,12 +60,17 @@ struct Desk<'t, 'k, T, K> {
     report: Report,
 }
 
-// What the workers and the reporter gave.
-struct Gathered<'p, 't, 'k, O, T, K> {
-    jobs: Vec<Job<'p, O>>,
+// How the reporter's loop ended, and the desk as it left it.
+struct Reporting<'t, 'k, T, K> {
     seat: ReporterSeat,
     outcome: Result<(), RunError>,
     desk: Desk<'t, 'k, T, K>,
+}
+
+// What the workers and the reporter gave.
+struct Gathered<'p, 't, 'k, O, T, K> {
+    jobs: Vec<Job<'p, O>>,
+    end: Reporting<'t, 'k, T, K>,
 }
 
 // Does nothing, but ties what was lent to the parameter that lent it.
@@ -81,23 +86,23 @@ fn report_at<'t, 'k, R: Wait, T: Ticker, K: Sink, F: Fn(&Report, u64) -> Verdict
     rules: &Rules<'_, F>,
     seat: ReporterSeat,
     desk: Desk<'t, 'k, T, K>,
-) -> (ReporterSeat, Result<(), RunError>, Desk<'t, 'k, T, K>)
+) -> Reporting<'t, 'k, T, K>
     requires seat { IsReporter recorder.now seat }
     requires first { ((reports seat).closed ≡ []) × ((reports seat).interval ≡ 0) × ((reports seat).raised ≡ false) }
     requires rows { length desk.report.rows ≡ (numbers_of recorder.now).labels }
     requires labels { (numbers_of recorder.now).labels ≡ length (labels_of rules.now.plan.now.elements) }
     requires kept { Keeps F.Fn rules.now.reporter.now }
-    ensures seat { IsReporter recorder.now result.0 }
-    ensures rows { length result.2.report.rows ≡ (numbers_of recorder.now).labels }
-    ensures few { (reports result.0).interval ≤ 16777216 }
-    ensures ticker { result.2.ticker.ghost_name ≡ desk.entry.ticker.ghost_name }
-    ensures sink { result.2.sink.ghost_name ≡ desk.entry.sink.ghost_name }
-    ensures ticked { HasTickedWhere (reports result.0).interval (T.ticks desk.entry.ticker.now) (T.ticks result.2.ticker.now) }
-    ensures reported { OnOk result.1 (Reported (report_text rules.now.plan.now) rules.now.limit (reports result.0) (K.written desk.entry.sink.now) (K.written result.2.sink.now)) }
-    ensures prefix { OnErr result.1 (WritesPrefix (report_text rules.now.plan.now) (K.written desk.entry.sink.now) (K.written result.2.sink.now)) }
-    ensures joined { (reports result.0).joined ≡ (reports seat).joined }
-    ensures ok { OnOk result.1 (K.faults result.2.sink.now ≡ K.faults desk.entry.sink.now) }
-    ensures cause { IfErr result.1 (IsCause (K.faults desk.entry.sink.now) (K.faults result.2.sink.now)) }
+    ensures seat { IsReporter recorder.now result.seat }
+    ensures rows { length result.desk.report.rows ≡ (numbers_of recorder.now).labels }
+    ensures few { (reports result.seat).interval ≤ 16777216 }
+    ensures ticker { result.desk.ticker.ghost_name ≡ desk.entry.ticker.ghost_name }
+    ensures sink { result.desk.sink.ghost_name ≡ desk.entry.sink.ghost_name }
+    ensures ticked { HasTickedWhere (reports result.seat).interval (T.ticks desk.entry.ticker.now) (T.ticks result.desk.ticker.now) }
+    ensures reported { OnOk result.outcome (Reported (report_text rules.now.plan.now) rules.now.limit (reports result.seat) (K.written desk.entry.sink.now) (K.written result.desk.sink.now)) }
+    ensures prefix { OnErr result.outcome (WritesPrefix (report_text rules.now.plan.now) (K.written desk.entry.sink.now) (K.written result.desk.sink.now)) }
+    ensures joined { (reports result.seat).joined ≡ (reports seat).joined }
+    ensures ok { OnOk result.outcome (K.faults result.desk.sink.now ≡ K.faults desk.entry.sink.now) }
+    ensures cause { IfErr result.outcome (IsCause (K.faults desk.entry.sink.now) (K.faults result.desk.sink.now)) }
 {
     let Desk {
         ticker,
@@ -105,15 +110,15 @@ fn report_at<'t, 'k, R: Wait, T: Ticker, K: Sink, F: Fn(&Report, u64) -> Verdict
         mut report,
     } = desk;
     let (seat, outcome) = report_until(rt, alloc, recorder, rules, seat, &mut report, ticker, sink);
-    (
+    Reporting {
         seat,
         outcome,
-        Desk {
+        desk: Desk {
             ticker,
             sink,
             report,
         },
-    )
+    }
 }
 
 /// Runs all workers in threads and the reporter on the caller's thread, and joins the threads whatever became of the reports.
@@ -159,17 +164,12 @@ pub fn run_beside<
         sink: &mut *sink,
         report,
     };
-    let Gathered {
-        jobs,
-        seat,
-        outcome,
-        desk,
-    } = thread::scope(
+    let Gathered { jobs, end } = thread::scope(
         thread::scope_env(),
         rt,
         move |scope| -> Gathered<O, T, K>
             requires { All (CanRun recorder.now) jobs.items × IsReporter recorder.now seat × ((reports seat).closed ≡ []) × ((reports seat).interval ≡ 0) × ((reports seat).raised ≡ false) × (length desk.report.rows ≡ (numbers_of recorder.now).labels) × ((numbers_of recorder.now).labels ≡ length (labels_of rules.now.plan.now.elements)) × Keeps F.Fn rules.now.reporter.now × IsSync R.row × IsSend O.row }
-            ensures { AllRan O.account recorder.entry.now jobs.entry.items result.jobs.items × IsReporter recorder.entry.now result.seat × (length result.desk.report.rows ≡ (numbers_of recorder.entry.now).labels) × ((reports result.seat).interval ≤ 16777216) × (result.desk.ticker.ghost_name ≡ desk.entry.ticker.ghost_name) × (result.desk.sink.ghost_name ≡ desk.entry.sink.ghost_name) × HasTickedWhere (reports result.seat).interval (T.ticks desk.entry.ticker.now) (T.ticks result.desk.ticker.now) × OnOk result.outcome (Reported (report_text rules.entry.now.plan.now) rules.entry.now.limit (reports result.seat) (K.written desk.entry.sink.now) (K.written result.desk.sink.now)) × OnErr result.outcome (WritesPrefix (report_text rules.entry.now.plan.now) (K.written desk.entry.sink.now) (K.written result.desk.sink.now)) × ((reports result.seat).joined ≡ (reports seat).joined) × OnOk result.outcome (K.faults result.desk.sink.now ≡ K.faults desk.entry.sink.now) × IfErr result.outcome (IsCause (K.faults desk.entry.sink.now) (K.faults result.desk.sink.now)) }
+            ensures { AllRan O.account recorder.entry.now jobs.entry.items result.jobs.items × IsReporter recorder.entry.now result.end.seat × (length result.end.desk.report.rows ≡ (numbers_of recorder.entry.now).labels) × ((reports result.end.seat).interval ≤ 16777216) × (result.end.desk.ticker.ghost_name ≡ desk.entry.ticker.ghost_name) × (result.end.desk.sink.ghost_name ≡ desk.entry.sink.ghost_name) × HasTickedWhere (reports result.end.seat).interval (T.ticks desk.entry.ticker.now) (T.ticks result.end.desk.ticker.now) × OnOk result.end.outcome (Reported (report_text rules.entry.now.plan.now) rules.entry.now.limit (reports result.end.seat) (K.written desk.entry.sink.now) (K.written result.end.desk.sink.now)) × OnErr result.end.outcome (WritesPrefix (report_text rules.entry.now.plan.now) (K.written desk.entry.sink.now) (K.written result.end.desk.sink.now)) × ((reports result.end.seat).joined ≡ (reports seat).joined) × OnOk result.end.outcome (K.faults result.end.desk.sink.now ≡ K.faults desk.entry.sink.now) × IfErr result.end.outcome (IsCause (K.faults desk.entry.sink.now) (K.faults result.end.desk.sink.now)) }
         {
             let promise = TeamOf {
                 recorder,
@@ -181,28 +181,23 @@ pub fn run_beside<
             { team_thread(rt, recorder, ended, jobs) };
             match scope.spawn_with(promise, work) {
                 Ok(handle) => {
-                    let (seat, outcome, desk) = report_at(rt, alloc, recorder, rules, seat, desk);
+                    let end = report_at(rt, alloc, recorder, rules, seat, desk);
                     let jobs = handle.join(rt);
-                    Gathered {
-                        jobs,
-                        seat,
-                        outcome,
-                        desk,
-                    }
+                    Gathered { jobs, end }
                 }
                 Err(refused) => {
                     let jobs = (refused.value)();
-                    let (seat, outcome, desk) = report_at(rt, alloc, recorder, rules, seat, desk);
-                    Gathered {
-                        jobs,
-                        seat,
-                        outcome,
-                        desk,
-                    }
+                    let end = report_at(rt, alloc, recorder, rules, seat, desk);
+                    Gathered { jobs, end }
                 }
             }
         },
     );
+    let Reporting {
+        seat,
+        outcome,
+        desk,
+    } = end;
     let Desk {
         ticker,
         sink,

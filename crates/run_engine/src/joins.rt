@@ -10,6 +10,7 @@ ghost use Rattle.run_engine.specs.Asked.{options_of};
 ghost use Rattle.run_engine.specs.Followed.{AllFollow};
 ghost use Rattle.run_engine.specs.Joins.{joined_of, trace_of, OnlyJoined, AllDone, AllEnd, AllLabelled};
 ghost use Rattle.run_engine.specs.Keeps.{AllKeep};
+ghost use Rattle.run_engine.specs.Marks.{AllMarked};
 ghost use Rattle.run_engine.specs.Paired.{pairs_of};
 
 use crate::ask::RunAsk;
@@ -79,6 +80,7 @@ pub fn join_all<'p, W: World>(
     ensures lists { lists_of (reports seat.new).joined ≡ pairs_of traces.new.items }
     ensures keep { AllKeep (numbers_of recorder.now).labels (numbers_of recorder.now).budget (pairs_of traces.new.items) }
     ensures ends { (length traces.new.items ≡ count) × AllEnd traces.new.items }
+    ensures marks { AllMarked (reports seat.new).joined traces.new.items }
     ensures labels { AllLabelled (length (labels_of ask.now.plan.now.elements)) traces.new.items }
     ensures follows { W.tells world.old ≡ true → AllFollow ask.now.plan.now (options_of ask.now) (W.told world.new) traces.new.items }
     ensures closed { W.closed world.new ≡ W.closed world.old ++ range_with_len 0 count }

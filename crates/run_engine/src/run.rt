@@ -18,6 +18,7 @@ ghost use Rattle.run_engine.specs.Asked.{options_of};
 ghost use Rattle.run_engine.specs.Followed.{AllFollow};
 ghost use Rattle.run_engine.specs.Joins.{AllEnd, AllLabelled};
 ghost use Rattle.run_engine.specs.Keeps.{all_entries};
+ghost use Rattle.run_engine.specs.Marks.{AllMarked};
 ghost use Rattle.run_engine.specs.Paired.{pairs_of};
 ghost use Rattle.run_engine.specs.Served.{AreServed};
 
@@ -99,9 +100,11 @@ pub fn run_threads<
     ensures world { OnOk result (AreServed (length (threads_of ask.now.plan.now)) (W.opened world.new) (W.closed world.old) (W.closed world.new)) }
     ensures closed { (n : ℕ) × (n ≤ length (threads_of ask.now.plan.now)) × AreServed n (W.opened world.new) (W.closed world.old) (W.closed world.new) }
 
-    // A trace for each thread, which has its end and follows what the thread's outside was told, where the world tells.
+    // A trace for each thread, which has its end and follows what the thread's outside was told, where the world tells. Its
+    // writer raised stop exactly where it ends with StopTest, and saw stop exactly where it ends with Stopped.
     ensures ends { IfOk result (λ b. (length b.traces ≡ length (threads_of ask.now.plan.now)) × AllEnd b.traces) }
     ensures follows { IfOk result (λ b. W.tells world.old ≡ true → AllFollow ask.now.plan.now (options_of ask.now) (W.told world.new) b.traces) }
+    ensures marks { IfOk result (λ b. AllMarked (books_of b.books).joined b.traces) }
     ensures labelled { IfOk result (λ b. AllLabelled (length (labels_of ask.now.plan.now.elements)) b.traces) }
 
     // Each sample of each trace counts in exactly one report, which is that of its interval, and in the total.

@@ -10,22 +10,24 @@ ghost use Rattle.phaser_core.specs.declared.view.Stage.TheVariants.{Out};
 ghost use Rattle.recorder_core.specs.Seats.{writes, numbers_of, IsWriter};
 ghost use Rattle.run_engine.specs.Keeps.{KeepsTo};
 ghost use Rattle.run_engine.specs.Paired.{pairs};
-ghost use Rattle.run_engine.specs.Marks.{SameMarks};
+ghost use Rattle.run_engine.specs.Followed.{EndsWith};
+ghost use Rattle.run_engine.specs.Marks.{SameMarks, is_stopped};
 ghost use Rattle.run_engine.specs.Ran.{SameOutside, RunsToEnd};
 
-use jm_base::{Entry, Outside};
+use jm_base::{End, Entry, Outside};
 use recorder_core::{Recorder, Steps, WriterSeat};
 use std::sync::ledger::{Blank, Ledger};
 use thread_machine::{Step, Worker};
 
-/// Runs a worker to its end. Each sample is recorded, and the interval in which it counts is noted in the trace.
+/// Runs a worker to its end, and gives that end. Each sample is recorded, and the interval in which it counts is noted in the
+/// trace.
 pub fn run_samples<O: Outside, L: Ledger>(
     recorder: &Recorder,
     worker: &mut Worker<'_>,
     out: &mut O,
     seat: &mut WriterSeat,
     blank: Blank,
-)
+) -> End
     requires named { (blank.name ≡ L.name) × (blank.parts ≡ L.parts) × (0 < blank.parts) }
     requires seat { IsWriter recorder.now seat.old }
     requires owed { worker.old.owed ≡ None }
@@ -40,13 +42,15 @@ pub fn run_samples<O: Outside, L: Ledger>(
     ensures keeps { KeepsTo (numbers_of recorder.now).labels (numbers_of recorder.now).budget (writes seat.new).list }
     ensures plan { (worker.new.plan ≡ worker.old.plan) × (worker.new.thread ≡ worker.old.thread) }
     ensures outside { SameOutside (O.account out.old) (O.account out.new) }
+    ensures ended { EndsWith worker.new.trace result }
+    ensures not_stopped { is_stopped result ≡ false }
     ensures runs { (start : Account) (options : Options) → Stands start (O.account out.old) options worker.old
         → RunsToEnd start (O.account out.new) worker.old.plan worker.old.thread options worker.new.trace }
 {
     let mut steps = Steps::<L>::new(blank);
     'steps: loop {
         match worker.step(out) {
-            Step::Ended(_) => return,
+            Step::Ended(end) => return end,
             Step::Sampled(entry) => {
                 let interval = record_entry(recorder, seat, entry, &mut steps);
                 worker.noted(interval);

@@ -1,12 +1,14 @@
 // All workers, each in a thread of its own where one can be started.
 
-ghost use Rattle.std.specs.Prelude.{All, ◌≡◌, ◌<◌, ℕ, length, slice_index_or};
+ghost use Rattle.std.specs.Prelude.{All, ◌≡◌, ◌<◌, ℕ, false, length, slice_index_or};
+ghost use Rattle.recorder_core.specs.Seats.{writes, IsWriter};
+ghost use Rattle.run_engine.specs.Marks.{is_stop_test};
 ghost use Rattle.run_engine.specs.Ran.{CanRun, JobRan};
 
 use crate::job::Job;
 use crate::samples::run_samples;
-use jm_base::Outside;
-use recorder_core::Recorder;
+use jm_base::{End, Outside};
+use recorder_core::{Recorder, WriterSeat};
 use reporter_loop::Ended;
 use std::marker::Brand;
 use std::sync::ledger::Blank;
@@ -16,19 +18,43 @@ use std::thread::Threads;
 /// The most threads that a run has.
 const MOST_THREADS: usize = 64;
 
+// Raises stop where a thread ended the test.
+fn mark_end(recorder: &Recorder, seat: &mut WriterSeat, end: End)
+    requires seat { IsWriter recorder.now seat.old }
+    requires unraised { (writes seat.old).raised ≡ false }
+    ensures seat { IsWriter recorder.now seat.new }
+    ensures raised { (writes seat.new).raised ≡ is_stop_test end }
+    ensures saw { (writes seat.new).saw ≡ (writes seat.old).saw }
+    ensures list { (writes seat.new).list ≡ (writes seat.old).list }
+    ensures number { (writes seat.new).number ≡ (writes seat.old).number }
+    ensures made { (writes seat.new).made ≡ (writes seat.old).made }
+{
+    match end {
+        End::StopTest => recorder.raise_stop(seat),
+        End::Completed
+        | End::StopThread
+        | End::Stopped
+        | End::SampleLimit
+        | End::RoundLimit
+        | End::ValueLimit
+        | End::NoMemory => {}
+    }
+}
+
 impl<'p, O: Outside> Job<'p, O> {
-    /// Runs the worker to its end, and counts it among those that have ended.
+    /// Runs the worker to its end, raises stop where it ended the test, and counts it among those that have ended.
     pub fn run(&mut self, recorder: &Recorder, ended: &Ended)
         requires { CanRun recorder.now self.old }
         ensures { JobRan O.account recorder.now self.old self.new }
     {
-        run_samples::<O, Brand>(
+        let end = run_samples::<O, Brand>(
             recorder,
             &mut self.worker,
             &mut self.out,
             &mut self.seat,
             Blank::new(1),
         );
+        mark_end(recorder, &mut self.seat, end);
         ended.one_more();
     }
 }

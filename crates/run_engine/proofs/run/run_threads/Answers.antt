@@ -3,10 +3,11 @@ use Rattle.output_lines.specs.Reports.{report_text}
 use Rattle.phaser_core.specs.declared.view.Reading.{Reading}
 use Rattle.recorder_core.specs.Seats.{reports}
 use Rattle.reporter_loop.proofs.Judging.{reported_same, quiet}
-use Rattle.reporter_loop.proofs.Outcomes.{if_ok_then, err_then, on_ok}
+use Rattle.reporter_loop.proofs.Outcomes.{if_ok_then, if_ok_and, err_then, on_ok}
 use Rattle.run_engine.specs.Asked.{options_of}
 use Rattle.run_engine.specs.Followed.{AllFollow}
 use Rattle.run_engine.specs.Joins.{AllEnd}
+use Rattle.run_engine.specs.Marks.{AllMarked}
 use Rattle.run_engine.specs.Made.{AllFresh}
 use Rattle.run_engine.proofs.Finishing.{all_done}
 use Rattle.run_engine.proofs.Opening.{none_served}
@@ -30,6 +31,11 @@ pub returns-in-Ok-outcome-clause-ends : goal.returns-in-Ok-outcome-clause-ends
 returns-in-Ok-outcome-clause-ends g c =
     let ends = c.join_all.ensures.ends in
     if_ok_then c.finish_run.result c.finish_run.ensures.traces (λ b is. (ap length is ∙ ends.0 ∙ c.threads-threads.ensures.count, subst AllEnd (sym is) ends.1))
+
+pub returns-in-Ok-outcome-clause-marks : goal.returns-in-Ok-outcome-clause-marks
+returns-in-Ok-outcome-clause-marks g c =
+    if_ok_and c.finish_run.result c.finish_run.ensures.traces c.finish_run.ensures.lists (λ b traces books.
+    subst (λ (r : Reading). AllMarked r.joined b.traces) (sym books) (subst (AllMarked (reports c.join_all.new.seat).joined) (sym traces) c.join_all.ensures.marks))
 
 pub returns-in-Ok-outcome-clause-follows : goal.returns-in-Ok-outcome-clause-follows
 returns-in-Ok-outcome-clause-follows g c =

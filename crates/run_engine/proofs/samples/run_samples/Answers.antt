@@ -1,7 +1,7 @@
 use Rattle.std.proofs.Common.{◌≡◌, ◌∙◌, ◌+◌, ◌++◌, ◌∷◌, [], length, ◌≤◌, sym, ap, subst, arith, length-append}
 use Rattle.thread_machine.proofs.Ends.{begun_on, noted_on, noted_is}
 use Rattle.run_engine.proofs.Bounding.{in_range_snoc, small_snoc}
-use Rattle.run_engine.proofs.Traces.{same_then, same_steps, pairs_noted, pairs_null, pairs_ended, label_low, label_fits, units_left, units_null}
+use Rattle.run_engine.proofs.Traces.{same_then, same_steps, pairs_noted, pairs_null, pairs_ended, ends_with, not_stopped, label_low, label_fits, units_left, units_null}
 use Rattle.phaser_core.specs.Shares.{AllInRange}
 use Rattle.phaser_core.specs.Invariant.{AllSmall}
 use Rattle.recorder_core.specs.Seats.{writes, numbers_of}
@@ -73,9 +73,15 @@ record_entry-interval-requires-clause-label g c =
     (label_low _ _ _ _ c.in-Sampled.entry c.in-Sampled.ensures.steps) c.requires.labels
 
 pub returns-in-Ended-clause-listed : goal.returns-in-Ended-clause-listed
-returns-in-Ended-clause-listed g c = c.steps.invariant.listed ∙ sym (pairs_ended _ _ _ c.step.new.self c.in-Ended.field-0 c.in-Ended.ensures.steps)
+returns-in-Ended-clause-listed g c = c.steps.invariant.listed ∙ sym (pairs_ended _ _ _ c.step.new.self c.in-Ended.end c.in-Ended.ensures.steps)
 
 pub returns-in-Ended-clause-runs : goal.returns-in-Ended-clause-runs
 returns-in-Ended-clause-runs g c = λ start options stands.
     let i = c.steps.invariant in
-    (c.in-Ended.field-0, rw (← i.plan, ← i.thread) (c.in-Ended.ensures.stands start options (i.stands start options stands)))
+    (c.in-Ended.end, rw (← i.plan, ← i.thread) (c.in-Ended.ensures.stands start options (i.stands start options stands)))
+
+pub returns-in-Ended-clause-ended : goal.returns-in-Ended-clause-ended
+returns-in-Ended-clause-ended g c = ends_with _ _ _ c.step.new.self c.in-Ended.end c.in-Ended.ensures.steps
+
+pub returns-in-Ended-clause-not_stopped : goal.returns-in-Ended-clause-not_stopped
+returns-in-Ended-clause-not_stopped g c = not_stopped _ _ _ c.step.new.self c.in-Ended.end c.in-Ended.ensures.steps
