@@ -1,7 +1,7 @@
 -- Texts that are put one after the other.
-use Rattle.std.proofs.Common.{◌≡◌, ℕ, ◌+◌, ◌<◌, List, [], ◌∷◌, ◌++◌, length, get_or, take, drop, Option, refl, sym, ap, ◌∙◌, append_assoc, subst, add-one}
+use Rattle.std.proofs.Common.{◌≡◌, ℕ, ◌+◌, ◌<◌, List, [], ◌∷◌, ◌++◌, length, get_or, take, drop, Option, refl, sym, ap, ◌∙◌, append_assoc, subst, add-one, suc, arith}
 use Rattle.std.proofs.Math.Seq.{take-suc}
-use Rattle.std.proofs.lemmas.List.{append-nil, take-append-drop}
+use Rattle.std.proofs.lemmas.List.{append-nil, take-append-drop, length-take-le}
 use Rattle.std.proofs.lemmas.Grind.{flat_map-append}
 use Rattle.jm_base.specs.Counts.{Rose}
 use Rattle.edge_io.specs.Edges.{AppendsFront}
@@ -9,7 +9,7 @@ use Rattle.line_output.specs.Pieces.{AppendsPart}
 use Rattle.line_output.proofs.PieceLaws.{moves_none, moves_more, front_wider, front_more, front_sent, part_sent, part_none, part_more}
 use Rattle.element_tree.specs.Tree.{Tree}
 use Rattle.thread_machine.specs.declared.trace.TraceItem.{TraceItem}
-use Rattle.trace_output.specs.Texts.{line_of, trace_text}
+use Rattle.trace_output.specs.Texts.{line_of, trace_text, each_numbered}
 use Rattle.trace_output.specs.Printing.{Way, way, IsPut, IsFailed, IsCut, TextFailed, TextCut}
 
 -- ---- one text after another
@@ -82,6 +82,53 @@ module _ (plan : Tree) (thread : ℕ) (trace : List TraceItem) (i : ℕ) (item :
     next_cut c =
         let own = subst (λ x. IsCut (line_of plan thread x) v w) here c in
         subst (λ l. IsCut l u w) (sym lines_split) (cut_more (trace_text plan thread (take i trace)) (line_of plan thread (get_or trace i item)) rest u v w before own)
+
+-- ---- the elements of a list, each by its number
+
+module _ {A : Type 0} (text : ℕ → A → List ℕ) where
+  each_append : (n : ℕ) (xs ys : List A) → each_numbered text n (xs ++ ys) ≡ each_numbered text n xs ++ each_numbered text (n + length xs) ys
+  each_append n [] ys = let same : n ≡ n + 0 = omega arith in ap (λ k. each_numbered text k ys) same
+  each_append n (x ∷ xs) ys =
+      let same : n + 1 + length xs ≡ n + suc (length xs) = omega arith in
+      ap (λ l. text n x ++ l) (each_append (n + 1) xs ys ∙ ap (λ k. each_numbered text (n + 1) xs ++ each_numbered text k ys) same)
+      ∙ sym (append_assoc (text n x) (each_numbered text (n + 1) xs) (each_numbered text (n + suc (length xs)) ys))
+
+  module _ (xs : List A) (i : ℕ) (d : A) (within : i < length xs) where
+    each_more : each_numbered text 0 (take (i + 1) xs) ≡ each_numbered text 0 (take i xs) ++ text i (get_or xs i d)
+    each_more =
+        let many : 0 + length (take i xs) ≡ i = omega (arith, length-take-le i xs (omega arith)) in
+        ap (λ n. each_numbered text 0 (take n xs)) (add-one i)
+        ∙ ap (each_numbered text 0) (take-suc xs i d within)
+        ∙ each_append 0 (take i xs) (get_or xs i d ∷ [])
+        ∙ ap (λ l. each_numbered text 0 (take i xs) ++ l) (append-nil (text (0 + length (take i xs)) (get_or xs i d)) ∙ ap (λ k. text k (get_or xs i d)) many)
+
+    each_split : each_numbered text 0 xs ≡ each_numbered text 0 (take i xs) ++ (text i (get_or xs i d) ++ each_numbered text (0 + length (take (i + 1) xs)) (drop (i + 1) xs))
+    each_split =
+        ap (each_numbered text 0) (sym (take-append-drop (i + 1) xs))
+        ∙ each_append 0 (take (i + 1) xs) (drop (i + 1) xs)
+        ∙ ap (λ l. l ++ each_numbered text (0 + length (take (i + 1) xs)) (drop (i + 1) xs)) each_more
+        ∙ append_assoc (each_numbered text 0 (take i xs)) (text i (get_or xs i d)) _
+
+    module _ (x : A) (here : x ≡ get_or xs i d) (u v w : Way) (before : IsPut (each_numbered text 0 (take i xs)) u v) where
+      abbrev later : List ℕ
+      later = each_numbered text (0 + length (take (i + 1) xs)) (drop (i + 1) xs)
+
+      -- its own text is put, too
+      pub each_put : IsPut (text i x) v w → IsPut (each_numbered text 0 (take (i + 1) xs)) u w
+      each_put p =
+          let own = subst (λ y. IsPut (text i y) v w) here p in
+          subst (λ l. IsPut l u w) (sym each_more) (put_more (each_numbered text 0 (take i xs)) (text i (get_or xs i d)) u v w before own)
+
+      pub each_failed : IsFailed (text i x) v w → IsFailed (each_numbered text 0 xs) u w
+      each_failed f =
+          let own = subst (λ y. IsFailed (text i y) v w) here f in
+          let wide = failed_wider (text i (get_or xs i d)) later v w own in
+          subst (λ l. IsFailed l u w) (sym each_split) (failed_more (each_numbered text 0 (take i xs)) (text i (get_or xs i d) ++ later) u v w before wide)
+
+      pub each_cut : IsCut (text i x) v w → IsCut (each_numbered text 0 xs) u w
+      each_cut c =
+          let own = subst (λ y. IsCut (text i y) v w) here c in
+          subst (λ l. IsCut l u w) (sym each_split) (cut_more (each_numbered text 0 (take i xs)) (text i (get_or xs i d)) later u v w before own)
 
 -- ---- a whole text of two, where nothing was held back before
 

@@ -1,8 +1,10 @@
 -- The result lines of a trace.
-use Rattle.std.specs.Prelude.{ℕ, List, []}
+use Rattle.std.specs.Prelude.{ℕ, ◌+◌, ◌-◌, List, [], ◌∷◌, ◌++◌, length, slice_get, Option, Some, None, option_and_then}
 use Rattle.std.specs.List.{flat_map}
+use Rattle.std.specs.Option.{option_map_or}
+use Rattle.jm_base.specs.declared.types.End.{End}
 use Rattle.element_tree.specs.Tree.{Tree}
-use Rattle.output_lines.specs.Lines.{result_text}
+use Rattle.output_lines.specs.Lines.{result_text, end_text}
 use Rattle.thread_machine.specs.declared.trace.TraceItem.{TraceItem}
 use Rattle.thread_machine.specs.declared.trace.TraceItem.TheVariants.{Paused, Sampled, Null, Entered, Left, Ended}
 
@@ -18,3 +20,33 @@ line_of plan thread (Ended end) = []
 -- the lines of a thread's trace
 abbrev pub trace_text : Tree → ℕ → List TraceItem → List ℕ
 trace_text plan thread trace = flat_map (line_of plan thread) trace
+
+-- how a thread has ended, by an item of its trace
+abbrev pub end_in : TraceItem → Option End
+end_in (Paused ms) = None
+end_in (Sampled sample interval) = None
+end_in (Null sampler) = None
+end_in (Entered lock place) = None
+end_in (Left lock) = None
+end_in (Ended end) = Some end
+
+-- how a thread has ended, by the last item of its trace
+abbrev pub end_of : List TraceItem → Option End
+end_of trace = option_and_then end_in (slice_get trace (length trace - 1))
+
+-- the line that says how a thread has ended, where its trace says it
+abbrev pub end_line_of : Tree → ℕ → List TraceItem → List ℕ
+end_line_of plan thread trace = option_map_or (end_text plan thread) (end_of trace) []
+
+-- the texts of the elements of a list, each by its number, from this number on
+abbrev pub each_numbered : {A : Type 0} → (ℕ → A → List ℕ) → ℕ → List A → List ℕ
+each_numbered text n [] = []
+each_numbered text n (x ∷ xs) = text n x ++ each_numbered text (n + 1) xs
+
+-- the lines of all threads' traces, in thread order
+abbrev pub traces_text : Tree → List (List TraceItem) → List ℕ
+traces_text plan traces = each_numbered (trace_text plan) 0 traces
+
+-- the end lines of all threads, in thread order
+abbrev pub ends_text : Tree → List (List TraceItem) → List ℕ
+ends_text plan traces = each_numbered (end_line_of plan) 0 traces

@@ -1,4 +1,4 @@
-//! Prints what a thread has done: its result lines, the summary of its samples, and how it ended. A text goes to its sink
+//! Prints what threads have done: their result lines, the summary of their samples, and how they ended. A text goes to its sink
 //! in pieces, so that little of it is held at once.
 #![tactic(auto)]
 
@@ -8,5 +8,5 @@ mod results;
 mod tail;
 
 pub use error::PrintError;
-pub use results::print_results;
-pub use tail::print_report;
+pub use results::{print_all_results, print_results};
+pub use tail::{end_of, print_all_report, print_report};

@@ -5,14 +5,14 @@ ghost use Rattle.element_tree.specs.Tree.{threads_of};
 ghost use Rattle.element_tree.specs.Names.{labels_of};
 ghost use Rattle.output_lines.specs.Lines.{header_text, result_text};
 ghost use Rattle.thread_machine.specs.Bare.{IsLabelled};
-ghost use Rattle.trace_output.specs.Texts.{line_of, trace_text};
+ghost use Rattle.trace_output.specs.Texts.{line_of, trace_text, traces_text};
 ghost use Rattle.trace_output.specs.Printing.{way, IsPut, IsFailed, IsCut, TextOut, TextFailed, TextCut};
 
 use crate::error::PrintError;
 use crate::line::{finish, put_lines};
 use edge_io::Sink;
 use element_tree::Plan;
-use jm_base::Sample;
+use jm_base::{Items, Sample};
 use line_output::Pending;
 use output_lines::{header_line, result_line};
 use std::alloc::Global;
@@ -44,6 +44,30 @@ pub fn print_results<K: Sink>(
     finish(&mut pending, results)
 }
 
+/// Prints the header and the lines of all threads' traces, in thread order, as `print_results` does those of one.
+pub fn print_all_results<K: Sink>(
+    alloc: Global,
+    results: &mut K,
+    plan: &Plan,
+    traces: &[Items<TraceItem>],
+) -> Result<(), PrintError>
+    requires threads { length traces.now ≡ length (threads_of plan.now) }
+    requires labels { All (All (IsLabelled (length (labels_of plan.now.elements)))) traces.now }
+    ensures out { OnOk result (TextOut (header_text ++ traces_text plan.now traces.now)
+        (K.written results.old) (K.written results.new) (K.faults results.old) (K.faults results.new)) }
+    ensures failed { IsErrOf result PrintError.WriteFault → TextFailed (header_text ++ traces_text plan.now traces.now)
+        (K.written results.old) (K.written results.new) (K.faults results.old) (K.faults results.new) }
+    ensures cut { IsErrOf result PrintError.NoMemory → TextCut (header_text ++ traces_text plan.now traces.now)
+        (K.written results.old) (K.written results.new) (K.faults results.old) (K.faults results.new) }
+{
+    let Ok(mut pending) = Pending::new(alloc) else {
+        return Err(PrintError::NoMemory);
+    };
+    put_header(alloc, &mut pending, results)?;
+    put_traces(alloc, &mut pending, results, plan, traces)?;
+    finish(&mut pending, results)
+}
+
 // Puts the header of the result lines.
 fn put_header<K: Sink>(alloc: Global, pending: &mut Pending, sink: &mut K) -> Result<(), PrintError>
     ensures put { OnOk result (IsPut header_text
@@ -61,6 +85,33 @@ fn put_header<K: Sink>(alloc: Global, pending: &mut Pending, sink: &mut K) -> Re
         return Err(PrintError::NoMemory);
     }
     put_lines(pending, sink, &line)
+}
+
+// Puts the lines of all traces.
+fn put_traces<K: Sink>(
+    alloc: Global,
+    pending: &mut Pending,
+    sink: &mut K,
+    plan: &Plan,
+    traces: &[Items<TraceItem>],
+) -> Result<(), PrintError>
+    requires threads { length traces.now ≡ length (threads_of plan.now) }
+    requires labels { All (All (IsLabelled (length (labels_of plan.now.elements)))) traces.now }
+    ensures put { OnOk result (IsPut (traces_text plan.now traces.now)
+        (way (K.written sink.old) (K.faults sink.old) pending.old)
+        (way (K.written sink.new) (K.faults sink.new) pending.new)) }
+    ensures failed { IsErrOf result PrintError.WriteFault → IsFailed (traces_text plan.now traces.now)
+        (way (K.written sink.old) (K.faults sink.old) pending.old)
+        (way (K.written sink.new) (K.faults sink.new) pending.new) }
+    ensures cut { IsErrOf result PrintError.NoMemory → IsCut (traces_text plan.now traces.now)
+        (way (K.written sink.old) (K.faults sink.old) pending.old)
+        (way (K.written sink.new) (K.faults sink.new) pending.new) }
+{
+    for thread in 0..plan.threads() {
+        let trace = traces[usize::from(thread)].as_slice();
+        put_trace(alloc, pending, sink, plan, thread, trace)?;
+    }
+    Ok(())
 }
 
 // Puts the line of each sample.

@@ -1,0 +1,24 @@
+use Rattle.std.proofs.Common.{rules}
+use Rattle.std.specs.Prelude.{IsErrOf}
+use Rattle.trace_output.specs.declared.error.PrintError.TheVariants.{WriteFault, NoMemory}
+use Rattle.trace_output.proofs.PrintingLaws.{first_cut, second_failed, second_cut, last_failed}
+use Rattle.trace_output.proofs.results.print_all_results.Goals as goal
+
+pub returns-in_err-put_header-clause-cut : goal.returns-in_err-put_header-clause-cut
+returns-in_err-put_header-clause-cut g c = λ is.
+    let failed : IsErrOf c.put_header.result NoMemory = search rules in
+    first_cut _ _ _ _ c.in-Ok.pending c.in-Ok.ensures _ (c.put_header.ensures.cut failed)
+
+pub returns-in_err-put_traces-clause-failed : goal.returns-in_err-put_traces-clause-failed
+returns-in_err-put_traces-clause-failed g c = λ is.
+    let failed : IsErrOf c.put_traces.result WriteFault = search rules in
+    second_failed _ _ _ _ c.in-Ok.pending c.in-Ok.ensures _ c.in_ok-put_header.ensures.put _ (c.put_traces.ensures.failed failed)
+
+pub returns-in_err-put_traces-clause-cut : goal.returns-in_err-put_traces-clause-cut
+returns-in_err-put_traces-clause-cut g c = λ is.
+    let failed : IsErrOf c.put_traces.result NoMemory = search rules in
+    second_cut _ _ _ _ c.in-Ok.pending c.in-Ok.ensures _ c.in_ok-put_header.ensures.put _ (c.put_traces.ensures.cut failed)
+
+pub returns-clause-failed : goal.returns-clause-failed
+returns-clause-failed g c = λ is.
+    last_failed _ _ _ _ c.in-Ok.pending c.in-Ok.ensures _ c.in_ok-put_header.ensures.put _ c.in_ok-put_traces.ensures.put _ _ (c.finish.ensures.front is) (c.finish.ensures.cause is)
