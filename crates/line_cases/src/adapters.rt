@@ -3,7 +3,9 @@
 ghost use Rattle.std.specs.Prelude.{◌≤◌, IfOk};
 
 use crate::edges::{read_steps, write_steps};
+use crate::words::whole;
 use edge_io::{FromRead, IntoWrite};
+use jm_base::M;
 use std::alloc::Global;
 use std::io::{self, ErrorKind, Read, Write};
 
@@ -21,16 +23,23 @@ struct Scripted {
     at: usize,
 }
 
+// The turn that a word spells.
+fn turn_of(word: &str) -> Option<Turn> {
+    match word.split_once('=') {
+        Some(("take", count)) => Some(Turn::Take(whole(count) as usize)),
+        None if word == "interrupted" => Some(Turn::Interrupted),
+        None if word == "broken" => Some(Turn::Broken),
+        _ => None,
+    }
+}
+
 impl Scripted {
     // Its turns are the words `take=COUNT`, `interrupted` and `broken`. After them it takes nothing.
-    fn of(alloc: Global, given: &str) -> anyhow::Result<Scripted> {
+    fn of(alloc: Global, given: &str) -> M<Scripted> {
         let mut turns = Vec::new(alloc);
         for word in given.split(' ') {
-            match word.split_once('=') {
-                Some(("take", count)) => turns.push(Turn::Take(count.parse::<usize>()?))?,
-                None if word == "interrupted" => turns.push(Turn::Interrupted)?,
-                None if word == "broken" => turns.push(Turn::Broken)?,
-                _ => {}
+            if let Some(turn) = turn_of(word) {
+                turns.push(turn)?;
             }
         }
         Ok(Scripted { turns, at: 0 })
@@ -69,13 +78,13 @@ impl Write for Scripted {
 }
 
 /// A source over a reader of these turns, which gives `r` alone.
-pub fn reader_case(rt: &(impl Print + AllocGlobal), given: &str) -> anyhow::Result<()> {
-    let mut source = FromRead::new(Scripted::of(rt.alloc(), given)?);
-    read_steps(rt, &mut source, given)
+pub fn reader_case(alloc: Global, given: &str) -> M<String> {
+    let mut source = FromRead::new(Scripted::of(alloc, given)?);
+    read_steps(alloc, &mut source, given)
 }
 
 /// A sink over a writer of these turns.
-pub fn writer_case(rt: &(impl Print + AllocGlobal), given: &str) -> anyhow::Result<()> {
-    let mut sink = IntoWrite::new(Scripted::of(rt.alloc(), given)?);
-    write_steps(rt, &mut sink, given)
+pub fn writer_case(alloc: Global, given: &str) -> M<String> {
+    let mut sink = IntoWrite::new(Scripted::of(alloc, given)?);
+    write_steps(alloc, &mut sink, given)
 }

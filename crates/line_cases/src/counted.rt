@@ -4,15 +4,15 @@ ghost use Rattle.std.specs.Prelude.{◌≡◌, ◌<◌, ◌≤◌, length, IfOk}
 ghost use Rattle.interval_tables.specs.Rows.{IsInBounds, rows_with};
 ghost use Rattle.line_cases.specs.Counted.{IsCount};
 
-use crate::words::numbers;
+use crate::words::{numbers, parted, small};
 use anyhow::bail;
 use interval_tables::Report;
-use jm_base::Entry;
+use jm_base::{Entry, M};
 use std::alloc::Global;
 
 // The sample of a word: `ok:LABEL:ELAPSED:BYTES`, or `failed` in the place of `ok`.
 fn sample(alloc: Global, word: &str) -> anyhow::Result<Entry> {
-    let (kind, rest) = word.split_once(':').unwrap_or((word, ""));
+    let (kind, rest) = parted(word, ':');
     let given = numbers(alloc, rest, ':')?;
     let [label, elapsed, bytes] = given.as_slice() else {
         bail!("no sample {word}");
@@ -75,26 +75,32 @@ pub fn report_in(alloc: Global, labels: u16, given: &str) -> anyhow::Result<Repo
 }
 
 // What is counted over all labels, and each row.
-fn show(rt: &impl Print, report: &Report) -> anyhow::Result<()>
+fn shown(alloc: Global, report: &Report) -> M<String>
     requires { IsInBounds report.now.rows }
 {
-    println!(rt;
-        "= interval {}: {} samples, {} failed",
-        report.interval,
-        report.count(),
-        report.errors()
-    )?;
+    let mut out = sums_text(alloc, report)?;
     for row in report.rows.as_slice() {
-        println!(rt; "= {row:?}")?;
+        let line = format!(in alloc; "= {row:?}\n")?;
+        out.push_str(line.as_str())?;
     }
-    Ok(())
+    Ok(out)
+}
+
+fn sums_text(alloc: Global, report: &Report) -> M<String>
+    requires { IsInBounds report.now.rows }
+{
+    let interval = report.interval;
+    let count = report.count();
+    let errors = report.errors();
+    Ok(format!(in alloc; "= interval {interval}: {count} samples, {errors} failed\n")?)
 }
 
 /// The rows of samples: how many labels there are, and the samples.
-pub fn rows_case(rt: &(impl Print + AllocGlobal), given: &str) -> anyhow::Result<()> {
-    let (labels, rest) = given.split_once(' ').unwrap_or((given, ""));
-    let report = report_in(rt.alloc(), labels.parse::<u16>()?, rest)?;
-    show(rt, &report)
+pub fn rows_case(alloc: Global, given: &str) -> anyhow::Result<String> {
+    let (labels, rest) = parted(given, ' ');
+    let report = report_in(alloc, small(labels), rest)?;
+    let text = shown(alloc, &report)?;
+    Ok(text)
 }
 
 // Two reports as one. What the call promises is left out here but for the bounds.
@@ -106,12 +112,13 @@ fn merge(first: &mut Report, second: &Report, labels: u16)
 }
 
 /// Two reports as one: how many labels there are, the samples of the first, `and`, and those of the second.
-pub fn merge_case(rt: &(impl Print + AllocGlobal), given: &str) -> anyhow::Result<()> {
-    let (labels, rest) = given.split_once(' ').unwrap_or((given, ""));
+pub fn merge_case(alloc: Global, given: &str) -> anyhow::Result<String> {
+    let (labels, rest) = parted(given, ' ');
     let (first, second) = rest.split_once("and").unwrap_or((rest, ""));
-    let labels = labels.parse::<u16>()?;
-    let mut report = report_in(rt.alloc(), labels, first)?;
-    let other = report_in(rt.alloc(), labels, second)?;
+    let labels = small(labels);
+    let mut report = report_in(alloc, labels, first)?;
+    let other = report_in(alloc, labels, second)?;
     merge(&mut report, &other, labels);
-    show(rt, &report)
+    let text = shown(alloc, &report)?;
+    Ok(text)
 }

@@ -12,42 +12,48 @@ mod words;
 
 use anyhow::bail;
 use element_tree::Plan;
-use jm_base::Text;
+use jm_base::{M, Text};
 use plan_maker::make_plan;
 use std::alloc::Global;
-use std::str;
+use words::{parted, plain};
 
 // A text, its copy and its bytes.
-fn text_case(rt: &(impl Print + AllocGlobal), given: &str) -> anyhow::Result<()> {
-    let text = Text::new(rt.alloc(), given.as_bytes())?;
-    let copy = text.copy(rt.alloc())?;
-    println!(rt; "= {}", str::from_utf8(text.bytes())?)?;
-    println!(rt; "= {}", str::from_utf8(copy.into_vec().as_slice())?)?;
-    Ok(())
+fn text_case(alloc: Global, given: &str) -> M<String> {
+    let text = Text::new(alloc, given.as_bytes())?;
+    let copy = text.copy(alloc)?;
+    let bytes = copy.into_vec();
+    let (text, copy) = (plain(text.bytes()), plain(&bytes));
+    Ok(format!(in alloc; "= {text}\n= {copy}\n")?)
 }
 
-fn run_case(
-    rt: &(impl Print + AllocGlobal),
-    plan: &Plan,
-    call: &str,
-    given: &str,
-) -> anyhow::Result<()> {
+// What a case gives that fails for nothing but memory, where it is one.
+fn given_alone(alloc: Global, call: &str, given: &str) -> Option<M<String>> {
     match call {
-        "text" => text_case(rt, given),
-        "rows" => counted::rows_case(rt, given),
-        "merge" => counted::merge_case(rt, given),
-        "header" => printed::header_case(rt),
-        "result" => printed::result_case(rt, plan, given),
-        "end" => printed::end_case(rt, plan, given),
-        "report" => printed::report_case(rt, plan, given),
-        "write" => made::write_case(rt, plan),
-        "make" => made::make_case(rt, given),
-        "size" => made::size_case(rt, given),
-        "source" => edges::source_case(rt, given),
-        "sink" => edges::sink_case(rt, given),
-        "reader" => adapters::reader_case(rt, given),
-        "writer" => adapters::writer_case(rt, given),
-        _ => bail!("no call {call}"),
+        "text" => Some(text_case(alloc, given)),
+        "header" => Some(printed::header_case(alloc)),
+        "source" => Some(edges::source_case(alloc, given)),
+        "sink" => Some(edges::sink_case(alloc, given)),
+        "reader" => Some(adapters::reader_case(alloc, given)),
+        "writer" => Some(adapters::writer_case(alloc, given)),
+        _ => None,
+    }
+}
+
+// What a case gives.
+fn answer(alloc: Global, plan: &Plan, call: &str, given: &str) -> anyhow::Result<String> {
+    match call {
+        "rows" => counted::rows_case(alloc, given),
+        "merge" => counted::merge_case(alloc, given),
+        "result" => printed::result_case(alloc, plan, given),
+        "end" => printed::end_case(alloc, plan, given),
+        "report" => printed::report_case(alloc, plan, given),
+        "write" => Ok(made::write_case(alloc, plan)?),
+        "make" => made::make_case(alloc, given),
+        "size" => made::size_case(alloc, given),
+        _ => match given_alone(alloc, call, given) {
+            Some(text) => Ok(text?),
+            None => bail!("no call {call}"),
+        },
     }
 }
 
@@ -57,11 +63,12 @@ fn main(rt: HostRuntime) -> anyhow::Result<()> {
     for line in rt.lines(alloc) {
         let line = line?;
         println!(rt; "{line}")?;
-        let (call, given) = line.split_once(' ').unwrap_or((line.as_str(), ""));
+        let (call, given) = parted(line.as_str(), ' ');
         if call == "plan" {
             plan = made::read_plan(alloc, given)?;
         } else if call != "#" {
-            run_case(&rt, &plan, call, given)?;
+            let text = answer(alloc, &plan, call, given)?;
+            print!(rt; "{text}")?;
         }
     }
     Ok(())

@@ -2,13 +2,47 @@
 
 use jm_base::M;
 use std::alloc::Global;
+use std::str;
+
+/// The number that a word is, and 0 for any other word.
+pub fn whole(word: &str) -> u32 {
+    word.parse::<u32>().unwrap_or(0)
+}
+
+/// The number of 16 bits that a word is, and 0 for any other word.
+pub fn small(word: &str) -> u16 {
+    word.parse::<u16>().unwrap_or(0)
+}
+
+/// The number of 64 bits that a word is, and 0 for any other word.
+pub fn long(word: &str) -> u64 {
+    word.parse::<u64>().unwrap_or(0)
+}
+
+/// The two parts of a text around this mark, or all of it and nothing where the mark is not there.
+pub fn parted(text: &str, mark: char) -> (&str, &str) {
+    text.split_once(mark).unwrap_or((text, ""))
+}
+
+/// Bytes as a text, where they are UTF-8.
+pub fn plain(bytes: &[u8]) -> &str {
+    match str::from_utf8(bytes) {
+        Ok(text) => text,
+        Err(_) => "(not UTF-8)",
+    }
+}
+
+/// A text of these bytes.
+pub fn text_of(alloc: Global, bytes: &[u8]) -> M<String> {
+    Ok(plain(bytes).to_string(alloc)?)
+}
 
 /// The numbers between marks, of which an empty text has none.
-pub fn numbers(alloc: Global, text: &str, mark: char) -> anyhow::Result<Vec<u32>> {
+pub fn numbers(alloc: Global, text: &str, mark: char) -> M<Vec<u32>> {
     let mut all = Vec::new(alloc);
     for word in text.split(mark) {
         if !word.is_empty() {
-            all.push(word.parse::<u32>()?)?;
+            all.push(whole(word))?;
         }
     }
     Ok(all)

@@ -43,31 +43,25 @@ pub fn words_named(name: &str) -> Option<Words> {
     }
 }
 
+macro_rules! row {
+    ($name:expr, $form:expr, $presence:expr) => {
+        Row {
+            name: $name,
+            form: $form,
+            presence: $presence,
+        }
+    };
+}
+
 /// A row for each member that a form may look at, and one for the property itself.
 pub fn rows_for(form: Form) -> [Row; 4]
     ensures { are_short (map row_seen result) ≡ true }
 {
     [
-        Row {
-            name: "maximum",
-            form: Form::Whole(0, i64::MAX),
-            presence: Presence::Optional,
-        },
-        Row {
-            name: "names",
-            form: Form::Texts,
-            presence: Presence::Optional,
-        },
-        Row {
-            name: "p",
-            form,
-            presence: Presence::Optional,
-        },
-        Row {
-            name: "test",
-            form: Form::Choice(Words::Test),
-            presence: Presence::Optional,
-        },
+        row!("maximum", Form::Whole(0, i64::MAX), Presence::Optional),
+        row!("names", Form::Texts, Presence::Optional),
+        row!("p", form, Presence::Optional),
+        row!("test", Form::Choice(Words::Test), Presence::Optional),
     ]
 }
 
@@ -75,71 +69,20 @@ pub fn rows_for(form: Form) -> [Row; 4]
 pub fn many_forms() -> [Row; 13]
     ensures { are_short (map row_seen result) ≡ true }
 {
+    let most = i64::MAX;
     [
-        Row {
-            name: "a",
-            form: Form::Template,
-            presence: Presence::Text("1"),
-        },
-        Row {
-            name: "b",
-            form: Form::Plain,
-            presence: Presence::Optional,
-        },
-        Row {
-            name: "c",
-            form: Form::Choice(Words::Method),
-            presence: Presence::First,
-        },
-        Row {
-            name: "d",
-            form: Form::Flag,
-            presence: Presence::Truth(false),
-        },
-        Row {
-            name: "e",
-            form: Form::Pairs,
-            presence: Presence::NoPairs,
-        },
-        Row {
-            name: "f",
-            form: Form::Replies,
-            presence: Presence::Required,
-        },
-        Row {
-            name: "maximum",
-            form: Form::Whole(0, i64::MAX),
-            presence: Presence::Number(i64::MAX),
-        },
-        Row {
-            name: "names",
-            form: Form::Texts,
-            presence: Presence::Required,
-        },
-        Row {
-            name: "pattern",
-            form: Form::Pattern,
-            presence: Presence::Required,
-        },
-        Row {
-            name: "patterns",
-            form: Form::TestPatterns,
-            presence: Presence::Required,
-        },
-        Row {
-            name: "start",
-            form: Form::UpTo("maximum"),
-            presence: Presence::Number(0),
-        },
-        Row {
-            name: "table",
-            form: Form::Csv("names"),
-            presence: Presence::Required,
-        },
-        Row {
-            name: "test",
-            form: Form::Choice(Words::Test),
-            presence: Presence::Required,
-        },
+        row!("a", Form::Template, Presence::Text("1")),
+        row!("b", Form::Plain, Presence::Optional),
+        row!("c", Form::Choice(Words::Method), Presence::First),
+        row!("d", Form::Flag, Presence::Truth(false)),
+        row!("e", Form::Pairs, Presence::NoPairs),
+        row!("f", Form::Replies, Presence::Required),
+        row!("maximum", Form::Whole(0, most), Presence::Number(most)),
+        row!("names", Form::Texts, Presence::Required),
+        row!("pattern", Form::Pattern, Presence::Required),
+        row!("patterns", Form::TestPatterns, Presence::Required),
+        row!("start", Form::UpTo("maximum"), Presence::Number(0)),
+        row!("table", Form::Csv("names"), Presence::Required),
+        row!("test", Form::Choice(Words::Test), Presence::Required),
     ]
 }
