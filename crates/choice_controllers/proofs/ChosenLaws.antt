@@ -14,7 +14,7 @@ use Rattle.var_functions.specs.declared.state.UserState.{UserState}
 use Rattle.var_functions.specs.State.{Functions}
 use Rattle.var_functions.specs.Expansion.{expanded, expansion}
 use Rattle.var_functions.specs.Came.{Refused}
-use Rattle.cursor_steps.specs.Step.{answers, past_limit}
+use Rattle.cursor_steps.specs.CursorStep.{answers, past_limit}
 use Rattle.cursor_steps.proofs.Steps.{text-came, text-refused}
 use Rattle.choice_controllers.specs.declared.interleave_cursor.InterleaveCursor.{InterleaveCursor}
 use Rattle.choice_controllers.specs.declared.random_cursor.RandomCursor.{RandomCursor}

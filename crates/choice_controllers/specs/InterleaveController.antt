@@ -4,7 +4,7 @@ use Rattle.jm_base.specs.Run.{Run}
 use Rattle.var_functions.specs.declared.state.UserState.{UserState}
 use Rattle.element_tree.specs.declared.package.Turn.{Turn}
 use Rattle.choice_controllers.specs.declared.interleave_cursor.InterleaveCursor.{InterleaveCursor}
-use Rattle.cursor_steps.specs.Step.{Step, answers}
+use Rattle.cursor_steps.specs.CursorStep.{Step, answers}
 use Rattle.choice_controllers.specs.Chosen.{turn_of}
 
 -- the place after a place, among this many children: the first again after the last

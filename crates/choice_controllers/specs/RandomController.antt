@@ -5,7 +5,7 @@ use Rattle.var_functions.specs.declared.state.UserState.{UserState}
 use Rattle.var_functions.specs.State.{Functions, drawn, draw}
 use Rattle.element_tree.specs.declared.package.Turn.{Turn}
 use Rattle.choice_controllers.specs.declared.random_cursor.RandomCursor.{RandomCursor}
-use Rattle.cursor_steps.specs.Step.{Step, answers}
+use Rattle.cursor_steps.specs.CursorStep.{Step, answers}
 use Rattle.choice_controllers.specs.Chosen.{turn_of}
 
 -- the place that the next word picks among this many children

@@ -7,7 +7,7 @@ use Rattle.var_functions.specs.State.{Functions, drawn, draw}
 use Rattle.element_tree.specs.declared.package.Turn.{Turn}
 use Rattle.element_tree.specs.declared.package.Turn.TheVariants.{Child, Over}
 use Rattle.choice_controllers.specs.declared.order_cursor.OrderCursor.{OrderCursor}
-use Rattle.cursor_steps.specs.Step.{Step, answers}
+use Rattle.cursor_steps.specs.CursorStep.{Step, answers}
 
 -- For i from this one down to 1 a word w is drawn, and what stands at i and at w mod (i + 1) is exchanged.
 abbrev pub shuffled : {A : Type 0} → ℕ → List A → Functions → List A × Functions

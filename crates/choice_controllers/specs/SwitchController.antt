@@ -11,7 +11,7 @@ use Rattle.var_functions.specs.declared.state.UserState.{UserState}
 use Rattle.element_tree.specs.declared.kinds.Element.{Element}
 use Rattle.element_tree.specs.declared.package.Turn.{Turn}
 use Rattle.choice_controllers.specs.declared.switch_cursor.SwitchCursor.{SwitchCursor}
-use Rattle.cursor_steps.specs.Step.{Step, answers, expanding}
+use Rattle.cursor_steps.specs.CursorStep.{Step, answers, expanding}
 use Rattle.cursor_steps.specs.Children.{runs_of}
 use Rattle.cursor_steps.specs.Numeral.{is_decimal}
 use Rattle.choice_controllers.specs.Chosen.{turn_of}

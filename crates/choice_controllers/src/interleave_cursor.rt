@@ -2,7 +2,7 @@
 
 ghost use Rattle.std.specs.Prelude.{◌≡◌, ◌<◌, ℕ, slice_get, Some, None, Ok, IfSome, IsOkAnd};
 ghost use Rattle.element_tree.specs.declared.kinds.Element.{Element};
-ghost use Rattle.cursor_steps.specs.Step.{StepsTo, IsThere};
+ghost use Rattle.cursor_steps.specs.CursorStep.{StepsTo, IsThere};
 ghost use Rattle.cursor_steps.specs.Children.{IsAmong, run_count};
 ghost use Rattle.choice_controllers.specs.InterleaveController.{interleaved, interleave_enters, interleave_next};
 

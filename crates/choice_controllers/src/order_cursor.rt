@@ -3,7 +3,7 @@
 ghost use Rattle.std.specs.Prelude.{◌≡◌, ◌+◌, ◌-◌, ◌^◌, ◌<◌, ℕ, slice_get, unwrap_or, [], length, All, Some, None, Ok, Err, OnOk, OnErr, OnSome, IfSome, IfNone, IfOk, IsOkAnd, IsOkUnless, IsPermutation};
 ghost use Rattle.element_tree.specs.declared.kinds.Element.{Element};
 ghost use Rattle.var_functions.specs.State.{IsLater};
-ghost use Rattle.cursor_steps.specs.Step.{StepsTo, IsThere};
+ghost use Rattle.cursor_steps.specs.CursorStep.{StepsTo, IsThere};
 ghost use Rattle.cursor_steps.specs.Children.{IsAmong, run_count};
 ghost use Rattle.choice_controllers.specs.RandomOrderController.{shuffled, places, random_order, order_of, order_enters, order_next};
 
@@ -129,7 +129,7 @@ impl OrderCursor {
     // The place of the next child in the order, where one is left. The cursor then stands after it.
     fn next_place(&mut self) -> Option<u16>
         ensures place { result ≡ slice_get (order_of self.old) self.old.next }
-        ensures behind { OnSome result (self.new ≡ record self.old { next = self.old.next + 1 }) }
+        ensures moved { OnSome result (self.new ≡ record self.old { next = self.old.next + 1 }) }
         ensures over { IfNone result (self.new ≡ self.old) }
         ensures child { (children : ℕ) → All (λ place. place < children) (order_of self.old) → IfSome result (λ place. place < children) }
     {

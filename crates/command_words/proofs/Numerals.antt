@@ -5,7 +5,7 @@ use Rattle.std.proofs.lemmas.List.{drop_more}
 use Rattle.std.specs.Char.{is_ascii_digit, digit_value}
 use Rattle.std.specs.Str.Parse.{digits_value, digits_value_after}
 use Rattle.std.proofs.lemmas.Bool.Decides.{nat_tests}
-use Rattle.command_words.specs.Values.{number_between}
+use Rattle.command_words.specs.WordValues.{number_between}
 
 -- more digits make no smaller number
 digits_value_after-ge : (v : ℕ) (ds : List ℕ) → v ≤ digits_value_after 10 v ds

@@ -6,7 +6,7 @@ use Rattle.std.specs.Str.{bytes_eq}
 use Rattle.std.proofs.lemmas.Bool.{cases_Bool, and_parts}
 use Rattle.std.proofs.lemmas.Bool.Decides.{nat_tests}
 use Rattle.command_words.specs.declared.command.Command.{Command}
-use Rattle.command_words.specs.Grammar.{Word, Given, Options, equals_sign, name_and_value, option_behind, option_word, begins_with_hyphen, is_word, given_in, with_option, before, is_known, is_right, fits, given_for, value_of}
+use Rattle.command_words.specs.Grammar.{Word, Given, Options, equals_sign, name_and_value, option_after, option_word, begins_with_hyphen, is_word, given_in, with_option, before, is_known, is_right, fits, given_for, value_of}
 use Rattle.command_words.specs.Commands.{CommandRule, commands, command_named, asked_of, command_of}
 use Rattle.command_words.specs.Spelling.{IsName, Spells, nothing, in_one_word, in_two_words, IsCommandLine, IsNoCommandLine}
 use Rattle.command_words.proofs.Agreement.{flipped}
@@ -75,7 +75,7 @@ joined_is_cut (x ∷ name) value is =
 
 -- ---- a word that is an option
 
-behind_is : (text : Word) (q : Word × Option Word) → option_behind text ≡ Some q → IsName q.0 × (text ≡ joined q.0 q.1) × (text ≢ [])
+behind_is : (text : Word) (q : Word × Option Word) → option_after text ≡ Some q → IsName q.0 × (text ≡ joined q.0 q.1) × (text ≢ [])
 behind_is [] q e = cc
 behind_is (z ∷ zs) q e =
     let same : name_and_value (z ∷ zs) ≡ q = cc in
@@ -92,7 +92,7 @@ option_is (x ∷ []) q e = elim (cases_Bool (x == 45)) [
 option_is (x ∷ y ∷ zs) q e = elim (cases_Bool (x == 45)) [
   | inl f ↦ elim (cases_Bool (y == 45)) [
     | inl g ↦
-        let behind : option_behind zs ≡ Some q = rw (flipped x, flipped y, f, g) at e in
+        let behind : option_after zs ≡ Some q = rw (flipped x, flipped y, f, g) at e in
         let is = behind_is zs q behind in
         (is.0, ap₂ (λ (a b : ℕ). a ∷ b ∷ zs) (same_number x 45 f) (same_number y 45 g) ∙ ap (λ (t : Word). 45 ∷ 45 ∷ t) is.1, λ h. is.2 (is.1 ∙ h))
     | inr g ↦ let bad : None ≡ Some q = rw (flipped x, flipped y, f, g) at e in cc
@@ -100,7 +100,7 @@ option_is (x ∷ y ∷ zs) q e = elim (cases_Bool (x == 45)) [
   | inr f ↦ let bad : None ≡ Some q = rw (flipped x, f) at e in cc
 ]
 
-behind_joined : (text : Word) → text ≢ [] → option_behind text ≡ Some (name_and_value text)
+behind_joined : (text : Word) → text ≢ [] → option_after text ≡ Some (name_and_value text)
 behind_joined [] some = absurd (some refl)
 behind_joined (z ∷ zs) some = refl
 

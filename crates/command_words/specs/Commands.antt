@@ -9,7 +9,7 @@ use Rattle.command_words.specs.declared.command.Solo.{Solo}
 use Rattle.command_words.specs.declared.command.Run.{Run}
 use Rattle.command_words.specs.declared.value.Shared.{Shared}
 use Rattle.command_words.specs.Grammar.{Word, Options, is_word, given_for, value_of}
-use Rattle.command_words.specs.Values.{number_between, properties_of}
+use Rattle.command_words.specs.WordValues.{number_between, properties_of}
 
 -- the option of `make` by the text of its value
 abbrev pub make_from : Word → Option Make

@@ -26,13 +26,13 @@ name_and_value text = (
 )
 
 -- an option's name, and its value if there is one, of what stands after `--`, where something does
-abbrev pub option_behind : Word → Option (Word × Option Word)
-option_behind [] = None
-option_behind (b ∷ bs) = Some (name_and_value (b ∷ bs))
+abbrev pub option_after : Word → Option (Word × Option Word)
+option_after [] = None
+option_after (b ∷ bs) = Some (name_and_value (b ∷ bs))
 
 -- the same of a word `--name=value` or `--name`
 abbrev pub option_word : Word → Option (Word × Option Word)
-option_word word = if starts_with nat_eq word (codes "--") then option_behind (drop 2 word) else None
+option_word word = if starts_with nat_eq word (codes "--") then option_after (drop 2 word) else None
 
 abbrev pub begins_with_hyphen : Word → Bool
 begins_with_hyphen word = starts_with nat_eq word (codes "-")

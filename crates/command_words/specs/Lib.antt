@@ -1,5 +1,5 @@
 pub mod Grammar
-pub mod Values
+pub mod WordValues
 pub mod Commands
 pub mod Parser
 pub mod Shown

@@ -1,7 +1,7 @@
 // The values of options.
 
 ghost use Rattle.std.specs.Prelude.{◌≡◌, ◌≤◌, IfOk, IfSome, Some, None};
-ghost use Rattle.command_words.specs.Values.{number_between, properties_of};
+ghost use Rattle.command_words.specs.WordValues.{number_between, properties_of};
 ghost use Rattle.command_words.specs.Commands.{make_from, shared_from, solo_from, run_from};
 
 use crate::command::{Make, Run, Solo};

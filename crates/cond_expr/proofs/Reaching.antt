@@ -186,14 +186,14 @@ viable (complete fs r) ps c = completion fs c.level r ps c.has
 
 -- the first of these tokens that can't stand
 record Sticks (start : State) (before ts : List Placed) (at : ℕ) : Type 0 where
-  front : List Placed
+  prefix : List Placed
   token : Placed
   behind : List Placed
   state : State
-  all : ts ≡ front ++ token ∷ behind
+  all : ts ≡ prefix ++ token ∷ behind
   place : at ≡ token.at
-  ran : run front start ≡ Ok state
-  reached : Reached state (before ++ front)
+  ran : run prefix start ≡ Ok state
+  reached : Reached state (before ++ prefix)
   stuck : next token.at token.token state ≡ None
 
 Leads : State → List Placed → List Placed → Result State ℕ → Type 0
@@ -204,14 +204,14 @@ leads_on : (t : Placed) (ts before : List Placed) (s s' : State) (r : Result Sta
 unfolding Leads
 leads_on t ts before s s' (Ok u) e h = subst (λ x. Reached u x) (append_assoc before (t ∷ []) ts) h
 leads_on t ts before s s' (Err at) e h = record {
-  front = t ∷ h.front;
+  prefix = t ∷ h.prefix;
   token = h.token;
   behind = h.behind;
   state = h.state;
   all = ap (λ x. t ∷ x) h.all;
   place = h.place;
-  ran = run-next t h.front s s' e ∙ h.ran;
-  reached = subst (λ x. Reached h.state x) (append_assoc before (t ∷ []) h.front) h.reached;
+  ran = run-next t h.prefix s s' e ∙ h.ran;
+  reached = subst (λ x. Reached h.state x) (append_assoc before (t ∷ []) h.prefix) h.reached;
   stuck = h.stuck;
 }
 
@@ -223,7 +223,7 @@ leads (t ∷ ts) s before reached = go (next t.at t.token s) refl (next_reached 
     go : (o : Option State) → next t.at t.token s ≡ o → ReachedIf o (before ++ t ∷ []) → ((s' : State) → Reached s' (before ++ t ∷ []) → Leads s' (before ++ t ∷ []) ts (run ts s')) →
         Leads s before (t ∷ ts) (state_or_fault t.at o (run ts))
     go None e r ih = record {
-      front = [];
+      prefix = [];
       token = t;
       behind = ts;
       state = s;
@@ -269,16 +269,16 @@ answer_end text (complete fs r) ran reached =
 
 stuck_fault : (text : List ℕ) (at : ℕ) → Sticks (awaiting []) [] (tokens text) at → IsFaultOf text at
 stuck_fault text at h = record {
-  before = h.front;
+  before = h.prefix;
   after = h.token ∷ h.behind;
   all = h.all;
-  stands = viable h.state h.front h.reached;
-  stops = (h.place, λ w. unread w.1 (sym (stays w.0) ∙ whole_reading 0 ((h.front ++ h.token ∷ []) ++ w.0) w.1 w.2));
+  stands = viable h.state h.prefix h.reached;
+  stops = (h.place, λ w. unread w.1 (sym (stays w.0) ∙ whole_reading 0 ((h.prefix ++ h.token ∷ []) ++ w.0) w.1 w.2));
 }
   where
-    stays : (more : List Placed) → or_else_fault (run ((h.front ++ h.token ∷ []) ++ more) (awaiting [])) (finish 0) ≡ Err h.token.at
+    stays : (more : List Placed) → or_else_fault (run ((h.prefix ++ h.token ∷ []) ++ more) (awaiting [])) (finish 0) ≡ Err h.token.at
     stays more = ap (λ o. or_else_fault o (finish 0))
-        (ap (λ x. run x (awaiting [])) (append_assoc h.front (h.token ∷ []) more) ∙ run-then h.front (h.token ∷ more) (awaiting []) h.state h.ran ∙ run-stuck h.token more h.state h.stuck)
+        (ap (λ x. run x (awaiting [])) (append_assoc h.prefix (h.token ∷ []) more) ∙ run-then h.prefix (h.token ∷ more) (awaiting []) h.state h.ran ∙ run-stuck h.token more h.state h.stuck)
 
     unread : (r : Reading) → ◌≡◌ {A = Result Reading ℕ} (Err h.token.at) (Ok r) → ⊥
     unread r e = cc

@@ -59,10 +59,10 @@ token_first at b rest not_space some = go (token_at (b ∷ rest)) some
 pub tokens_from-token : (at : ℕ) (text : List ℕ) → at < length text → get_or text at 0 == 32 ≡ false → 0 < (token_at (drop at text)).1 →
     tokens_from at 0 (drop at text) ≡ placed at (token_at (drop at text)).0 ∷ tokens_from (at + (token_at (drop at text)).1) 0 (drop (at + (token_at (drop at text)).1) text)
 tokens_from-token at text within not_space some =
-    let front : drop at text ≡ get_or text at 0 ∷ drop (at + 1) text = drop_more text at 0 within in
-    let some' : 0 < (token_at (get_or text at 0 ∷ drop (at + 1) text)).1 = subst (λ x. 0 < (token_at x).1) front some in
+    let prefix : drop at text ≡ get_or text at 0 ∷ drop (at + 1) text = drop_more text at 0 within in
+    let some' : 0 < (token_at (get_or text at 0 ∷ drop (at + 1) text)).1 = subst (λ x. 0 < (token_at x).1) prefix some in
     let One : List ℕ → Type 0 = λ x. tokens_from at 0 x ≡ placed at (token_at x).0 ∷ tokens_from (at + (token_at x).1) 0 (drop (token_at x).1 x) in
-    subst One (sym front) (token_first at (get_or text at 0) (drop (at + 1) text) not_space some')
+    subst One (sym prefix) (token_first at (get_or text at 0) (drop (at + 1) text) not_space some')
     ∙ ap (λ x. placed at (token_at (drop at text)).0 ∷ tokens_from (at + (token_at (drop at text)).1) 0 x) (drop-drop (token_at (drop at text)).1 at text)
 
 -- the text's end

@@ -14,7 +14,7 @@ use element_tree::Plan;
 use jm_base::{M, Sample, Text};
 use outside_world::ScriptOutside;
 use std::alloc::Global;
-use thread_machine::{Solo, Step, Worker, run_alone};
+use thread_machine::{FinishedThread, Step, Worker, run_alone};
 use var_functions::{FnState, Props, UserState, VarError, Vars};
 
 // The numbers of a case: `thread`, `seed`, `budget`, and the calls for which the outside finds memory.
@@ -45,7 +45,12 @@ fn numbers_of(plan: &Plan, rest: &str) -> anyhow::Result<Numbers>
 }
 
 // Runs a thread of the plan. What the call promises is left out here, so that no proof above carries it along.
-fn ran(alloc: Global, plan: &Plan, props: &Props, numbers: Numbers) -> anyhow::Result<Solo>
+fn ran(
+    alloc: Global,
+    plan: &Plan,
+    props: &Props,
+    numbers: Numbers,
+) -> anyhow::Result<FinishedThread>
     requires { numbers.thread < length (threads_of plan.now) }
 {
     let mut outside = Scarce {
@@ -65,7 +70,7 @@ fn ran(alloc: Global, plan: &Plan, props: &Props, numbers: Numbers) -> anyhow::R
 }
 
 // The lines of a trace, and of its end.
-fn solo_text(alloc: Global, solo: &Solo) -> anyhow::Result<String> {
+fn solo_text(alloc: Global, solo: &FinishedThread) -> anyhow::Result<String> {
     let mut lines = Lines::new(alloc);
     trace(alloc, &solo.trace, &mut lines)?;
     lines.add(alloc, format!(in alloc; "= {:?}", solo.end)?)?;

@@ -25,7 +25,7 @@ use Rattle.control_machine.specs.declared.machine.Group.{Group}
 use Rattle.control_machine.specs.declared.machine.Machine.{Machine}
 use Rattle.control_machine.specs.Moves.{turned}
 use Rattle.control_machine.specs.Cursors.{tally_in, round_in}
-use Rattle.control_machine.specs.Left.{here_in, left_in, left_of, left_behind, label_at, closing, closed, children_at, ended, IsOut, rest_of}
+use Rattle.control_machine.specs.Left.{here_in, left_in, left_of, left_after, label_at, closing, closed, children_at, ended, IsOut, rest_of}
 use Rattle.control_machine.specs.Turns.{went, closing_of}
 use Rattle.control_machine.proofs.ClosingLaws.{stop_closing, out_gives, closed_out}
 use Rattle.control_machine.proofs.PassLaws.{none-left}
@@ -40,7 +40,7 @@ came_as a b run x on limit res is came = subst (λ r. CameTo a r b on limit res)
 -- what is left after the answer of an element that was taken out of the open ones
 abbrev pub answered : Tree → Machine → Frame → Element → State → Turn → Run Ending
 answered plan m f e s turn =
-    left_behind plan m (closed (here_in plan m) f (turned (meaning (here_in plan m) f.depth) (round_in f.round f.cursor) (children_of plan.elements e) (left_by (here_in plan m) f e) s turn))
+    left_after plan m (closed (here_in plan m) f (turned (meaning (here_in plan m) f.depth) (round_in f.round f.cursor) (children_of plan.elements e) (left_by (here_in plan m) f e) s turn))
 
 module _ (plan : Tree) (m : Machine) (f : Frame) (e : Element) (user : UserState) (own : Own) (there : slice_get plan.elements f.element ≡ Some e) where
   -- the element is left
@@ -48,7 +48,7 @@ module _ (plan : Tree) (m : Machine) (f : Frame) (e : Element) (user : UserState
       → answered plan m f e (state_of user own) turn ≡ went plan m (state_of user (at_rounds own k)) (closing_of f)
   is_over turn is signal k same =
       ap (answered plan m f e (state_of user own)) is
-      ∙ ap (λ x. left_behind plan m (closed (here_in plan m) f (over (record { state = state_of user own; signal = x })))) (sym signal)
+      ∙ ap (λ x. left_after plan m (closed (here_in plan m) f (over (record { state = state_of user own; signal = x })))) (sym signal)
       ∙ closed_out plan m f.element (tally_in f.cursor) (state_of user own) (ap gives_sample signal)
       ∙ ap (λ s. went plan m s (closing_of f)) (at_own user own k same)
 
@@ -57,8 +57,8 @@ module _ (plan : Tree) (m : Machine) (f : Frame) (e : Element) (user : UserState
       → answered plan m f e (state_of user own) turn ≡ over (ended RoundLimit (state_of user (at_rounds own k)))
   no_round_left turn is none k same =
       ap (answered plan m f e (state_of user own)) is
-      ∙ ap (λ r. left_behind plan m (closed (here_in plan m) f r)) (no-rounds (state_of user own) (left_by (here_in plan m) f e) none)
-      ∙ ap (left_behind plan m) (stop_closing (label_at plan.elements f.element) (tally_in f.cursor) RoundLimit (state_of user own) refl)
+      ∙ ap (λ r. left_after plan m (closed (here_in plan m) f r)) (no-rounds (state_of user own) (left_by (here_in plan m) f e) none)
+      ∙ ap (left_after plan m) (stop_closing (label_at plan.elements f.element) (tally_in f.cursor) RoundLimit (state_of user own) refl)
       ∙ stop_through (here_in plan m) m.group m.stack.frames RoundLimit (state_of user own) refl
       ∙ ap (λ s. over (ended RoundLimit s)) (at_own user own k same)
 
@@ -67,13 +67,13 @@ module _ (plan : Tree) (m : Machine) (f : Frame) (e : Element) (user : UserState
       → answered plan m f e (state_of user own) turn ≡ left_of plan m' (state_of user (at_rounds own n))
   round_taken turn is m' like frames n some =
       ap (answered plan m f e (state_of user own)) is
-      ∙ ap (λ r. left_behind plan m (closed (here_in plan m) f r)) (one-round (state_of user own) (left_by (here_in plan m) f e) n some)
+      ∙ ap (λ r. left_after plan m (closed (here_in plan m) f r)) (one-round (state_of user own) (left_by (here_in plan m) f e) n some)
       ∙ sym (innermost (here_in plan m) m.group f m.stack.frames e (state_of user (at_rounds own n)) there)
       ∙ sym (left_later plan m m' m.group (f ∷ m.stack.frames) (state_of user (at_rounds own n)) like.group like.failure like.signal frames)
 
   -- the open elements with this one among them
   same_place : (m' : Machine) → IsLike m m' → m'.stack.frames ≡ f ∷ m.stack.frames → (x : Here → Run Ending)
-      → left_behind plan m' (x (here_in plan m')) ≡ left_in (here_in plan m) m.group (f ∷ m.stack.frames) (x (here_in plan m))
+      → left_after plan m' (x (here_in plan m')) ≡ left_in (here_in plan m) m.group (f ∷ m.stack.frames) (x (here_in plan m))
   same_place m' like frames x =
       ap (λ failure. left_in (record { plan = plan; at_failure = failure }) m'.group m'.stack.frames (x (record { plan = plan; at_failure = failure }))) like.failure
       ∙ ap (λ g. left_in (here_in plan m) g m'.stack.frames (x (here_in plan m))) like.group
@@ -82,10 +82,10 @@ module _ (plan : Tree) (m : Machine) (f : Frame) (e : Element) (user : UserState
   -- a child comes next
   pub child_next : (turn : Turn) (place child r : ℕ) → turn ≡ Child place → slice_get (children_of plan.elements e) place ≡ Some child → r ≡ round_in f.round f.cursor
       → (m' : Machine) → IsLike m m' → m'.stack.frames ≡ f ∷ m.stack.frames
-      → answered plan m f e (state_of user own) turn ≡ left_behind plan m' (meaning (here_in plan m') f.depth child r (state_of user own))
+      → answered plan m f e (state_of user own) turn ≡ left_after plan m' (meaning (here_in plan m') f.depth child r (state_of user own))
   child_next turn place child r is found round m' like frames =
       ap (answered plan m f e (state_of user own)) is
-      ∙ ap (λ o. left_behind plan m (closed (here_in plan m) f (and_then (one_of (meaning (here_in plan m) f.depth) (round_in f.round f.cursor) o (state_of user own)) (left_by (here_in plan m) f e)))) found
+      ∙ ap (λ o. left_after plan m (closed (here_in plan m) f (and_then (one_of (meaning (here_in plan m) f.depth) (round_in f.round f.cursor) o (state_of user own)) (left_by (here_in plan m) f e)))) found
       ∙ sym (inside_top (here_in plan m) m.group f m.stack.frames e (meaning (here_in plan m) f.depth child (round_in f.round f.cursor) (state_of user own)) there)
       ∙ ap (λ r. left_in (here_in plan m) m.group (f ∷ m.stack.frames) (meaning (here_in plan m) f.depth child r (state_of user own))) (sym round)
       ∙ sym (same_place m' like frames (λ here. meaning here f.depth child r (state_of user own)))
@@ -95,7 +95,7 @@ module _ (plan : Tree) (m : Machine) (f : Frame) (e : Element) (user : UserState
       → (k : ℕ) → k ≡ own.rounds → answered plan m f e (state_of user own) turn ≡ left_of plan m' (state_of user (at_rounds own k))
   no_child turn place is found m' like frames k same =
       ap (answered plan m f e (state_of user own)) is
-      ∙ ap (λ o. left_behind plan m (closed (here_in plan m) f (and_then (one_of (meaning (here_in plan m) f.depth) (round_in f.round f.cursor) o (state_of user own)) (left_by (here_in plan m) f e)))) found
+      ∙ ap (λ o. left_after plan m (closed (here_in plan m) f (and_then (one_of (meaning (here_in plan m) f.depth) (round_in f.round f.cursor) o (state_of user own)) (left_by (here_in plan m) f e)))) found
       ∙ sym (innermost (here_in plan m) m.group f m.stack.frames e (state_of user own) there)
       ∙ sym (left_later plan m m' m.group (f ∷ m.stack.frames) (state_of user own) like.group like.failure like.signal frames)
       ∙ ap (left_of plan m') (at_own user own k same)
@@ -107,7 +107,7 @@ pub group_child_next : (plan : Tree) (m m' : Machine) (user : UserState) (own : 
     → slice_get (children_at plan.elements m.group.element) place ≡ Some child → r ≡ m.group.begun - 1
     → m'.group ≡ record { element = m.group.element; loops = m.group.loops; begun = m.group.begun; pass = record { children = m.group.pass.children; next = m.group.pass.next + 1 } }
     → m'.at_failure ≡ m.at_failure → m'.stack.frames ≡ []
-    → left_of plan m (state_of user own) ≡ left_behind plan m' (meaning (here_in plan m') 30 child r (state_of user own))
+    → left_of plan m (state_of user own) ≡ left_after plan m' (meaning (here_in plan m') 30 child r (state_of user own))
 group_child_next plan m m' user own place child r signal empty is all at found round group failure still =
     left_normal plan m (state_of user own) signal
     ∙ ap (λ fs. left_in (here_in plan m) m.group fs (over (normal (state_of user own)))) empty
@@ -150,7 +150,7 @@ stop_at_group here g end s = refl
 pub all_out : (plan : Tree) (m : Machine) (end : End) (user : UserState) (own : Own) → m.stack.frames ≡ [] → m.signal ≡ Stop end → IsOut m.signal → (k : ℕ) → k ≡ own.rounds
     → left_of plan m (state_of user own) ≡ over (ended end (state_of user (at_rounds own k)))
 all_out plan m end user own empty signal is_out k same =
-    ap (λ x. left_behind plan m (out (state_of user own) x)) signal
+    ap (λ x. left_after plan m (out (state_of user own) x)) signal
     ∙ ap (λ fs. left_in (here_in plan m) m.group fs (over (stopped end (state_of user own)))) empty
     ∙ stop_at_group (here_in plan m) m.group end (state_of user own)
     ∙ ap over (end_out end (state_of user own) (subst IsOut signal is_out))

@@ -10,7 +10,7 @@ use Rattle.var_functions.specs.declared.error.VarError.{VarError}
 use Rattle.var_functions.specs.declared.state.UserState.{UserState}
 use Rattle.var_functions.specs.Came.{CameTo}
 use Rattle.var_functions.proofs.CameLaws.{came-bind}
-use Rattle.cursor_steps.specs.Step.{Step, StepsTo, answers, past_limit, IsThere}
+use Rattle.cursor_steps.specs.CursorStep.{Step, StepsTo, answers, past_limit, IsThere}
 use Rattle.jm_meaning.specs.State.{Own, Ending, Part, state_of}
 use Rattle.jm_meaning.specs.Children.{Below}
 use Rattle.control_machine.specs.Moves.{past, turned, stepped, begun}

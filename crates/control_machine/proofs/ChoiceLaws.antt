@@ -8,7 +8,7 @@ use Rattle.std.proofs.lemmas.Option.{slice_get_within, get_or_from_slice_get}
 use Rattle.jm_base.specs.Run.{Run, over, give, read, wait, ask, ◌>>=◌}
 use Rattle.template_text.specs.Pieces.{Pieces}
 use Rattle.var_functions.specs.declared.state.UserState.{UserState}
-use Rattle.cursor_steps.specs.Step.{answers}
+use Rattle.cursor_steps.specs.CursorStep.{answers}
 use Rattle.choice_controllers.specs.declared.interleave_cursor.InterleaveCursor.{InterleaveCursor}
 use Rattle.choice_controllers.specs.declared.random_cursor.RandomCursor.{RandomCursor}
 use Rattle.choice_controllers.specs.declared.order_cursor.OrderCursor.{OrderCursor}

@@ -9,7 +9,7 @@ use Rattle.element_tree.specs.declared.package.Turn.{Turn}
 use Rattle.element_tree.specs.declared.package.Turn.TheVariants.{Child, Round, Over}
 use Rattle.var_functions.specs.declared.error.VarError.{VarError}
 use Rattle.var_functions.specs.declared.state.UserState.{UserState}
-use Rattle.cursor_steps.specs.Step.{Step, StepsTo, answers}
+use Rattle.cursor_steps.specs.CursorStep.{Step, StepsTo, answers}
 use Rattle.cursor_steps.specs.Children.{IsAmong}
 use Rattle.logic_controllers.specs.Rounds.{begun_after}
 use Rattle.choice_controllers.specs.declared.order_cursor.OrderCursor.{OrderCursor}

@@ -16,7 +16,7 @@ use Rattle.jm_meaning.specs.Transactions.{gives_sample, summed, transaction_from
 use Rattle.jm_meaning.proofs.TransactionLaws.{goes-inside}
 use Rattle.control_machine.specs.declared.machine.Machine.{Machine}
 use Rattle.control_machine.specs.Moves.{past}
-use Rattle.control_machine.specs.Left.{closing, label_at, left_behind, IsOut}
+use Rattle.control_machine.specs.Left.{closing, label_at, left_after, IsOut}
 use Rattle.control_machine.specs.Turns.{went, closing_move}
 
 -- nothing more is counted where nothing is given
@@ -59,12 +59,12 @@ out_gives (Stop end) h = absurd h
 
 -- an element is left, and its sample is the next move, where it gives one
 pub closed_out : (plan : Tree) (m : Machine) (element : ℕ) (o : Option Tally) (s : State) → gives_sample m.signal ≡ true
-    → left_behind plan m (closing (label_at plan.elements element) o (over (record { state = s; signal = m.signal }))) ≡ went plan m s (closing_move element o)
+    → left_after plan m (closing (label_at plan.elements element) o (over (record { state = s; signal = m.signal }))) ≡ went plan m s (closing_move element o)
 closed_out plan m element None s gives = refl
 closed_out plan m element (Some tally) s gives = by_count (nat_lt 0 tally.samples) refl where
   by_count : (b : Bool) → nat_lt 0 tally.samples ≡ b
-      → left_behind plan m (closing (label_at plan.elements element) (Some tally) (over (record { state = s; signal = m.signal }))) ≡ went plan m s (closing_move element (Some tally))
-  by_count b is = ap (left_behind plan m) (ends_so (label_at plan.elements element) tally (record { state = s; signal = m.signal })) ∙ by_case b is where
-    by_case : (b : Bool) → nat_lt 0 tally.samples ≡ b → left_behind plan m (summed (label_at plan.elements element) tally (record { state = s; signal = m.signal })) ≡ went plan m s (closing_move element (Some tally))
+      → left_after plan m (closing (label_at plan.elements element) (Some tally) (over (record { state = s; signal = m.signal }))) ≡ went plan m s (closing_move element (Some tally))
+  by_count b is = ap (left_after plan m) (ends_so (label_at plan.elements element) tally (record { state = s; signal = m.signal })) ∙ by_case b is where
+    by_case : (b : Bool) → nat_lt 0 tally.samples ≡ b → left_after plan m (summed (label_at plan.elements element) tally (record { state = s; signal = m.signal })) ≡ went plan m s (closing_move element (Some tally))
     by_case true is = rw (gives, is) refl
     by_case false is = rw (gives, is) refl

@@ -18,8 +18,8 @@ use Rattle.logic_controllers.specs.declared.loop_cursor.LoopCursor.{LoopCursor}
 use Rattle.logic_controllers.specs.declared.if_cursor.IfCursor.{IfCursor}
 use Rattle.logic_controllers.specs.declared.while_cursor.WhileCursor.{WhileCursor}
 use Rattle.logic_controllers.specs.declared.each_cursor.EachCursor.{EachCursor}
-use Rattle.cursor_steps.specs.Step.{Step, answers, with_vars as step_vars}
-use Rattle.cursor_steps.specs.Children.{is_left, behind_child, pass_over}
+use Rattle.cursor_steps.specs.CursorStep.{Step, answers, with_vars as step_vars}
+use Rattle.cursor_steps.specs.Children.{is_left, after_child, pass_over}
 use Rattle.logic_controllers.specs.Rounds.{round_begun, opened_vars, opened}
 use Rattle.logic_controllers.specs.SimpleController.{simple_next}
 use Rattle.logic_controllers.specs.OnceOnlyController.{once_next}
@@ -34,7 +34,7 @@ use Rattle.jm_meaning.specs.Beginning.{max_rounds}
 use Rattle.jm_meaning.proofs.PartLaws.{then-assoc, round_at, next-round}
 use Rattle.control_machine.specs.Moves.{pass_left, turned, stepped}
 use Rattle.control_machine.specs.Cursors.{simple_left, once_left, if_left, round_left, loop_left, while_left, each_left, if_left_in, while_left_in, each_left_in}
-use Rattle.control_machine.proofs.PassLaws.{front, none-left, all-left}
+use Rattle.control_machine.proofs.PassLaws.{prefix, none-left, all-left}
 use Rattle.control_machine.proofs.StepLaws.{text-law, vars-law}
 
 -- ---- Simple and Once Only
@@ -43,7 +43,7 @@ pub simple-law : (below : Below) (round : ℕ) (children : List ℕ) (c : Simple
     → simple_left below round children c s ≡ (simple_next c s.user >>= stepped below (λ d. round) children (simple_left below round children) s.own)
 simple-law below round children c s few = by_left (is_left c.pass) refl where
   by_left : (x : Bool) → is_left c.pass ≡ x → simple_left below round children c s ≡ (simple_next c s.user >>= stepped below (λ d. round) children (simple_left below round children) s.own)
-  by_left true is = let f = front c.pass children is few in rw (is, f.is, f.there) refl
+  by_left true is = let f = prefix c.pass children is few in rw (is, f.is, f.there) refl
   by_left false is = rw (is, none-left c.pass children is) refl
 
 -- in the first round a Once Only is its children
@@ -56,8 +56,8 @@ once-law below round children c s few = by_round (round == 0) refl (is_left c.pa
   by_round : (x : Bool) → (round == 0) ≡ x → (y : Bool) → is_left c.pass ≡ y
       → once_left below round children c s ≡ (once_next round c s.user >>= stepped below (λ d. round) children (once_left below round children) s.own)
   by_round true is true left =
-      let f = front c.pass children left few in
-      rw (is, left, f.is, f.there) (ap (and_then (below f.child round s)) (sym (in_first round is below children (record { element = c.element; pass = behind_child c.pass }))))
+      let f = prefix c.pass children left few in
+      rw (is, left, f.is, f.there) (ap (and_then (below f.child round s)) (sym (in_first round is below children (record { element = c.element; pass = after_child c.pass }))))
   by_round true is false left = rw (is, left, none-left c.pass children left) refl
   by_round false is y left = rw is refl
 
@@ -68,23 +68,23 @@ pub if-law : (all : Bool) (condition : Pieces) (below : Below) (round : ℕ) (ch
 if-law false condition below round children c s few = by_left (is_left c.pass) refl where
   by_left : (x : Bool) → is_left c.pass ≡ x
       → if_left false condition below round children c s ≡ (if_next false condition c s.user >>= stepped below (λ d. round) children (if_left false condition below round children) s.own)
-  by_left true is = let f = front c.pass children is few in rw (is, f.is, f.there) refl
+  by_left true is = let f = prefix c.pass children is few in rw (is, f.is, f.there) refl
   by_left false is = rw (is, none-left c.pass children is) refl
 if-law true condition below round children c s few = by_left (is_left c.pass) refl where
   go : Step Turn IfCursor → Run Ending
   go = stepped below (λ d. round) children (if_left true condition below round children) s.own
 
   holds : (child : ℕ) → slice_get children c.pass.next ≡ Some child → (x : Bool) (u : UserState)
-      → (if x then and_then (below child round (state_of u s.own)) (if_each below round (pass_left (behind_child c.pass) children) (text condition)) else over (normal (state_of u s.own)))
+      → (if x then and_then (below child round (state_of u s.own)) (if_each below round (pass_left (after_child c.pass) children) (text condition)) else over (normal (state_of u s.own)))
       ≡ ((if x then if_runs c u else answers Over c u) >>= go)
   holds child there true u = rw there refl
   holds child there false u = refl
 
   by_left : (x : Bool) → is_left c.pass ≡ x → if_left true condition below round children c s ≡ (if_next true condition c s.user >>= go)
   by_left true is =
-      let f = front c.pass children is few in
+      let f = prefix c.pass children is few in
       rw (is, f.is) (text-law condition c s (λ t u. if is_true t then if_runs c u else answers Over c u) go
-      (λ t s. if is_true t then and_then (below f.child round s) (if_each below round (pass_left (behind_child c.pass) children) (text condition)) else over (normal s))
+      (λ t s. if is_true t then and_then (below f.child round s) (if_each below round (pass_left (after_child c.pass) children) (text condition)) else over (normal s))
       (λ u. refl) (λ t u. holds f.child f.there (is_true t) u))
   by_left false is = rw (is, none-left c.pass children is) refl
 
@@ -97,10 +97,10 @@ module _ {X : Type 0} (turns : Turns X) (below : Below) (children : List ℕ) (r
   -- a child is run in an open round
   pub round-child : is_left r.pass ≡ true → r.pass.children ≡ length children
       → round_left turns below children r s
-      ≡ turned below (r.begun - 1) children (round_left turns below children (record { begun = r.begun; opening = false; pass = behind_child r.pass })) s (Child r.pass.next)
+      ≡ turned below (r.begun - 1) children (round_left turns below children (record { begun = r.begun; opening = false; pass = after_child r.pass })) s (Child r.pass.next)
   round-child is all =
-      let f = front r.pass children is (omega (arith, all)) in
-      rw (f.is, f.there) (then-assoc (below f.child (r.begun - 1) s) (in_order below (r.begun - 1) (pass_left (behind_child r.pass) children))
+      let f = prefix r.pass children is (omega (arith, all)) in
+      rw (f.is, f.there) (then-assoc (below f.child (r.begun - 1) s) (in_order below (r.begun - 1) (pass_left (after_child r.pass) children))
       (rounds (max_rounds - r.begun) turns (λ i. in_order below i children) r.begun))
 
   -- what is left where a round has begun

@@ -12,7 +12,7 @@ use Rattle.logic_controllers.specs.declared.loop_cursor.LoopCursor.{LoopCursor}
 use Rattle.logic_controllers.specs.declared.if_cursor.IfCursor.{IfCursor}
 use Rattle.logic_controllers.specs.declared.while_cursor.WhileCursor.{WhileCursor}
 use Rattle.logic_controllers.specs.declared.each_cursor.EachCursor.{EachCursor}
-use Rattle.cursor_steps.specs.Step.{answers}
+use Rattle.cursor_steps.specs.CursorStep.{answers}
 use Rattle.cursor_steps.specs.Children.{pass_over, none_left, is_left}
 use Rattle.logic_controllers.specs.Rounds.{before_rounds}
 use Rattle.logic_controllers.specs.SimpleController.{simple_enters}

@@ -18,7 +18,7 @@ use Rattle.control_machine.specs.declared.stack.Frame.{Frame}
 use Rattle.control_machine.specs.declared.machine.Group.{Group}
 use Rattle.control_machine.specs.declared.machine.Machine.{Machine}
 use Rattle.control_machine.specs.Left.{left_in, rest_of, left_of, here_in, children_at, ended}
-use Rattle.control_machine.proofs.PassLaws.{front, none-left, all-left}
+use Rattle.control_machine.proofs.PassLaws.{prefix, none-left, all-left}
 
 -- what is left in a machine whose signal is Normal
 pub left_normal : (plan : Tree) (m : Machine) (s : State) → m.signal ≡ Normal → left_of plan m s ≡ left_in (here_in plan m) m.group m.stack.frames (over (normal s))
@@ -97,6 +97,6 @@ pub group_child : (here : Here) (g h : Group) (s : State) (child : ℕ) → is_l
     → left_in here g [] (over (normal s)) ≡ left_in here h [] (meaning here 30 child (g.begun - 1) s)
 unfolding left_in rest_of
 group_child here g h s child is all there new =
-    let f = front g.pass (children_at here.plan.elements g.element) is (omega (arith, all)) in
+    let f = prefix g.pass (children_at here.plan.elements g.element) is (omega (arith, all)) in
     let same : f.child ≡ child = (let i : Some f.child ≡ Some child = sym f.there ∙ there in cc) in
     rw (new, f.is, same) refl

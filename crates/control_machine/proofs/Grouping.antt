@@ -6,7 +6,7 @@ use Rattle.std.proofs.Math.ListN.{get_or}
 use Rattle.std.proofs.lemmas.Option.{slice_get-get_or}
 use Rattle.element_tree.specs.declared.kinds.Element.{Element}
 use Rattle.cursor_steps.specs.declared.pass.Pass.{Pass}
-use Rattle.cursor_steps.specs.Children.{is_left, behind_child}
+use Rattle.cursor_steps.specs.Children.{is_left, after_child}
 use Rattle.jm_meaning.specs.Children.{children_of}
 use Rattle.control_machine.specs.Load.{remaining}
 use Rattle.control_machine.specs.Left.{children_at}
@@ -21,7 +21,7 @@ pub no_such_child : (elements : List Element) (e : Element) (p : Pass) (place : 
 no_such_child elements e p place less all none =
     let k : None ≡ Some (get_or (children_of elements e) place 0) = none ∙ slice_get-get_or (children_of elements e) place 0 (omega (arith, less, all)) in cc
 
-pub fewer_remain : (p q r : Pass) (place : ℕ) → place ≡ p.next → place < p.children → q ≡ behind_child p → r ≡ q → remaining r < remaining p
+pub fewer_remain : (p q r : Pass) (place : ℕ) → place ≡ p.next → place < p.children → q ≡ after_child p → r ≡ q → remaining r < remaining p
 fewer_remain p q r place at less behind same =
     let n = ap (λ q. remaining q) (same ∙ behind) in
     omega (arith, at, less, n)

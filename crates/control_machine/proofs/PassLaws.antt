@@ -9,7 +9,7 @@ use Rattle.element_tree.specs.declared.kinds.Element.{Element}
 use Rattle.cursor_steps.specs.declared.pass.Pass.{Pass}
 use Rattle.element_tree.specs.declared.package.Turn.{Turn}
 use Rattle.element_tree.specs.declared.package.Turn.TheVariants.{Child, Round, Over}
-use Rattle.cursor_steps.specs.Children.{is_left, behind_child, run_count, runs_of, Passes}
+use Rattle.cursor_steps.specs.Children.{is_left, after_child, run_count, runs_of, Passes}
 use Rattle.jm_meaning.specs.Children.{children_of}
 use Rattle.control_machine.specs.Moves.{pass_left}
 use Rattle.control_machine.specs.Load.{remaining, TakesChild}
@@ -24,7 +24,7 @@ none_means p h = grind (arith, h)
 pub record Front (p : Pass) (children : List ℕ) : Type 0 where
   pub child : ℕ
   pub there : slice_get children p.next ≡ Some child
-  pub is : pass_left p children ≡ child ∷ pass_left (behind_child p) children
+  pub is : pass_left p children ≡ child ∷ pass_left (after_child p) children
 
 front_at : (xs : List ℕ) (i : ℕ) → i < length xs → drop i xs ≡ get_or xs i 0 ∷ drop (i + 1) xs
 front_at xs i within = rw (add-one i) (drop-cons xs i 0 within)
@@ -32,8 +32,8 @@ front_at xs i within = rw (add-one i) (drop-cons xs i 0 within)
 taken_length : (xs : List ℕ) (n i : ℕ) → i < n → i < length xs → i < length (take n xs)
 taken_length xs n i h k = let is = length-take n xs in omega (arith, h, k, is)
 
-pub front : (p : Pass) (children : List ℕ) → is_left p ≡ true → p.children ≤ length children → Front p children
-front p children h few =
+pub prefix : (p : Pass) (children : List ℕ) → is_left p ≡ true → p.children ≤ length children → Front p children
+prefix p children h few =
     let less = left_means p h in
     let within : p.next < length children = omega (arith, less, few) in
     record {
@@ -54,7 +54,7 @@ all-left p children first all = rw first (take_all p.children children (omega (a
 pub count-is : (elements : List Element) (e : Element) → length (children_of elements e) ≡ run_count elements e
 count-is elements e = let is = length-take 65535 (runs_of elements e) in omega (arith, is)
 
--- of what is taken off the front of a list each place is there, and none past it
+-- of what is taken off the prefix of a list each place is there, and none past it
 pub taken_get : (xs : List ℕ) (n i : ℕ) → i < n → slice_get (take n xs) i ≡ slice_get xs i
 taken_get [] n i h = ap (λ l. slice_get l i) (take_all n [] (omega arith))
 taken_get (x ∷ xs) zero i h = absurd (omega (arith, h))

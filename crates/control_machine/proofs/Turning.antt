@@ -20,7 +20,7 @@ use Rattle.control_machine.specs.declared.machine.Went.TheVariants.{On, To}
 use Rattle.control_machine.specs.declared.moves.Move.TheVariants.{RunSampler}
 use Rattle.control_machine.specs.Moves.{past}
 use Rattle.control_machine.specs.Cursors.{cursor_left, tally_in}
-use Rattle.control_machine.specs.Left.{here_in, left_in, left_of, left_behind, label_at, closing, own_at, kind_part}
+use Rattle.control_machine.specs.Left.{here_in, left_in, left_of, left_after, label_at, closing, own_at, kind_part}
 use Rattle.control_machine.specs.Turns.{went}
 use Rattle.control_machine.proofs.StackLaws.{goes_left, refused_left, innermost}
 use Rattle.control_machine.proofs.Opening.{meant}
@@ -46,10 +46,10 @@ module _ (plan : Tree) (m : Machine) (n round depth : ℕ) (e : Element) (user u
   here = here_in plan m
 
   abbrev run : Run Ending
-  run = left_behind plan m (meaning (here_in plan m) depth n round (state_of user own))
+  run = left_after plan m (meaning (here_in plan m) depth n round (state_of user own))
 
   inside : (x : Run Ending) → Goes a (kind_meaning (here_in plan m) (meaning (here_in plan m) (depth - 1)) n e e.kind round (state_of user own)) [] x b
-      → Goes a (left_behind plan m (meaning (here_in plan m) depth n round (state_of user own))) [] (left_in (here_in plan m) m.group m.stack.frames x) b
+      → Goes a (left_after plan m (meaning (here_in plan m) depth n round (state_of user own))) [] (left_in (here_in plan m) m.group m.stack.frames x) b
   inside x goes =
       subst (λ r. Goes a (left_in (here_in plan m) m.group m.stack.frames r) [] (left_in (here_in plan m) m.group m.stack.frames x) b)
       (sym (meant (here_in plan m) depth n round (state_of user own) e some there)) (goes_left (here_in plan m) m.group m.stack.frames goes)
@@ -57,13 +57,13 @@ module _ (plan : Tree) (m : Machine) (n round depth : ℕ) (e : Element) (user u
   -- nothing that runs
   pub open_nothing : m.signal ≡ Normal
       → Goes a (kind_meaning (here_in plan m) (meaning (here_in plan m) (depth - 1)) n e e.kind round (state_of user own)) [] (over (normal (state_of user' own'))) b
-      → Goes a (left_behind plan m (meaning (here_in plan m) depth n round (state_of user own))) [] (went plan m (state_of user' own') On) b
+      → Goes a (left_after plan m (meaning (here_in plan m) depth n round (state_of user own))) [] (went plan m (state_of user' own') On) b
   open_nothing normal_ goes = rest_is _ _ _ (sym (left_normal plan m (state_of user' own') normal_)) (inside (over (normal (state_of user' own'))) goes)
 
   -- a sampler
   pub open_sampler :
       Goes a (kind_meaning (here_in plan m) (meaning (here_in plan m) (depth - 1)) n e e.kind round (state_of user own)) [] (kind_part (here_in plan m) n e e.kind (state_of user' own')) b
-      → Goes a (left_behind plan m (meaning (here_in plan m) depth n round (state_of user own))) [] (went plan m (state_of user' own') (To (RunSampler n))) b
+      → Goes a (left_after plan m (meaning (here_in plan m) depth n round (state_of user own))) [] (went plan m (state_of user' own') (To (RunSampler n))) b
   open_sampler goes = rw there (inside (kind_part (here_in plan m) n e e.kind (state_of user' own')) goes)
 
   -- a controller
@@ -71,7 +71,7 @@ module _ (plan : Tree) (m : Machine) (n round depth : ℕ) (e : Element) (user u
       → MatchResult res (λ w. (w ≡ On) × (m'.stack.frames ≡ record { element = n; round = round; depth = depth - 1; cursor = c } ∷ m.stack.frames)) (λ e. e ≡ NoMemory)
       → Goes a (kind_meaning (here_in plan m) (meaning (here_in plan m) (depth - 1)) n e e.kind round (state_of user own)) []
       (closing (label_at plan.elements n) (tally_in c) (cursor_left (meaning (here_in plan m) (depth - 1)) round (children_in (here_in plan m) e) e c (state_of user' own'))) b
-      → CameTo a (left_behind plan m (meaning (here_in plan m) depth n round (state_of user own))) b (went plan m' (state_of user' o)) (past (state_of user' o)) res
+      → CameTo a (left_after plan m (meaning (here_in plan m) depth n round (state_of user own))) b (went plan m' (state_of user' o)) (past (state_of user' o)) res
   open_frame m' c (Ok w) like o is pushed goes =
       let f : Frame = record { element = n; round = round; depth = depth - 1; cursor = c } in
       rw pushed.0 (rest_is _ _ _
@@ -84,7 +84,7 @@ module _ (plan : Tree) (m : Machine) (n round depth : ℕ) (e : Element) (user u
   -- a refusal
   pub open_refused : (error : VarError)
       → Refused a (kind_meaning (here_in plan m) (meaning (here_in plan m) (depth - 1)) n e e.kind round (state_of user own)) b (past (state_of user' own')) error
-      → Refused a (left_behind plan m (meaning (here_in plan m) depth n round (state_of user own))) b (past (state_of user' own')) error
+      → Refused a (left_after plan m (meaning (here_in plan m) depth n round (state_of user own))) b (past (state_of user' own')) error
   open_refused error refused =
       subst (λ r. Refused a (left_in (here_in plan m) m.group m.stack.frames r) b (past (state_of user' own')) error)
       (sym (meant (here_in plan m) depth n round (state_of user own) e some there)) (refused_left (here_in plan m) m.group m.stack.frames refused)

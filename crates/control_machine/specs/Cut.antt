@@ -13,7 +13,7 @@ use Rattle.jm_meaning.specs.Cut.{StandsLater}
 use Rattle.control_machine.specs.declared.cursor.Cursor.{Cursor}
 use Rattle.control_machine.specs.declared.machine.Machine.{Machine}
 use Rattle.control_machine.specs.Cursors.{cursor_left, tally_in}
-use Rattle.control_machine.specs.Left.{left_of, left_behind, here_in, state_at}
+use Rattle.control_machine.specs.Left.{left_of, left_after, here_in, state_at}
 
 -- where a thread stands in its run: between two turns, or before an element is entered at which elements nest that deep
 pub data Place : Type 0 where
@@ -22,7 +22,7 @@ pub data Place : Type 0 where
 
 abbrev pub left_at : Tree → Machine → Place → State → Run Ending
 left_at plan m between_turns s = left_of plan m s
-left_at plan m (before_element depth number round) s = left_behind plan m (meaning (here_in plan m) depth number round s)
+left_at plan m (before_element depth number round) s = left_after plan m (meaning (here_in plan m) depth number round s)
 
 -- The steps that are done have come to a place of the thread's run. Since then the variables are as they were, functions
 -- stand at a later moment, and the outside has been asked for what is left at this place alone.

@@ -73,12 +73,12 @@ abbrev pub here_in : Tree → Machine → Here
 here_in plan m = record { plan = plan; at_failure = m.at_failure }
 
 -- what is left of a thread's rounds after a part of its run
-abbrev pub left_behind : Tree → Machine → Run Ending → Run Ending
-left_behind plan m inner = left_in (here_in plan m) m.group m.stack.frames inner
+abbrev pub left_after : Tree → Machine → Run Ending → Run Ending
+left_after plan m inner = left_in (here_in plan m) m.group m.stack.frames inner
 
 -- what is left of a thread's rounds
 abbrev pub left_of : Tree → Machine → State → Run Ending
-left_of plan m s = left_behind plan m (over (record { state = s; signal = m.signal }))
+left_of plan m s = left_after plan m (over (record { state = s; signal = m.signal }))
 
 -- what the thread carries beside its variables, with that many units left: the machine keeps the rounds and the places
 abbrev pub own_at : Machine → ℕ → Own
@@ -106,11 +106,11 @@ ended end s = stopped end s
 -- what is left after a move; sections come to no move yet
 abbrev pub moved : Tree → Machine → State → Move → Run Ending
 moved plan m s (Iteration index) = left_of plan m s
-moved plan m s (RunSampler number) = left_behind plan m (sampler_part (here_in plan m) number (slice_get plan.elements number) s)
+moved plan m s (RunSampler number) = left_after plan m (sampler_part (here_in plan m) number (slice_get plan.elements number) s)
 moved plan m s (EnterSection lock) = left_of plan m s
 moved plan m s (LeaveSection lock) = left_of plan m s
 moved plan m s (TransactionSample element tally) =
-    left_behind plan m (with_own_sample (label_at plan.elements element) tally (record { state = s; signal = m.signal }))
+    left_after plan m (with_own_sample (label_at plan.elements element) tally (record { state = s; signal = m.signal }))
 moved plan m s (Finished end) = over (ended end s)
 
 -- the ends that a machine finishes with

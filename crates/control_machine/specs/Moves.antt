@@ -5,7 +5,7 @@ use Rattle.jm_base.specs.Run.{Run, over}
 use Rattle.element_tree.specs.declared.package.Turn.{Turn}
 use Rattle.element_tree.specs.declared.package.Turn.TheVariants.{Child, Round, Over}
 use Rattle.cursor_steps.specs.declared.pass.Pass.{Pass}
-use Rattle.cursor_steps.specs.Step.{Step}
+use Rattle.cursor_steps.specs.CursorStep.{Step}
 use Rattle.jm_meaning.specs.State.{State, Own, Ending, Part, state_of, normal, stopped, and_then, with_round}
 use Rattle.jm_meaning.specs.Children.{Below, one_of}
 

@@ -22,7 +22,7 @@ use Rattle.control_machine.specs.declared.moves.Leave.TheVariants as leaves
 use Rattle.jm_meaning.specs.declared.transaction.Tally.{Tally}
 use Rattle.control_machine.specs.Moves.{turned}
 use Rattle.control_machine.specs.Cursors.{cursor_left, round_in, tally_in}
-use Rattle.control_machine.specs.Left.{left_of, left_in, left_behind, closed, here_in, moved, IsMove}
+use Rattle.control_machine.specs.Left.{left_of, left_in, left_after, closed, here_in, moved, IsMove}
 use Rattle.control_machine.specs.Load.{children_count, scale, load, remaining, children_left}
 
 -- what is left after a turn
@@ -60,7 +60,7 @@ left_from plan m f inner = left_in (here_in plan m) m.group (f ∷ m.stack.frame
 -- what is left where an element that was taken out of the open ones has answered
 abbrev pub left_answered : Tree → Machine → Frame → Element → Turn → State → Run Ending
 left_answered plan m f e turn s =
-    left_behind plan m (closed (here_in plan m) f (turned (meaning (here_in plan m) f.depth) (round_in f.round f.cursor) (children_of plan.elements e)
+    left_after plan m (closed (here_in plan m) f (turned (meaning (here_in plan m) f.depth) (round_in f.round f.cursor) (children_of plan.elements e)
     (cursor_left (meaning (here_in plan m) f.depth) f.round (children_of plan.elements e) e f.cursor) s turn))
 
 -- the load of these open elements, in a machine

@@ -4,7 +4,7 @@ ghost use Rattle.std.specs.Prelude.{◌≡◌, slice_get, length, Some, ℕ, Lis
 ghost use Rattle.template_text.specs.Pieces.{Pieces};
 ghost use Rattle.element_tree.specs.declared.kinds.Element.{Element};
 ghost use Rattle.var_functions.specs.Came.{CameTo};
-ghost use Rattle.cursor_steps.specs.Step.{IsThere};
+ghost use Rattle.cursor_steps.specs.CursorStep.{IsThere};
 ghost use Rattle.logic_controllers.specs.ForEachController.{Row, kind_of};
 ghost use Rattle.jm_meaning.specs.State.{Own, State, state_of, at_places};
 ghost use Rattle.jm_meaning.specs.Children.{Below, children_of};

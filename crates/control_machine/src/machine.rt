@@ -140,7 +140,7 @@ impl Machine {
         ensures stands { (plan : Tree) → StandsIn plan self.old → StandsIn plan self.new }
     {
         self.stack.hear(sample);
-        self.signal = signal_behind(sample.ok, self.at_failure);
+        self.signal = signal_after(sample.ok, self.at_failure);
     }
 
     /// Makes the next moves those of a way out.
@@ -182,7 +182,7 @@ impl Machine {
 }
 
 // The signal after a sample.
-fn signal_behind(ok: bool, at_failure: Signal) -> Signal
+fn signal_after(ok: bool, at_failure: Signal) -> Signal
     ensures { result ≡ after_sample ok at_failure }
 {
     if ok { Signal::Normal } else { at_failure }

@@ -15,7 +15,7 @@ ghost use Rattle.jm_meaning.specs.Meaning.{meaning};
 ghost use Rattle.jm_meaning.specs.Beginning.{max_rounds};
 ghost use Rattle.jm_meaning.specs.declared.signal.Signal.{Signal};
 ghost use Rattle.control_machine.specs.Moves.{past};
-ghost use Rattle.control_machine.specs.Left.{StandsIn, GroupIsOpen, IsOpen, left_of, left_behind, state_at, moved, IsMove, here_in};
+ghost use Rattle.control_machine.specs.Left.{StandsIn, GroupIsOpen, IsOpen, left_of, left_after, state_at, moved, IsMove, here_in};
 ghost use Rattle.control_machine.specs.Turns.{Lightens, TakesRound, IsRoundless, IsNormalAt, IsNormalOn, IsRoundOf, IsRoundIn, went, IsWent, closing_of, left_from, left_answered, load_in, IsOpened};
 ghost use Rattle.control_machine.specs.Load.{children_left, TakesChild, load_of};
 ghost use Rattle.control_machine.specs.Cut.{IsCut};
@@ -278,7 +278,7 @@ impl Machine {
         requires nests { Nests depth plan.now.elements child }
         requires depth { depth ≤ 30 }
         ensures came { (units : ℕ)
-            → CameTo (O.account outside.old) (left_behind plan.now self.old (meaning (here_in plan.now self.old) depth child round (state_at self.old units state.old))) (O.account outside.new)
+            → CameTo (O.account outside.old) (left_after plan.now self.old (meaning (here_in plan.now self.old) depth child round (state_at self.old units state.old))) (O.account outside.new)
             (went plan.now self.new (state_at self.new units state.new))
             (past (state_at self.new units state.new)) result }
         ensures given { IfOk result (IsWent plan.now.elements) }
@@ -289,7 +289,7 @@ impl Machine {
         ensures index { IfOk result (λ w. IsRoundIn w self.new.group) }
         ensures later { IsLater state.old.fns state.new.fns }
         ensures cut { OnErr result (IsCut plan.now (O.account outside.old)
-            (λ units. left_behind plan.now self.old (meaning (here_in plan.now self.old) depth child round (state_at self.old units state.old))) (O.account outside.new) state.new) }
+            (λ units. left_after plan.now self.old (meaning (here_in plan.now self.old) depth child round (state_at self.old units state.old))) (O.account outside.new) state.new) }
     {
         match enter(alloc, plan, child, &mut self.places, state, outside) {
             Ok(Entered::Nothing) => Ok(Went::On),

@@ -118,7 +118,7 @@ fn compare(rt: &impl Abort, core: &Core, samples: &Samples) -> u64 {
     counted
 }
 
-// one schedule, in which so many of the writers record, and the reporter has its share of the steps; how many samples its closed reports have
+// one schedule, in which that many of the writers record, and the reporter has its share of the steps; how many samples its closed reports have
 fn schedule<R: Abort + AllocGlobal>(rt: &R, words: &mut ChaCha8Rng) -> Result<u64, Fail> {
     let mut core = Core::new(rt.alloc(), 1, 3, 10)?;
     let _first = core.apply(rt.alloc(), Event::Split)?;

@@ -13,7 +13,7 @@ use Rattle.var_functions.specs.Vars.{Variables, Puts}
 use Rattle.var_functions.specs.Expansion.{expanded, expansion}
 use Rattle.var_functions.specs.Came.{CameTo, Refused, by_limit, by_memory}
 use Rattle.var_functions.proofs.CameLaws.{refused-bind}
-use Rattle.cursor_steps.specs.Step.{Step, past_limit, with_vars, with_text, expanding}
+use Rattle.cursor_steps.specs.CursorStep.{Step, past_limit, with_vars, with_text, expanding}
 
 -- a template whose text came
 pub text-came : {A C : Type 0} (a b : Account) (template : Pieces) (old new : UserState) (text : List ℕ) (cursor : C) (next : List ℕ → UserState → Run (Step A C))

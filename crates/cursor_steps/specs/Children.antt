@@ -51,11 +51,11 @@ abbrev pub is_left : Pass → Bool
 is_left p = nat_lt p.next p.children
 
 -- with one more of them run
-abbrev pub behind_child : Pass → Pass
-behind_child p = record p { next = p.next + 1 }
+abbrev pub after_child : Pass → Pass
+after_child p = record p { next = p.next + 1 }
 
 -- the pass of a controller after its answer: the child that comes next is run, or a pass over all children begins, or it stands
 abbrev pub Passes : Pass → Pass → Turn → Type 0
-Passes old new (Child place) = (place ≡ old.next) × (place < old.children) × (new ≡ behind_child old)
+Passes old new (Child place) = (place ≡ old.next) × (place < old.children) × (new ≡ after_child old)
 Passes old new Round = new ≡ pass_over old.children
 Passes old new Over = new ≡ old

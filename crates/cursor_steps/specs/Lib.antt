@@ -1,3 +1,3 @@
-pub mod Step
+pub mod CursorStep
 pub mod Children
 pub mod Numeral

@@ -2,7 +2,7 @@
 
 ghost use Rattle.std.specs.Prelude.{◌≡◌, ◌+◌, ◌<◌, ◌≤◌, MatchOption};
 ghost use Rattle.std.specs.List.{count_by};
-ghost use Rattle.cursor_steps.specs.Children.{is_run_class, is_run_at, run_count, pass_over, none_left, behind_child};
+ghost use Rattle.cursor_steps.specs.Children.{is_run_class, is_run_at, run_count, pass_over, none_left, after_child};
 
 use element_tree::{Class, Element, Plan};
 
@@ -37,7 +37,7 @@ impl Pass {
     pub fn take_child(&mut self) -> u16
         requires { self.old.next < self.old.children }
         ensures place { result ≡ self.old.next }
-        ensures behind { self.new ≡ behind_child self.old }
+        ensures moved { self.new ≡ after_child self.old }
     {
         let place = self.next;
         self.next += 1;
@@ -47,7 +47,7 @@ impl Pass {
     /// The place of the next child, where one is left. The pass then stands after it.
     pub fn next_child(&mut self) -> Option<u16>
         ensures { MatchOption result ((self.old.children ≤ self.old.next) × (self.new ≡ self.old))
-            (λ place. (place ≡ self.old.next) × (place < self.old.children) × (self.new ≡ behind_child self.old)) }
+            (λ place. (place ≡ self.old.next) × (place < self.old.children) × (self.new ≡ after_child self.old)) }
     {
         if self.next < self.children {
             Some(self.take_child())

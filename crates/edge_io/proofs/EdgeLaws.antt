@@ -99,5 +99,5 @@ read_front items into left piece at n is copied w =
     let within : n ≤ length (drop at items) = omega (arith, length-drop at items) in
     let piece_is : piece ≡ take n (drop at items) = copied ∙ ap (λ k. take k (drop at items)) count in
     let long : length piece ≡ n = ap length piece_is ∙ length-take-le n (drop at items) within in
-    let front : take n (piece ++ drop n into) ≡ take n (drop at items) = take_at piece (drop n into) n long ∙ piece_is in
-    is ∙ sym (take-append-drop n (drop at items)) ∙ ap (λ l. take n (drop at items) ++ l) (drop-drop n at items) ∙ ap (λ l. l ++ drop (at + n) items) (sym front)
+    let prefix : take n (piece ++ drop n into) ≡ take n (drop at items) = take_at piece (drop n into) n long ∙ piece_is in
+    is ∙ sym (take-append-drop n (drop at items)) ∙ ap (λ l. take n (drop at items) ++ l) (drop-drop n at items) ∙ ap (λ l. l ++ drop (at + n) items) (sym prefix)

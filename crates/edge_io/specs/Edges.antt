@@ -17,5 +17,5 @@ abbrev pub TookAtMost : Option (List ℕ) → Option (List ℕ) → ℕ → Type
 TookAtMost before after most = (n : ℕ) × (n ≤ most) × TookCount before after n
 
 -- a prefix of the piece went out, and not all of it
-abbrev pub AppendsFront : Option (List ℕ) → Option (List ℕ) → List ℕ → Type 0
-AppendsFront before after piece = (n : ℕ) × (n < length piece) × Appends before after (take n piece)
+abbrev pub AppendsProperPrefix : Option (List ℕ) → Option (List ℕ) → List ℕ → Type 0
+AppendsProperPrefix before after piece = (n : ℕ) × (n < length piece) × Appends before after (take n piece)

@@ -1,4 +1,4 @@
 pub mod Edges
 pub mod Memory
 pub mod Adapter
-pub mod Reading
+pub mod ReadAll

@@ -2,7 +2,7 @@
 
 ghost use Rattle.std.specs.Prelude.{◌≡◌, ◌<◌, ◌≤◌, ℕ, List, Option, length, take, IfOk, OnOk, OnErr};
 ghost use Rattle.std.specs.Io.KnownBytes.{Appends, Keeps};
-ghost use Rattle.edge_io.specs.Edges.{AppendsFront};
+ghost use Rattle.edge_io.specs.Edges.{AppendsProperPrefix};
 ghost use Rattle.jm_base.specs.Counts.{Rose};
 
 use jm_base::Failed;
@@ -34,7 +34,7 @@ pub fn write_all<K: Sink>(sink: &mut K, piece: &[u8]) -> Result<(), Failed>
     ensures whole { OnOk result (Appends (K.written sink.old) (K.written sink.new) piece.now) }
     ensures ok { OnOk result (K.faults sink.new ≡ K.faults sink.old) }
 
-    ensures front { OnErr result (AppendsFront (K.written sink.old) (K.written sink.new) piece.now) }
+    ensures prefix { OnErr result (AppendsProperPrefix (K.written sink.old) (K.written sink.new) piece.now) }
     ensures cause { OnErr result (Rose (K.faults sink.old) (K.faults sink.new)) }
 {
     let mut at = 0;

@@ -46,7 +46,7 @@ pub enum ReadError {
 
 impl fmt::Display for ReadError {
     ghost use Rattle.std.specs.Prelude.{Some};
-    ghost use Rattle.edge_io.specs.Reading.{read_error_text};
+    ghost use Rattle.edge_io.specs.ReadAll.{read_error_text};
 
     ghost output = { λ e. Some (read_error_text e) };
 

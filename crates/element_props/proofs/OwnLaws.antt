@@ -9,7 +9,7 @@ use Rattle.element_props.specs.declared.error.BuildError.TheVariants as errors
 use Rattle.element_props.specs.declared.error.PatternFault.TheVariants.{Syntax, Size}
 use Rattle.element_props.specs.declared.prop.Prop.{Prop}
 use Rattle.element_props.specs.declared.prop.Prop.TheVariants as props
-use Rattle.element_props.specs.Rows.{Form, Row}
+use Rattle.element_props.specs.FormRows.{Form, Row}
 use Rattle.element_props.specs.Patterns.{Asked, reading_of}
 use Rattle.element_props.specs.Answers.{is_of_maker, IsByPlan, Answered}
 use Rattle.element_props.specs.Reads.{Reads, over, refuse, ask, ◌>>=◌, refuse_if, or_refuse, outcome, judged_at, judged, Path, here, asked, Goes, Ends, refused, unread, too_large, Stops, Gives}

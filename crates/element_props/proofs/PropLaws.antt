@@ -11,32 +11,32 @@ use Rattle.element_props.specs.Forms.{all_of, few_of, place_in, is_no_item, has_
 
 -- what was read, before what is left
 abbrev pub before : {A : Type 0} → List A → Option (List A) → Option (List A)
-before front rest = option_map (λ xs. front ++ xs) rest
+before prefix rest = option_map (λ xs. prefix ++ xs) rest
 
-one_more : {A : Type 0} (front : List A) (x : A) (rest : Option (List A)) → before front (option_map (λ xs. x ∷ xs) rest) ≡ before (front ++ x ∷ []) rest
-one_more front x None = refl
-one_more front x (Some xs) = ap Some (sym (append_assoc front (x ∷ []) xs))
+one_more : {A : Type 0} (prefix : List A) (x : A) (rest : Option (List A)) → before prefix (option_map (λ xs. x ∷ xs) rest) ≡ before (prefix ++ x ∷ []) rest
+one_more prefix x None = refl
+one_more prefix x (Some xs) = ap Some (sym (append_assoc prefix (x ∷ []) xs))
 
 items_step : (vs : List Value) (i : ℕ) (v : Value) → i < length vs → v ≡ get_or vs i v → items_view (drop i vs) ≡ item (view v) (items_view (drop (i + 1) vs))
 items_step vs i v h is = rw add-one (ap items_view (drop-cons vs i v h) ∙ ap (λ w. item (view w) (items_view (drop (suc i) vs))) (sym is))
 
-pub all_done : {A : Type 0} (read : Data → Option A) (front : List A) (vs : List Value) (i : ℕ) (v : Value) (x : A) → i < length vs → v ≡ get_or vs i v → read (view v) ≡ Some x
-    → before front (all_of read (items_view (drop i vs))) ≡ all_of read (items_view vs) → before (front ++ x ∷ []) (all_of read (items_view (drop (i + 1) vs))) ≡ all_of read (items_view vs)
-all_done {A} read front vs i v x h is e kept = sym (one_more front x _) ∙ ap (λ (o : Option A). before front (option_and_then (λ y. option_map (λ xs. y ∷ xs) (all_of read (items_view (drop (i + 1) vs)))) o)) (sym e)
-    ∙ ap (λ ds. before front (all_of read ds)) (sym (items_step vs i v h is)) ∙ kept
+pub all_done : {A : Type 0} (read : Data → Option A) (prefix : List A) (vs : List Value) (i : ℕ) (v : Value) (x : A) → i < length vs → v ≡ get_or vs i v → read (view v) ≡ Some x
+    → before prefix (all_of read (items_view (drop i vs))) ≡ all_of read (items_view vs) → before (prefix ++ x ∷ []) (all_of read (items_view (drop (i + 1) vs))) ≡ all_of read (items_view vs)
+all_done {A} read prefix vs i v x h is e kept = sym (one_more prefix x _) ∙ ap (λ (o : Option A). before prefix (option_and_then (λ y. option_map (λ xs. y ∷ xs) (all_of read (items_view (drop (i + 1) vs)))) o)) (sym e)
+    ∙ ap (λ ds. before prefix (all_of read ds)) (sym (items_step vs i v h is)) ∙ kept
 
-pub not_all : {A : Type 0} (read : Data → Option A) (front : List A) (vs : List Value) (i : ℕ) (v : Value) → i < length vs → v ≡ get_or vs i v → read (view v) ≡ None
-    → before front (all_of read (items_view (drop i vs))) ≡ all_of read (items_view vs) → all_of read (items_view vs) ≡ None
-not_all {A} read front vs i v h is e kept = sym kept ∙ ap (λ ds. before front (all_of read ds)) (items_step vs i v h is)
-    ∙ ap (λ (o : Option A). before front (option_and_then (λ y. option_map (λ xs. y ∷ xs) (all_of read (items_view (drop (i + 1) vs)))) o)) e
+pub not_all : {A : Type 0} (read : Data → Option A) (prefix : List A) (vs : List Value) (i : ℕ) (v : Value) → i < length vs → v ≡ get_or vs i v → read (view v) ≡ None
+    → before prefix (all_of read (items_view (drop i vs))) ≡ all_of read (items_view vs) → all_of read (items_view vs) ≡ None
+not_all {A} read prefix vs i v h is e kept = sym kept ∙ ap (λ ds. before prefix (all_of read ds)) (items_step vs i v h is)
+    ∙ ap (λ (o : Option A). before prefix (option_and_then (λ y. option_map (λ xs. y ∷ xs) (all_of read (items_view (drop (i + 1) vs)))) o)) e
 
 pub all_start : {A : Type 0} (o : Option (List A)) → before [] o ≡ o
 all_start None = refl
 all_start (Some xs) = refl
 
-pub all_end : {A : Type 0} (read : Data → Option A) (front : List A) (vs : List Value) (i : ℕ) → length vs ≤ i
-    → before front (all_of read (items_view (drop i vs))) ≡ all_of read (items_view vs) → all_of read (items_view vs) ≡ Some front
-all_end read front vs i h kept = sym kept ∙ ap (λ (ws : List Value). before front (all_of read (items_view ws))) (drop_all i vs h) ∙ ap Some (append-nil front)
+pub all_end : {A : Type 0} (read : Data → Option A) (prefix : List A) (vs : List Value) (i : ℕ) → length vs ≤ i
+    → before prefix (all_of read (items_view (drop i vs))) ≡ all_of read (items_view vs) → all_of read (items_view vs) ≡ Some prefix
+all_end read prefix vs i h kept = sym kept ∙ ap (λ (ws : List Value). before prefix (all_of read (items_view ws))) (drop_all i vs h) ∙ ap Some (append-nil prefix)
 
 -- a list of 1 to that many values
 pub few_are : {A : Type 0} (most : ℕ) (read : Data → Option A) (vs : List Value) → (nat_le 1 (length vs) && nat_le (length vs) most) ≡ true → few_of most read (items_view vs) ≡ all_of read (items_view vs)

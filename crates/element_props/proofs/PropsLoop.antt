@@ -8,9 +8,9 @@ use Rattle.element_props.specs.declared.error.BuildError.{BuildError}
 use Rattle.element_props.specs.declared.error.BuildError.TheVariants as errors
 use Rattle.element_props.specs.declared.prop.Prop.{Prop}
 use Rattle.element_props.specs.declared.rows.Row.{Row}
-use Rattle.element_props.specs.Rows as table
+use Rattle.element_props.specs.FormRows as table
 use Rattle.element_props.specs.Seen.{row_seen, presence_seen}
-use Rattle.element_props.specs.Rows.{is_short, are_short}
+use Rattle.element_props.specs.FormRows.{is_short, are_short}
 use Rattle.element_props.specs.Patterns.{Asked}
 use Rattle.element_props.specs.Reads.{Reads, over, refuse, ask, ◌>>=◌, Goes, Fails, Gives}
 use Rattle.element_props.specs.Forms.{given}
@@ -31,7 +31,7 @@ and_right false b h = cc
 
 -- what was read, before what is left
 abbrev pub props_before : List Prop → Reads (List Prop) → Reads (List Prop)
-props_before front r = r >>= (λ ps. over (front ++ ps))
+props_before prefix r = r >>= (λ ps. over (prefix ++ ps))
 
 bind_over : (r : Reads (List Prop)) → r ≡ props_before [] r
 bind_over (over ps) = refl
@@ -41,40 +41,40 @@ bind_over (ask p t r) = ap (ask p t) (bind_over r)
 pub rows_start : (a : Asked) (r : Reads (List Prop)) → Goes a r (props_before [] r) a
 rows_start a r = let P : Reads (List Prop) → Type 0 = λ s. Goes a r s a in subst P (bind_over r) (goes_nothing a r)
 
-shift : (front : List Prop) (p : Prop) (r : Reads (List Prop)) → (r >>= (λ ps. over (p ∷ ps))) >>= (λ ps. over (front ++ ps)) ≡ props_before (front ++ p ∷ []) r
-shift front p (over ps) = ap over (sym (append_assoc front (p ∷ []) ps))
-shift front p (refuse e) = refl
-shift front p (ask q t r) = ap (ask q t) (shift front p r)
+shift : (prefix : List Prop) (p : Prop) (r : Reads (List Prop)) → (r >>= (λ ps. over (p ∷ ps))) >>= (λ ps. over (prefix ++ ps)) ≡ props_before (prefix ++ p ∷ []) r
+shift prefix p (over ps) = ap over (sym (append_assoc prefix (p ∷ []) ps))
+shift prefix p (refuse e) = refl
+shift prefix p (ask q t r) = ap (ask q t) (shift prefix p r)
 
 rows_step : (rows : List Row) (i : ℕ) (row : Row) → i < length rows → row ≡ get_or rows i row → map row_seen (drop i rows) ≡ row_seen row ∷ map row_seen (drop (i + 1) rows)
 rows_step rows i row h is = rw add-one (ap (map row_seen) (drop-cons rows i row h) ∙ ap (λ r. row_seen r ∷ map row_seen (drop (suc i) rows)) (sym is))
 
-module _ (places : List ℕ) (ms : Members) (rows : List Row) (i : ℕ) (row : Row) (front : List Prop) (a b c : Asked) (h : i < length rows) (is : row ≡ get_or rows i row)
-    (kept : Goes a (properties places ms (map row_seen rows)) (props_before front (properties places ms (map row_seen (drop i rows)))) b) where
-  here : Goes a (properties places ms (map row_seen rows)) (props_before front (properties places ms (row_seen row ∷ map row_seen (drop (i + 1) rows)))) b
-  here = let P : List table.Row → Type 0 = λ rs. Goes a (properties places ms (map row_seen rows)) (props_before front (properties places ms rs)) b in subst P (rows_step rows i row h is) kept
+module _ (places : List ℕ) (ms : Members) (rows : List Row) (i : ℕ) (row : Row) (prefix : List Prop) (a b c : Asked) (h : i < length rows) (is : row ≡ get_or rows i row)
+    (kept : Goes a (properties places ms (map row_seen rows)) (props_before prefix (properties places ms (map row_seen (drop i rows)))) b) where
+  here : Goes a (properties places ms (map row_seen rows)) (props_before prefix (properties places ms (row_seen row ∷ map row_seen (drop (i + 1) rows)))) b
+  here = let P : List table.Row → Type 0 = λ rs. Goes a (properties places ms (map row_seen rows)) (props_before prefix (properties places ms rs)) b in subst P (rows_step rows i row h is) kept
 
   pub row_done : (p : Prop) → Goes b (property places ms (row_seen row)) (over p) c
-      → Goes a (properties places ms (map row_seen rows)) (props_before (front ++ p ∷ []) (properties places ms (map row_seen (drop (i + 1) rows)))) c
+      → Goes a (properties places ms (map row_seen rows)) (props_before (prefix ++ p ∷ []) (properties places ms (map row_seen (drop (i + 1) rows)))) c
   unfolding properties
   row_done p g =
       let rest = properties places ms (map row_seen (drop (i + 1) rows)) in
       let first = goes_bind (λ (q : Prop). rest >>= (λ ps. over (q ∷ ps))) g in
-      let second = goes_bind (λ ps. over (front ++ ps)) first in
-      let P : Reads (List Prop) → Type 0 = λ r. Goes b (props_before front (properties places ms (row_seen row ∷ map row_seen (drop (i + 1) rows)))) r c in
-      goes_append here (subst P (shift front p rest) second)
+      let second = goes_bind (λ ps. over (prefix ++ ps)) first in
+      let P : Reads (List Prop) → Type 0 = λ r. Goes b (props_before prefix (properties places ms (row_seen row ∷ map row_seen (drop (i + 1) rows)))) r c in
+      goes_append here (subst P (shift prefix p rest) second)
 
   pub row_fails : (e : BuildError) → Fails b (property places ms (row_seen row)) e c → Fails a (properties places ms (map row_seen rows)) e c
   unfolding properties
   row_fails e s = fails_after here (fails_bind _ (fails_bind _ s))
 
-pub rows_end : (places : List ℕ) (ms : Members) (rows : List Row) (i : ℕ) (front : List Prop) (a b : Asked) → length rows ≤ i
-    → Goes a (properties places ms (map row_seen rows)) (props_before front (properties places ms (map row_seen (drop i rows)))) b
-    → Goes a (properties places ms (map row_seen rows)) (over front) b
+pub rows_end : (places : List ℕ) (ms : Members) (rows : List Row) (i : ℕ) (prefix : List Prop) (a b : Asked) → length rows ≤ i
+    → Goes a (properties places ms (map row_seen rows)) (props_before prefix (properties places ms (map row_seen (drop i rows)))) b
+    → Goes a (properties places ms (map row_seen rows)) (over prefix) b
 unfolding properties
-rows_end places ms rows i front a b h kept =
-    let e : props_before front (properties places ms (map row_seen (drop i rows))) ≡ over front =
-    ap (λ (rs : List Row). props_before front (properties places ms (map row_seen rs))) (drop_all i rows h) ∙ ap over (append-nil front) in
+rows_end places ms rows i prefix a b h kept =
+    let e : props_before prefix (properties places ms (map row_seen (drop i rows))) ≡ over prefix =
+    ap (λ (rs : List Row). props_before prefix (properties places ms (map row_seen rs))) (drop_all i rows h) ∙ ap over (append-nil prefix) in
     let P : Reads (List Prop) → Type 0 = λ r. Goes a (properties places ms (map row_seen rows)) r b in
     subst P e kept
 

@@ -14,7 +14,7 @@ use Rattle.serde_json.specs.Find.{as_str, as_array}
 use Rattle.element_props.specs.declared.error.What.TheVariants as what
 use Rattle.element_props.specs.declared.prop.Prop.{Prop}
 use Rattle.element_props.specs.declared.prop.Prop.TheVariants as props
-use Rattle.element_props.specs.Rows.{Form}
+use Rattle.element_props.specs.FormRows.{Form}
 use Rattle.element_props.specs.Forms.{is_too_long, value_of, finished, pattern_asked, pattern_checked, around, around_asked, one_asked, each_asked, is_test, whole_of, regexes_checked, tests_checked, tests_given, few_of, is_pattern, is_test_patterns, has_reference, given}
 use Rattle.element_props.specs.Reads.{Reads, over, refuse, ask, ◌>>=◌, Path, here, asked, Goes, Ends, refused, unread, too_large, Stops, Next, nothing, asking, RunsOut, Fails, Gives, Answers}
 

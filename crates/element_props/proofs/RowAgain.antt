@@ -14,7 +14,7 @@ use Rattle.element_props.specs.Forms.{has_long, items_have_long, is_too_long, te
 use Rattle.element_props.specs.Replies.{reply_in}
 use Rattle.element_props.specs.Props.{absent_value, is_template, is_required}
 use Rattle.element_props.specs.Written.{text_data, pair_data, reply_data, items_by, value_data, unless, int_eq, same_truth, is_default}
-use Rattle.element_props.specs.Rows.{Row, Form, template, plain, filled, lock, whole, up_to, flag, choice, pattern, test_patterns, pairs, replies, texts, csv, json_path, Presence, required, optional, text_default, number_default, truth_default, first_choice, no_pairs, largest}
+use Rattle.element_props.specs.FormRows.{Row, Form, template, plain, filled, lock, whole, up_to, flag, choice, pattern, test_patterns, pairs, replies, texts, csv, json_path, Presence, required, optional, text_default, number_default, truth_default, first_choice, no_pairs, largest}
 use Rattle.element_props.specs.Again.{IsJson, Stands}
 use Rattle.element_props.proofs.TakenLaws.{checked, pattern_taken, any_reference, tests_taken, formed, taken, value_from}
 use Rattle.element_props.proofs.FormsAgain.{and_then_some, unless_some, checked_of, checked_to, plain_kept, passed_kept, text_kept, filled_same, path_same, table_same, template_fits, respelled, reread, not_long, whole_again, whole_inside, bound_small, place_again, string_is, truth_is, array_is, list_again, few_again, texts_back, pairs_back}

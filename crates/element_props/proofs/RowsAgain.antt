@@ -14,7 +14,7 @@ use Rattle.element_props.specs.declared.prop.Prop.TheVariants as props
 use Rattle.element_props.specs.Forms.{has_long, whole_within, place_in, all_of, few_of}
 use Rattle.element_props.specs.Props.{is_required, has_row, unknown, missing}
 use Rattle.element_props.specs.Written.{unless, is_default, value_data, entry, with_entry, written}
-use Rattle.element_props.specs.Rows.{Row, Form, whole, up_to, choice, test_patterns, texts, csv, Presence, required, number_default, largest, tests, ◌is◌otherwise◌}
+use Rattle.element_props.specs.FormRows.{Row, Form, whole, up_to, choice, test_patterns, texts, csv, Presence, required, number_default, largest, tests, ◌is◌otherwise◌}
 use Rattle.element_props.specs.Again.{HoldJson, are_apart, row_named, Stands, ReadsAgain}
 use Rattle.element_props.proofs.TakenLaws.{formed, value_from, value_here, values, taken_from, taken_to}
 use Rattle.element_props.proofs.FormsAgain.{and_then_some, unless_some, where_some, or_false, checked_of, place_again, map_some}

@@ -9,7 +9,7 @@ use Rattle.element_props.specs.declared.prop.Prop.{Prop}
 use Rattle.element_props.specs.declared.prop.Prop.TheVariants as props
 use Rattle.element_props.specs.declared.prop.Pair.{Pair}
 use Rattle.element_props.specs.Conditions.{bad_condition}
-use Rattle.element_props.specs.Rows.{Row, Form, Presence, pattern, test_patterns}
+use Rattle.element_props.specs.FormRows.{Row, Form, Presence, pattern, test_patterns}
 use Rattle.element_props.specs.Reads.{Reads, over, refuse, ask, ◌>>=◌, refuse_if, or_refuse, outcome}
 use Rattle.element_props.specs.Forms.{is_too_long, value_of, finished, cond_checked, pairs_checked, bad_pair, has_reference, pattern_asked, pattern_checked, around_asked, one_asked, each_asked, regexes_checked, tests_checked, tests_given, whole_of, few_of, is_test, is_pattern, is_test_patterns, given}
 use Rattle.element_props.specs.Props.{prop_at, absent_value, property_of, property, properties, unknown, missing, no_name, own_properties}

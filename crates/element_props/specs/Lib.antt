@@ -1,7 +1,7 @@
 pub mod Conditions
 pub mod PieceViews
 pub mod Patterns
-pub mod Rows
+pub mod FormRows
 pub mod Seen
 pub mod Makers
 pub mod Reads

@@ -7,7 +7,7 @@ use Rattle.element_props.specs.declared.rows.Presence.{Presence}
 use Rattle.element_props.specs.declared.rows.Presence.TheVariants as presences
 use Rattle.element_props.specs.declared.rows.Words.{Words}
 use Rattle.element_props.specs.declared.rows.Words.TheVariants as words
-use Rattle.element_props.specs.Rows as rows
+use Rattle.element_props.specs.FormRows as rows
 
 abbrev pub words_seen : Words → List (List ℕ)
 words_seen words.OnError = rows.on_errors

@@ -5,7 +5,7 @@ ghost use Rattle.serde_json.specs.View.{view};
 ghost use Rattle.serde_json.specs.Find.{as_str, get_member};
 ghost use Rattle.plan_json.specs.Shape.{members_in};
 ghost use Rattle.element_props.specs.Conditions.{bad_condition, plain_bytes};
-ghost use Rattle.element_props.specs.Rows.{is_short, are_short};
+ghost use Rattle.element_props.specs.FormRows.{is_short, are_short};
 ghost use Rattle.element_props.specs.Reads.{Gives, Answers, or_refuse, judged};
 ghost use Rattle.element_props.specs.Answers.{Answered, IsByPlan};
 ghost use Rattle.element_props.specs.declared.error.PatternFault.TheVariants.{Size};

@@ -14,7 +14,7 @@ use Rattle.element_props.specs.declared.prop.Prop.{Prop}
 use Rattle.element_props.specs.Again.{HoldJson, ReadsAgain}
 use Rattle.element_props.specs.Props.{own_properties}
 use Rattle.element_props.specs.Reads.{over, ◌>>=◌, refuse_if, or_refuse, outcome}
-use Rattle.element_props.specs.Rows.{Row}
+use Rattle.element_props.specs.FormRows.{Row}
 use Rattle.element_props.specs.Written.{written}
 use Rattle.element_tree.specs.declared.kinds.Kind.{Kind}
 use Rattle.element_tree.specs.declared.kinds.Element.{Element}

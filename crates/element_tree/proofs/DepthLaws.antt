@@ -10,7 +10,7 @@ use Rattle.plan_json.specs.Shape.{Raw, reading_of}
 use Rattle.element_props.specs.declared.prop.Pair.{Pair}
 use Rattle.element_props.specs.declared.prop.Prop.{Prop}
 use Rattle.element_props.specs.declared.prop.Prop.TheVariants.{Absent, Template, Text, Number, Truth, Choice, Pattern, Pairs, Replies, Texts, Patterns}
-use Rattle.element_props.specs.Rows.{Form, Row}
+use Rattle.element_props.specs.FormRows.{Form, Row}
 use Rattle.element_props.specs.Written.{text_data, with_entry, unless, reply_members, pair_data, reply_data, items_by, value_data, is_default, entry, written}
 use Rattle.element_tree.specs.declared.kinds.Element.{Element}
 use Rattle.element_tree.specs.Table.{rows}

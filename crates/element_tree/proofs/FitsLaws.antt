@@ -11,7 +11,7 @@ use Rattle.element_props.specs.declared.error.BuildError.{BuildError}
 use Rattle.element_props.specs.declared.error.BuildError.TheVariants.{BadProp, MissingProp}
 use Rattle.element_props.specs.declared.prop.Prop.{Prop}
 use Rattle.element_props.specs.declared.prop.Prop.TheVariants as props
-use Rattle.element_props.specs.Rows.{Form, template, plain, filled, lock, whole, up_to, flag, choice, pattern, test_patterns, pairs, replies, texts, csv, json_path, largest, Row}
+use Rattle.element_props.specs.FormRows.{Form, template, plain, filled, lock, whole, up_to, flag, choice, pattern, test_patterns, pairs, replies, texts, csv, json_path, largest, Row}
 use Rattle.element_props.specs.Reads.{◌>>=◌, refuse_if, or_refuse, outcome}
 use Rattle.element_props.specs.Forms.{given, value_of, finished, cond_checked, pairs_checked, pattern_checked, pattern_asked, tests_given, tests_checked, regexes_checked, each_asked, whole_of, has_long, is_too_long, text_limit, whole_within, within, up_to_bound, place_in, filled_text, path_text, table_text, bad_pair, has_reference, few_of, is_pattern, is_test_patterns}
 use Rattle.element_props.specs.Conditions.{bad_condition}

@@ -10,23 +10,23 @@ use Rattle.json.specs.Text.{code_unit, short_escape, is_high_surrogate, is_low_s
 
 -- ---- a text that is cut beside an ASCII byte
 
-pub before_byte : (front xs : List ℕ) (x : ℕ) → x < 128 → IsUtf8 (front ++ x ∷ xs) → IsUtf8 front
-before_byte front xs x small u =
-    let there : get_or (front ++ x ∷ xs) (length front) 0 ≡ x = get_or-append_seam front x xs 0 in
-    let within : length front < length (front ++ x ∷ xs) = omega (arith, length-append front (x ∷ xs)) in
-    subst IsUtf8 (take-append_seam front (x ∷ xs)) (IsUtf8-take (front ++ x ∷ xs) (length front) u (IsCharBoundary-before_ascii (front ++ x ∷ xs) (length front) within (omega (arith, there))))
+pub before_byte : (prefix xs : List ℕ) (x : ℕ) → x < 128 → IsUtf8 (prefix ++ x ∷ xs) → IsUtf8 prefix
+before_byte prefix xs x small u =
+    let there : get_or (prefix ++ x ∷ xs) (length prefix) 0 ≡ x = get_or-append_seam prefix x xs 0 in
+    let within : length prefix < length (prefix ++ x ∷ xs) = omega (arith, length-append prefix (x ∷ xs)) in
+    subst IsUtf8 (take-append_seam prefix (x ∷ xs)) (IsUtf8-take (prefix ++ x ∷ xs) (length prefix) u (IsCharBoundary-before_ascii (prefix ++ x ∷ xs) (length prefix) within (omega (arith, there))))
 
-pub after_byte : (front xs : List ℕ) (x : ℕ) → x < 128 → IsUtf8 (front ++ x ∷ xs) → IsUtf8 xs
-after_byte front xs x small u =
-    let there : get_or (front ++ x ∷ xs) (length front) 0 ≡ x = get_or-append_seam front x xs 0 in
-    let within : length front < length (front ++ x ∷ xs) = omega (arith, length-append front (x ∷ xs)) in
-    subst IsUtf8 (drop-append-add front (x ∷ xs) 1) (IsUtf8-drop (front ++ x ∷ xs) (length front + 1) u (IsCharBoundary-after_ascii (front ++ x ∷ xs) (length front) u within (omega (arith, there))))
+pub after_byte : (prefix xs : List ℕ) (x : ℕ) → x < 128 → IsUtf8 (prefix ++ x ∷ xs) → IsUtf8 xs
+after_byte prefix xs x small u =
+    let there : get_or (prefix ++ x ∷ xs) (length prefix) 0 ≡ x = get_or-append_seam prefix x xs 0 in
+    let within : length prefix < length (prefix ++ x ∷ xs) = omega (arith, length-append prefix (x ∷ xs)) in
+    subst IsUtf8 (drop-append-add prefix (x ∷ xs) 1) (IsUtf8-drop (prefix ++ x ∷ xs) (length prefix + 1) u (IsCharBoundary-after_ascii (prefix ++ x ∷ xs) (length prefix) u within (omega (arith, there))))
 
 one_byte : (x : ℕ) → x < 128 → IsUtf8 (x ∷ [])
 one_byte x small = let is : IsScalar x = grind (arith, nat_tests) in subst IsUtf8 (encode_ascii x small) (IsUtf8-encode x is)
 
-joined : (front s more : List ℕ) → IsUtf8 front → IsUtf8 more → IsUtf8 s → IsUtf8 (front ++ (more ++ s))
-joined front s more u v w = IsUtf8-append front (more ++ s) u (IsUtf8-append more s v w)
+joined : (prefix s more : List ℕ) → IsUtf8 prefix → IsUtf8 more → IsUtf8 s → IsUtf8 (prefix ++ (more ++ s))
+joined prefix s more u v w = IsUtf8-append prefix (more ++ s) u (IsUtf8-append more s v w)
 
 -- ---- what an escape is
 
@@ -89,13 +89,13 @@ pair_scalar h l high low = grind (arith, nat_tests)
 
 -- what was read so far and what is left, in each state
 abbrev Stands : Within → List ℕ → List ℕ → Type 0
-Stands plain front xs = IsUtf8 (front ++ xs)
-Stands after_backslash front xs = IsUtf8 front × IsUtf8 xs
-Stands after_u front xs = IsUtf8 front × IsUtf8 xs
-Stands (after_high h) front xs = (is_high_surrogate h ≡ true) × IsUtf8 front × IsUtf8 xs
+Stands plain prefix xs = IsUtf8 (prefix ++ xs)
+Stands after_backslash prefix xs = IsUtf8 prefix × IsUtf8 xs
+Stands after_u prefix xs = IsUtf8 prefix × IsUtf8 xs
+Stands (after_high h) prefix xs = (is_high_surrogate h ≡ true) × IsUtf8 prefix × IsUtf8 xs
 
 abbrev Reads : Within → List ℕ → Type 0
-Reads w xs = (front s : List ℕ) → Stands w front xs → content w xs ≡ Some s → IsUtf8 (front ++ s)
+Reads w xs = (prefix s : List ℕ) → Stands w prefix xs → content w xs ≡ Some s → IsUtf8 (prefix ++ s)
 
 prepended : (bytes s : List ℕ) (rest : Option (List ℕ)) → prepend bytes rest ≡ Some s → (t : List ℕ) × (rest ≡ Some t) × (bytes ++ t ≡ s)
 prepended bytes s None h = absurd (cc)
@@ -106,93 +106,93 @@ some_then f None b h = absurd (cc)
 some_then f (Some a) b h = (a, refl, h)
 
 -- more bytes are written, and the text goes on
-written_then : (more xs front s : List ℕ) → Reads plain xs → IsUtf8 front → IsUtf8 more → IsUtf8 xs → prepend more (content plain xs) ≡ Some s → IsUtf8 (front ++ s)
-written_then more xs front s next u v w h =
+written_then : (more xs prefix s : List ℕ) → Reads plain xs → IsUtf8 prefix → IsUtf8 more → IsUtf8 xs → prepend more (content plain xs) ≡ Some s → IsUtf8 (prefix ++ s)
+written_then more xs prefix s next u v w h =
     let p = prepended more s (content plain xs) h in
-    let P : List ℕ → Type 0 = λ t. IsUtf8 (front ++ t) in
-    subst P p.2 (joined front p.0 more u v (next [] p.0 w p.1))
+    let P : List ℕ → Type 0 = λ t. IsUtf8 (prefix ++ t) in
+    subst P p.2 (joined prefix p.0 more u v (next [] p.0 w p.1))
 
-plain_step : (x : ℕ) (xs front s : List ℕ) (a b c : Bool) → (x == ascii.quote) ≡ a → (x == ascii.backslash) ≡ b → IsUtf8 (front ++ x ∷ xs) → Reads plain xs → Reads after_backslash xs
-    → cond a (Some []) (cond b (content after_backslash xs) (cond c None (prepend (x ∷ []) (content plain xs)))) ≡ Some s → IsUtf8 (front ++ s)
-plain_step x xs front s true b c is_quote is_slash u more escaped h =
+plain_step : (x : ℕ) (xs prefix s : List ℕ) (a b c : Bool) → (x == ascii.quote) ≡ a → (x == ascii.backslash) ≡ b → IsUtf8 (prefix ++ x ∷ xs) → Reads plain xs → Reads after_backslash xs
+    → cond a (Some []) (cond b (content after_backslash xs) (cond c None (prepend (x ∷ []) (content plain xs)))) ≡ Some s → IsUtf8 (prefix ++ s)
+plain_step x xs prefix s true b c is_quote is_slash u more escaped h =
     let small : x < 128 = grind (arith, nat_tests) in
-    let P : List ℕ → Type 0 = λ t. IsUtf8 (front ++ t) in
+    let P : List ℕ → Type 0 = λ t. IsUtf8 (prefix ++ t) in
     let none : [] ≡ s = cc in
-    subst P none (subst IsUtf8 (sym (append-nil front)) (before_byte front xs x small u))
-plain_step x xs front s false true c is_quote is_slash u more escaped h =
+    subst P none (subst IsUtf8 (sym (append-nil prefix)) (before_byte prefix xs x small u))
+plain_step x xs prefix s false true c is_quote is_slash u more escaped h =
     let small : x < 128 = grind (arith, nat_tests) in
-    escaped front s (before_byte front xs x small u, after_byte front xs x small u) h
-plain_step x xs front s false false true is_quote is_slash u more escaped h = absurd (cc)
-plain_step x xs front s false false false is_quote is_slash u more escaped h =
+    escaped prefix s (before_byte prefix xs x small u, after_byte prefix xs x small u) h
+plain_step x xs prefix s false false true is_quote is_slash u more escaped h = absurd (cc)
+plain_step x xs prefix s false false false is_quote is_slash u more escaped h =
     let p = prepended (x ∷ []) s (content plain xs) h in
-    let moved : IsUtf8 ((front ++ x ∷ []) ++ xs) = subst IsUtf8 (sym (append_assoc front (x ∷ []) xs)) u in
-    let read = more (front ++ x ∷ []) p.0 moved p.1 in
-    let P : List ℕ → Type 0 = λ t. IsUtf8 (front ++ t) in
-    subst P p.2 (subst IsUtf8 (append_assoc front (x ∷ []) p.0) read)
+    let moved : IsUtf8 ((prefix ++ x ∷ []) ++ xs) = subst IsUtf8 (sym (append_assoc prefix (x ∷ []) xs)) u in
+    let read = more (prefix ++ x ∷ []) p.0 moved p.1 in
+    let P : List ℕ → Type 0 = λ t. IsUtf8 (prefix ++ t) in
+    subst P p.2 (subst IsUtf8 (append_assoc prefix (x ∷ []) p.0) read)
 
-slash_step : (x : ℕ) (xs front s : List ℕ) (a : Bool) → (x == ascii.lower_u) ≡ a → IsUtf8 front → IsUtf8 (x ∷ xs) → Reads plain xs → Reads after_u xs
-    → cond a (content after_u xs) (option_and_then (λ c. prepend (c ∷ []) (content plain xs)) (short_escape x)) ≡ Some s → IsUtf8 (front ++ s)
-slash_step x xs front s true is u v more unit h =
+slash_step : (x : ℕ) (xs prefix s : List ℕ) (a : Bool) → (x == ascii.lower_u) ≡ a → IsUtf8 prefix → IsUtf8 (x ∷ xs) → Reads plain xs → Reads after_u xs
+    → cond a (content after_u xs) (option_and_then (λ c. prepend (c ∷ []) (content plain xs)) (short_escape x)) ≡ Some s → IsUtf8 (prefix ++ s)
+slash_step x xs prefix s true is u v more unit h =
     let small : x < 128 = grind (arith, nat_tests) in
-    unit front s (u, after_byte [] xs x small v) h
-slash_step x xs front s false is u v more unit h =
+    unit prefix s (u, after_byte [] xs x small v) h
+slash_step x xs prefix s false is u v more unit h =
     let c = some_then (λ c. prepend (c ∷ []) (content plain xs)) (short_escape x) s h in
     let small = escape_is_ascii x c.0 c.1 in
-    written_then (c.0 ∷ []) xs front s more u (one_byte c.0 small.1) (after_byte [] xs x small.0 v) c.2
+    written_then (c.0 ∷ []) xs prefix s more u (one_byte c.0 small.1) (after_byte [] xs x small.0 v) c.2
 
 past_four : (a b c d u : ℕ) (xs : List ℕ) → Unit16 a b c d u → IsUtf8 (a ∷ b ∷ c ∷ d ∷ xs) → IsUtf8 xs
 past_four a b c d u xs is v = after_byte [] xs d is.d_ascii (after_byte [] (d ∷ xs) c is.c_ascii (after_byte [] (c ∷ d ∷ xs) b is.b_ascii (after_byte [] (b ∷ c ∷ d ∷ xs) a is.a_ascii v)))
 
-unit_where_step : (u : ℕ) (xs front s : List ℕ) (h l : Bool) → is_high_surrogate u ≡ h → is_low_surrogate u ≡ l → u < 65536 → IsUtf8 front → IsUtf8 xs → Reads plain xs → Reads (after_high u) xs
-    → cond h (content (after_high u) xs) (cond l None (prepend (encode_utf8 u) (content plain xs))) ≡ Some s → IsUtf8 (front ++ s)
-unit_where_step u xs front s true l high low small v w more pair h = pair front s (high, v, w) h
-unit_where_step u xs front s false true high low small v w more pair h = absurd (cc)
-unit_where_step u xs front s false false high low small v w more pair h = written_then (encode_utf8 u) xs front s more v (IsUtf8-encode u (lone_scalar u small high low)) w h
+unit_where_step : (u : ℕ) (xs prefix s : List ℕ) (h l : Bool) → is_high_surrogate u ≡ h → is_low_surrogate u ≡ l → u < 65536 → IsUtf8 prefix → IsUtf8 xs → Reads plain xs → Reads (after_high u) xs
+    → cond h (content (after_high u) xs) (cond l None (prepend (encode_utf8 u) (content plain xs))) ≡ Some s → IsUtf8 (prefix ++ s)
+unit_where_step u xs prefix s true l high low small v w more pair h = pair prefix s (high, v, w) h
+unit_where_step u xs prefix s false true high low small v w more pair h = absurd (cc)
+unit_where_step u xs prefix s false false high low small v w more pair h = written_then (encode_utf8 u) xs prefix s more v (IsUtf8-encode u (lone_scalar u small high low)) w h
 
-unit_step : (a b c d : ℕ) (xs front s : List ℕ) → IsUtf8 front → IsUtf8 (a ∷ b ∷ c ∷ d ∷ xs) → Reads plain xs → ((u : ℕ) → Reads (after_high u) xs)
-    → option_and_then (λ u. cond (is_high_surrogate u) (content (after_high u) xs) (cond (is_low_surrogate u) None (prepend (encode_utf8 u) (content plain xs)))) (code_unit a b c d) ≡ Some s → IsUtf8 (front ++ s)
-unit_step a b c d xs front s v w more pair h =
+unit_step : (a b c d : ℕ) (xs prefix s : List ℕ) → IsUtf8 prefix → IsUtf8 (a ∷ b ∷ c ∷ d ∷ xs) → Reads plain xs → ((u : ℕ) → Reads (after_high u) xs)
+    → option_and_then (λ u. cond (is_high_surrogate u) (content (after_high u) xs) (cond (is_low_surrogate u) None (prepend (encode_utf8 u) (content plain xs)))) (code_unit a b c d) ≡ Some s → IsUtf8 (prefix ++ s)
+unit_step a b c d xs prefix s v w more pair h =
     let u = some_then (λ u. cond (is_high_surrogate u) (content (after_high u) xs) (cond (is_low_surrogate u) None (prepend (encode_utf8 u) (content plain xs)))) (code_unit a b c d) s h in
     let is = unit_is a b c d u.0 u.1 in
-    unit_where_step u.0 xs front s (is_high_surrogate u.0) (is_low_surrogate u.0) refl refl is.small v (past_four a b c d u.0 xs is w) more (pair u.0) u.2
+    unit_where_step u.0 xs prefix s (is_high_surrogate u.0) (is_low_surrogate u.0) refl refl is.small v (past_four a b c d u.0 xs is w) more (pair u.0) u.2
 
-low_step : (high l : ℕ) (xs front s : List ℕ) (t : Bool) → is_low_surrogate l ≡ t → is_high_surrogate high ≡ true → IsUtf8 front → IsUtf8 xs → Reads plain xs
-    → cond t (prepend (encode_utf8 (surrogate_pair high l)) (content plain xs)) None ≡ Some s → IsUtf8 (front ++ s)
-low_step high l xs front s false low is v w more h = absurd (cc)
-low_step high l xs front s true low is v w more h = written_then (encode_utf8 (surrogate_pair high l)) xs front s more v (IsUtf8-encode (surrogate_pair high l) (pair_scalar high l is low)) w h
+low_step : (high l : ℕ) (xs prefix s : List ℕ) (t : Bool) → is_low_surrogate l ≡ t → is_high_surrogate high ≡ true → IsUtf8 prefix → IsUtf8 xs → Reads plain xs
+    → cond t (prepend (encode_utf8 (surrogate_pair high l)) (content plain xs)) None ≡ Some s → IsUtf8 (prefix ++ s)
+low_step high l xs prefix s false low is v w more h = absurd (cc)
+low_step high l xs prefix s true low is v w more h = written_then (encode_utf8 (surrogate_pair high l)) xs prefix s more v (IsUtf8-encode (surrogate_pair high l) (pair_scalar high l is low)) w h
 
 escape_small : (x y : ℕ) → ((x == ascii.backslash) && (y == ascii.lower_u)) ≡ true → (x < 128) × (y < 128)
 escape_small x y h = (grind (arith, nat_tests), grind (arith, nat_tests))
 
-pair_step : (high x y a b c d : ℕ) (xs front s : List ℕ) (t : Bool) → ((x == ascii.backslash) && (y == ascii.lower_u)) ≡ t → is_high_surrogate high ≡ true → IsUtf8 front → IsUtf8 (x ∷ y ∷ a ∷ b ∷ c ∷ d ∷ xs) → Reads plain xs
-    → cond t (option_and_then (λ l. cond (is_low_surrogate l) (prepend (encode_utf8 (surrogate_pair high l)) (content plain xs)) None) (code_unit a b c d)) None ≡ Some s → IsUtf8 (front ++ s)
-pair_step high x y a b c d xs front s false on is v w more h = absurd (cc)
-pair_step high x y a b c d xs front s true on is v w more h =
+pair_step : (high x y a b c d : ℕ) (xs prefix s : List ℕ) (t : Bool) → ((x == ascii.backslash) && (y == ascii.lower_u)) ≡ t → is_high_surrogate high ≡ true → IsUtf8 prefix → IsUtf8 (x ∷ y ∷ a ∷ b ∷ c ∷ d ∷ xs) → Reads plain xs
+    → cond t (option_and_then (λ l. cond (is_low_surrogate l) (prepend (encode_utf8 (surrogate_pair high l)) (content plain xs)) None) (code_unit a b c d)) None ≡ Some s → IsUtf8 (prefix ++ s)
+pair_step high x y a b c d xs prefix s false on is v w more h = absurd (cc)
+pair_step high x y a b c d xs prefix s true on is v w more h =
     let l = some_then (λ l. cond (is_low_surrogate l) (prepend (encode_utf8 (surrogate_pair high l)) (content plain xs)) None) (code_unit a b c d) s h in
     let unit = unit_is a b c d l.0 l.1 in
     let small = escape_small x y on in
     let rest = after_byte [] (a ∷ b ∷ c ∷ d ∷ xs) y small.1 (after_byte [] (y ∷ a ∷ b ∷ c ∷ d ∷ xs) x small.0 w) in
-    low_step high l.0 xs front s (is_low_surrogate l.0) refl is v (past_four a b c d l.0 xs unit rest) more l.2
+    low_step high l.0 xs prefix s (is_low_surrogate l.0) refl is v (past_four a b c d l.0 xs unit rest) more l.2
 
 pub content_utf8 : (w : Within) (xs : List ℕ) → Reads w xs
 unfolding content
-content_utf8 plain [] front s u h = absurd (cc)
-content_utf8 plain (x ∷ xs) front s u h =
-    plain_step x xs front s (x == ascii.quote) (x == ascii.backslash) (nat_lt x ascii.space) refl refl u (content_utf8 plain xs) (content_utf8 after_backslash xs) h
-content_utf8 after_backslash [] front s u h = absurd (cc)
-content_utf8 after_backslash (x ∷ xs) front s u h =
-    slash_step x xs front s (x == ascii.lower_u) refl u.0 u.1 (content_utf8 plain xs) (content_utf8 after_u xs) h
-content_utf8 after_u [] front s u h = absurd (cc)
-content_utf8 after_u (a ∷ []) front s u h = absurd (cc)
-content_utf8 after_u (a ∷ b ∷ []) front s u h = absurd (cc)
-content_utf8 after_u (a ∷ b ∷ c ∷ []) front s u h = absurd (cc)
-content_utf8 after_u (a ∷ b ∷ c ∷ d ∷ xs) front s u h =
-    unit_step a b c d xs front s u.0 u.1 (content_utf8 plain xs) (λ high. content_utf8 (after_high high) xs) h
-content_utf8 (after_high high) [] front s u h = absurd (cc)
-content_utf8 (after_high high) (x ∷ []) front s u h = absurd (cc)
-content_utf8 (after_high high) (x ∷ y ∷ []) front s u h = absurd (cc)
-content_utf8 (after_high high) (x ∷ y ∷ a ∷ []) front s u h = absurd (cc)
-content_utf8 (after_high high) (x ∷ y ∷ a ∷ b ∷ []) front s u h = absurd (cc)
-content_utf8 (after_high high) (x ∷ y ∷ a ∷ b ∷ c ∷ []) front s u h = absurd (cc)
-content_utf8 (after_high high) (x ∷ y ∷ a ∷ b ∷ c ∷ d ∷ xs) front s u h =
-    pair_step high x y a b c d xs front s ((x == ascii.backslash) && (y == ascii.lower_u)) refl u.0 u.1 u.2 (content_utf8 plain xs) h
+content_utf8 plain [] prefix s u h = absurd (cc)
+content_utf8 plain (x ∷ xs) prefix s u h =
+    plain_step x xs prefix s (x == ascii.quote) (x == ascii.backslash) (nat_lt x ascii.space) refl refl u (content_utf8 plain xs) (content_utf8 after_backslash xs) h
+content_utf8 after_backslash [] prefix s u h = absurd (cc)
+content_utf8 after_backslash (x ∷ xs) prefix s u h =
+    slash_step x xs prefix s (x == ascii.lower_u) refl u.0 u.1 (content_utf8 plain xs) (content_utf8 after_u xs) h
+content_utf8 after_u [] prefix s u h = absurd (cc)
+content_utf8 after_u (a ∷ []) prefix s u h = absurd (cc)
+content_utf8 after_u (a ∷ b ∷ []) prefix s u h = absurd (cc)
+content_utf8 after_u (a ∷ b ∷ c ∷ []) prefix s u h = absurd (cc)
+content_utf8 after_u (a ∷ b ∷ c ∷ d ∷ xs) prefix s u h =
+    unit_step a b c d xs prefix s u.0 u.1 (content_utf8 plain xs) (λ high. content_utf8 (after_high high) xs) h
+content_utf8 (after_high high) [] prefix s u h = absurd (cc)
+content_utf8 (after_high high) (x ∷ []) prefix s u h = absurd (cc)
+content_utf8 (after_high high) (x ∷ y ∷ []) prefix s u h = absurd (cc)
+content_utf8 (after_high high) (x ∷ y ∷ a ∷ []) prefix s u h = absurd (cc)
+content_utf8 (after_high high) (x ∷ y ∷ a ∷ b ∷ []) prefix s u h = absurd (cc)
+content_utf8 (after_high high) (x ∷ y ∷ a ∷ b ∷ c ∷ []) prefix s u h = absurd (cc)
+content_utf8 (after_high high) (x ∷ y ∷ a ∷ b ∷ c ∷ d ∷ xs) prefix s u h =
+    pair_step high x y a b c d xs prefix s ((x == ascii.backslash) && (y == ascii.lower_u)) refl u.0 u.1 u.2 (content_utf8 plain xs) h

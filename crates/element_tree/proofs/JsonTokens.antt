@@ -85,29 +85,29 @@ quote_small x h = let e = is_quote (x == ascii.quote) (x == ascii.backslash) (is
     small : (b : Bool) → (x == ascii.quote) ≡ b → b ≡ true → x < 128
     small b is on = grind (arith, nat_tests)
 
-byte_texts : (m : Mode) (c : Class) (x : ℕ) (xs front : List ℕ) → class x ≡ c → IsUtf8 (front ++ x ∷ xs) → (k : Mode → List Lexeme) → ((next : Mode) → LexemeTexts (k next)) → LexemeTexts (lex_byte m c x xs k)
-byte_texts between quote x xs front is u k all = (string_text (content plain xs) (λ s h. content_utf8 plain xs [] s (after_byte front xs x (quote_small x is) u) h), all in_string)
-byte_texts between backslash x xs front is u k all = (tt, all in_word)
-byte_texts between operator x xs front is u k all = (operator_text (x == ascii.open_brace) (x == ascii.close_brace) (x == ascii.open_bracket) (x == ascii.close_bracket) (x == ascii.comma), all between)
-byte_texts between space x xs front is u k all = all between
-byte_texts between other x xs front is u k all = (word_text (x ∷ xs), all in_word)
-byte_texts in_word quote x xs front is u k all = all in_word
-byte_texts in_word backslash x xs front is u k all = all in_word
-byte_texts in_word operator x xs front is u k all = (operator_text (x == ascii.open_brace) (x == ascii.close_brace) (x == ascii.open_bracket) (x == ascii.close_bracket) (x == ascii.comma), all between)
-byte_texts in_word space x xs front is u k all = all between
-byte_texts in_word other x xs front is u k all = all in_word
-byte_texts in_string quote x xs front is u k all = all between
-byte_texts in_string backslash x xs front is u k all = all in_escape
-byte_texts in_string operator x xs front is u k all = all in_string
-byte_texts in_string space x xs front is u k all = all in_string
-byte_texts in_string other x xs front is u k all = all in_string
-byte_texts in_escape c x xs front is u k all = all in_string
+byte_texts : (m : Mode) (c : Class) (x : ℕ) (xs prefix : List ℕ) → class x ≡ c → IsUtf8 (prefix ++ x ∷ xs) → (k : Mode → List Lexeme) → ((next : Mode) → LexemeTexts (k next)) → LexemeTexts (lex_byte m c x xs k)
+byte_texts between quote x xs prefix is u k all = (string_text (content plain xs) (λ s h. content_utf8 plain xs [] s (after_byte prefix xs x (quote_small x is) u) h), all in_string)
+byte_texts between backslash x xs prefix is u k all = (tt, all in_word)
+byte_texts between operator x xs prefix is u k all = (operator_text (x == ascii.open_brace) (x == ascii.close_brace) (x == ascii.open_bracket) (x == ascii.close_bracket) (x == ascii.comma), all between)
+byte_texts between space x xs prefix is u k all = all between
+byte_texts between other x xs prefix is u k all = (word_text (x ∷ xs), all in_word)
+byte_texts in_word quote x xs prefix is u k all = all in_word
+byte_texts in_word backslash x xs prefix is u k all = all in_word
+byte_texts in_word operator x xs prefix is u k all = (operator_text (x == ascii.open_brace) (x == ascii.close_brace) (x == ascii.open_bracket) (x == ascii.close_bracket) (x == ascii.comma), all between)
+byte_texts in_word space x xs prefix is u k all = all between
+byte_texts in_word other x xs prefix is u k all = all in_word
+byte_texts in_string quote x xs prefix is u k all = all between
+byte_texts in_string backslash x xs prefix is u k all = all in_escape
+byte_texts in_string operator x xs prefix is u k all = all in_string
+byte_texts in_string space x xs prefix is u k all = all in_string
+byte_texts in_string other x xs prefix is u k all = all in_string
+byte_texts in_escape c x xs prefix is u k all = all in_string
 
-lex_texts : (xs : List ℕ) (m : Mode) (front : List ℕ) → IsUtf8 (front ++ xs) → LexemeTexts (lex m xs)
+lex_texts : (xs : List ℕ) (m : Mode) (prefix : List ℕ) → IsUtf8 (prefix ++ xs) → LexemeTexts (lex m xs)
 unfolding lex
-lex_texts [] m front u = tt
-lex_texts (x ∷ xs) m front u =
-    byte_texts m (class x) x xs front refl u (λ next. lex next xs) (λ next. lex_texts xs next (front ++ x ∷ []) (subst IsUtf8 (sym (append_assoc front (x ∷ []) xs)) u))
+lex_texts [] m prefix u = tt
+lex_texts (x ∷ xs) m prefix u =
+    byte_texts m (class x) x xs prefix refl u (λ next. lex next xs) (λ next. lex_texts xs next (prefix ++ x ∷ []) (subst IsUtf8 (sym (append_assoc prefix (x ∷ []) xs)) u))
 
 -- ---- commas and colons
 

@@ -3,8 +3,8 @@ use Rattle.std.proofs.Common.{◌≡◌, ℕ, zero, suc, ◌<◌, ◌≤◌, ◌
 use Rattle.std.proofs.lemmas.Bool.Decides.{nat_tests}
 use Rattle.template_text.specs.Pieces.{Pieces}
 use Rattle.element_props.specs.declared.prop.Pair.{Pair}
-use Rattle.element_props.specs.Rows.{Form, template, plain, filled, lock, whole, up_to, flag, choice, pattern, test_patterns, pairs, replies, texts, csv, json_path, largest, Presence, required, optional, text_default, number_default, truth_default, first_choice, no_pairs, Row, ◌is◌otherwise◌}
-use Rattle.element_props.specs.Rows as words
+use Rattle.element_props.specs.FormRows.{Form, template, plain, filled, lock, whole, up_to, flag, choice, pattern, test_patterns, pairs, replies, texts, csv, json_path, largest, Presence, required, optional, text_default, number_default, truth_default, first_choice, no_pairs, Row, ◌is◌otherwise◌}
+use Rattle.element_props.specs.FormRows as words
 use Rattle.element_props.specs.declared.prop.Prop.{Prop}
 use Rattle.element_props.specs.declared.prop.Prop.TheVariants.{Absent, Template, Text, Number, Truth, Choice, Pattern, Pairs, Replies, Texts, Patterns}
 use Rattle.jm_base.specs.declared.types.ScriptReply.{ScriptReply}

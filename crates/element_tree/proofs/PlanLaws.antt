@@ -136,11 +136,11 @@ threads_step : (P : ℕ → Type 0) (base g : ℕ) (o : Option ℕ) (later : ℕ
 threads_step P base g None later here rest = rest g
 threads_step P base g (Some n) later here rest = all_append (λ (t : Thread). P t.element) (group_threads base g n) (later (g + 1)) (group_threads_all P base g n (here refl)) (rest (g + 1))
 
-threads_all : (es all front : List Element) (base g : ℕ) → all ≡ front ++ es → length front ≡ base → AllByRecursion (λ (t : Thread). IsGroupAt all t.element) (threads_from base g es)
-threads_all [] all front base g is len = tt
-threads_all (e ∷ es) all front base g is len =
-    threads_step (IsGroupAt all) base g (group_size e.kind) (λ h. threads_from (base + 1) h es) (λ some. (e, rw is (let k = get_mid front e es in rw len at k), some))
-    (λ h. threads_all es all (front ++ e ∷ []) (base + 1) h (is ∙ sym (append_assoc front (e ∷ []) es)) (length-append front (e ∷ []) ∙ ap (λ (m : ℕ). m + 1) len))
+threads_all : (es all prefix : List Element) (base g : ℕ) → all ≡ prefix ++ es → length prefix ≡ base → AllByRecursion (λ (t : Thread). IsGroupAt all t.element) (threads_from base g es)
+threads_all [] all prefix base g is len = tt
+threads_all (e ∷ es) all prefix base g is len =
+    threads_step (IsGroupAt all) base g (group_size e.kind) (λ h. threads_from (base + 1) h es) (λ some. (e, rw is (let k = get_mid prefix e es in rw len at k), some))
+    (λ h. threads_all es all (prefix ++ e ∷ []) (base + 1) h (is ∙ sym (append_assoc prefix (e ∷ []) es)) (length-append prefix (e ∷ []) ∙ ap (λ (m : ℕ). m + 1) len))
 
 pub thread_group : (es : List Element) (thread : ℕ) (t : Thread) → slice_get (threads_in es) thread ≡ Some t → IsGroupAt es t.element
 unfolding threads_in

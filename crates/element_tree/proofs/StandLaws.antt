@@ -116,48 +116,48 @@ unfoldable pub Good : ℕ → Stand → ℕ → List Element → ℕ → Type 0
 Good zero s parent es n = ⊥
 Good (suc d) s parent es n = (e : Element) × Here s parent es n e × AllByRecursion (λ c. (n < c) × Good d (stand_below s e.kind) n es c) e.children
 
-pub get_middle : (front : List Element) (e : Element) (after : List Element) (n : ℕ) → length front ≡ n → slice_get (front ++ e ∷ after) n ≡ Some e
+pub get_middle : (prefix : List Element) (e : Element) (after : List Element) (n : ℕ) → length prefix ≡ n → slice_get (prefix ++ e ∷ after) n ≡ Some e
 get_middle [] e after n h = rw (← h) refl
-get_middle (x ∷ front) e after n h = rw (← h) (get_middle front e after (length front) refl)
+get_middle (x ∷ prefix) e after n h = rw (← h) (get_middle prefix e after (length prefix) refl)
 
-pub get_at : (es front : List Element) (e : Element) (after : List Element) (n : ℕ) → es ≡ front ++ e ∷ after → length front ≡ n → slice_get es n ≡ Some e
-get_at es front e after n is h = rw is (get_middle front e after n h)
+pub get_at : (es prefix : List Element) (e : Element) (after : List Element) (n : ℕ) → es ≡ prefix ++ e ∷ after → length prefix ≡ n → slice_get es n ≡ Some e
+get_at es prefix e after n is h = rw is (get_middle prefix e after n h)
 
 -- after one element, and after those of a subtree
-pub behind_one : (es front : List Element) (e : Element) (xs after : List Element) → es ≡ front ++ ((e ∷ xs) ++ after) → es ≡ (front ++ e ∷ []) ++ (xs ++ after)
-behind_one es front e xs after is = is ∙ sym (append_assoc front (e ∷ []) (xs ++ after))
+pub behind_one : (es prefix : List Element) (e : Element) (xs after : List Element) → es ≡ prefix ++ ((e ∷ xs) ++ after) → es ≡ (prefix ++ e ∷ []) ++ (xs ++ after)
+behind_one es prefix e xs after is = is ∙ sym (append_assoc prefix (e ∷ []) (xs ++ after))
 
-pub before_rest : (es front xs ys after : List Element) → es ≡ front ++ ((xs ++ ys) ++ after) → es ≡ front ++ (xs ++ (ys ++ after))
-before_rest es front xs ys after is = is ∙ ap (λ (zs : List Element). front ++ zs) (append_assoc xs ys after)
+pub before_rest : (es prefix xs ys after : List Element) → es ≡ prefix ++ ((xs ++ ys) ++ after) → es ≡ prefix ++ (xs ++ (ys ++ after))
+before_rest es prefix xs ys after is = is ∙ ap (λ (zs : List Element). prefix ++ zs) (append_assoc xs ys after)
 
-pub behind_all : (es front xs ys after : List Element) → es ≡ front ++ ((xs ++ ys) ++ after) → es ≡ (front ++ xs) ++ (ys ++ after)
-behind_all es front xs ys after is = before_rest es front xs ys after is ∙ sym (append_assoc front xs (ys ++ after))
+pub behind_all : (es prefix xs ys after : List Element) → es ≡ prefix ++ ((xs ++ ys) ++ after) → es ≡ (prefix ++ xs) ++ (ys ++ after)
+behind_all es prefix xs ys after is = before_rest es prefix xs ys after is ∙ sym (append_assoc prefix xs (ys ++ after))
 
-pub one_longer : (front : List Element) (e : Element) (n : ℕ) → length front ≡ n → length (front ++ e ∷ []) ≡ n + 1
-one_longer front e n h = length-append front (e ∷ []) ∙ ap (λ (m : ℕ). m + 1) h
+pub one_longer : (prefix : List Element) (e : Element) (n : ℕ) → length prefix ≡ n → length (prefix ++ e ∷ []) ≡ n + 1
+one_longer prefix e n h = length-append prefix (e ∷ []) ∙ ap (λ (m : ℕ). m + 1) h
 
-pub all_longer : (front : List Element) (parent n : ℕ) (g : Grown) → length front ≡ n → length (front ++ flat parent n g) ≡ n + size g
-all_longer front parent n g h = length-append front (flat parent n g) ∙ ap₂ (λ (a b : ℕ). a + b) h (flat_size parent n g)
+pub all_longer : (prefix : List Element) (parent n : ℕ) (g : Grown) → length prefix ≡ n → length (prefix ++ flat parent n g) ≡ n + size g
+all_longer prefix parent n g h = length-append prefix (flat parent n g) ∙ ap₂ (λ (a b : ℕ). a + b) h (flat_size parent n g)
 
 mutual
   unfolding Good WereRead
 
-  pub good_one : (g : Grown) (s : Stand) (parent n d : ℕ) (es front after : List Element) → WereRead s g → es ≡ front ++ (flat parent n g ++ after) → length front ≡ n → 33 ≤ d + s.depth → Good d s parent es n
-  good_one (grown name kind gs) s parent n zero es front after r is len fuel = let o = is_own s name kind gs r.0 in absurd (omega (arith, o.depth))
-  good_one (grown name kind gs) s parent n (suc d) es front after r is len fuel =
+  pub good_one : (g : Grown) (s : Stand) (parent n d : ℕ) (es prefix after : List Element) → WereRead s g → es ≡ prefix ++ (flat parent n g ++ after) → length prefix ≡ n → 33 ≤ d + s.depth → Good d s parent es n
+  good_one (grown name kind gs) s parent n zero es prefix after r is len fuel = let o = is_own s name kind gs r.0 in absurd (omega (arith, o.depth))
+  good_one (grown name kind gs) s parent n (suc d) es prefix after r is len fuel =
       let o = is_own s name kind gs r.0 in
       let e = node name kind parent (numbers (n + 1) gs) in (
         e,
-        record { there = get_at es front e (flats n (n + 1) gs ++ after) n is len; parent_ = refl; place = o.place; apart = o.apart },
-        good_all gs (stand_below s kind) n (n + 1) d es (front ++ e ∷ []) after r.1 (behind_one es front e (flats n (n + 1) gs) after is) (one_longer front e n len) (omega arith) (omega arith),
+        record { there = get_at es prefix e (flats n (n + 1) gs ++ after) n is len; parent_ = refl; place = o.place; apart = o.apart },
+        good_all gs (stand_below s kind) n (n + 1) d es (prefix ++ e ∷ []) after r.1 (behind_one es prefix e (flats n (n + 1) gs) after is) (one_longer prefix e n len) (omega arith) (omega arith),
       )
 
-  pub good_all : (gs : Growns) (s : Stand) (parent m d : ℕ) (es front after : List Element) → AllRead s gs → es ≡ front ++ (flats parent m gs ++ after) → length front ≡ m → 33 ≤ d + s.depth → parent < m
+  pub good_all : (gs : Growns) (s : Stand) (parent m d : ℕ) (es prefix after : List Element) → AllRead s gs → es ≡ prefix ++ (flats parent m gs ++ after) → length prefix ≡ m → 33 ≤ d + s.depth → parent < m
       → AllByRecursion (λ c. (parent < c) × Good d s parent es c) (numbers m gs)
-  good_all none_grown s parent m d es front after r is len fuel later = tt
-  good_all (then_grown g gs) s parent m d es front after r is len fuel later = (
-    (later, good_one g s parent m d es front (flats parent (m + size g) gs ++ after) r.0 (before_rest es front (flat parent m g) (flats parent (m + size g) gs) after is) len fuel),
-    good_all gs s parent (m + size g) d es (front ++ flat parent m g) after r.1 (behind_all es front (flat parent m g) (flats parent (m + size g) gs) after is) (all_longer front parent m g len) fuel (omega arith),
+  good_all none_grown s parent m d es prefix after r is len fuel later = tt
+  good_all (then_grown g gs) s parent m d es prefix after r is len fuel later = (
+    (later, good_one g s parent m d es prefix (flats parent (m + size g) gs ++ after) r.0 (before_rest es prefix (flat parent m g) (flats parent (m + size g) gs) after is) len fuel),
+    good_all gs s parent (m + size g) d es (prefix ++ flat parent m g) after r.1 (behind_all es prefix (flat parent m g) (flats parent (m + size g) gs) after is) (all_longer prefix parent m g len) fuel (omega arith),
   )
 
 -- ---- what follows
@@ -189,25 +189,25 @@ are_below d s es n e cs h = all_map (λ c k. one d c k) cs h where
 
 -- ---- at every number
 
-pub get_mid : {A : Type 0} (front : List A) (x : A) (after : List A) → slice_get (front ++ x ∷ after) (length front) ≡ Some x
+pub get_mid : {A : Type 0} (prefix : List A) (x : A) (after : List A) → slice_get (prefix ++ x ∷ after) (length prefix) ≡ Some x
 get_mid [] x after = refl
-get_mid (y ∷ front) x after = get_mid front x after
+get_mid (y ∷ prefix) x after = get_mid prefix x after
 
 -- the number is among the children, at some place
 abbrev pub IsAmong : List ℕ → ℕ → Type 0
 IsAmong cs c = (k : ℕ) × (slice_get cs k ≡ Some c)
 
-among_from : (front cs all : List ℕ) → all ≡ front ++ cs → AllByRecursion (IsAmong all) cs
-among_from front [] all is = tt
-among_from front (c ∷ cs) all is =
-    ((length front, rw is (get_mid front c cs)), among_from (front ++ c ∷ []) cs all (is ∙ sym (append_assoc front (c ∷ []) cs)))
+among_from : (prefix cs all : List ℕ) → all ≡ prefix ++ cs → AllByRecursion (IsAmong all) cs
+among_from prefix [] all is = tt
+among_from prefix (c ∷ cs) all is =
+    ((length prefix, rw is (get_mid prefix c cs)), among_from (prefix ++ c ∷ []) cs all (is ∙ sym (append_assoc prefix (c ∷ []) cs)))
 
 -- the first element of a subtree
 abbrev pub top : ℕ → ℕ → Grown → Element
 top parent n (grown name kind gs) = node name kind parent (numbers (n + 1) gs)
 
-pub top_there : (g : Grown) (parent n : ℕ) (es front after : List Element) → es ≡ front ++ (flat parent n g ++ after) → length front ≡ n → slice_get es n ≡ Some (top parent n g)
-top_there (grown name kind gs) parent n es front after is len = get_at es front (node name kind parent (numbers (n + 1) gs)) (flats n (n + 1) gs ++ after) n is len
+pub top_there : (g : Grown) (parent n : ℕ) (es prefix after : List Element) → es ≡ prefix ++ (flat parent n g ++ after) → length prefix ≡ n → slice_get es n ≡ Some (top parent n g)
+top_there (grown name kind gs) parent n es prefix after is len = get_at es prefix (node name kind parent (numbers (n + 1) gs)) (flats n (n + 1) gs ++ after) n is len
 
 top_parent : (g : Grown) (parent n : ℕ) → (top parent n g).parent ≡ parent
 top_parent (grown name kind gs) parent n = refl
@@ -241,19 +241,19 @@ good_below (suc d) s parent es n e h g =
     let P : Element → Type 0 = λ x. AllByRecursion (IsBelow es n x) x.children in
     subst P same (are_below d s es n g.0 g.0.children g.2)
 
-at_top : (g : Grown) (s : Stand) (parent n d : ℕ) (es front after : List Element) → WereRead s g → es ≡ front ++ (flat parent n g ++ after) → length front ≡ n → 33 ≤ d + s.depth
+at_top : (g : Grown) (s : Stand) (parent n d : ℕ) (es prefix after : List Element) → WereRead s g → es ≡ prefix ++ (flat parent n g ++ after) → length prefix ≡ n → 33 ≤ d + s.depth
     → (i : ℕ) (e : Element) → slice_get es i ≡ Some e → i ≡ n → Inner es n i e
-at_top g s parent n d es front after r is len fuel i e h same = record {
-  children = good_below d s parent es i e h (rw same (good_one g s parent n d es front after r is len fuel));
+at_top g s parent n d es prefix after r is len fuel i e h same = record {
+  children = good_below d s parent es i e h (rw same (good_one g s parent n d es prefix after r is len fuel));
   parent = λ later. absurd (omega (arith, later, same));
 }
 
-at_child : (g : Grown) (s : Stand) (parent n : ℕ) (es front after : List Element) (above : Element) → es ≡ front ++ (flat parent n g ++ after) → length front ≡ n
+at_child : (g : Grown) (s : Stand) (parent n : ℕ) (es prefix after : List Element) (above : Element) → es ≡ prefix ++ (flat parent n g ++ after) → length prefix ≡ n
     → parent < n → slice_get es parent ≡ Some above → IsAmong above.children n → (i : ℕ) (e : Element) → slice_get es i ≡ Some e → Inner es n i e → (t : Bool) → nat_lt n i ≡ t → n ≤ i → Outer es i e
-at_child g s parent n es front after above is len before there among i e h inner true later low = record { children = inner.children; parent = inner.parent (is_later n i later) }
-at_child g s parent n es front after above is len before there among i e h inner false later low =
+at_child g s parent n es prefix after above is len before there among i e h inner true later low = record { children = inner.children; parent = inner.parent (is_later n i later) }
+at_child g s parent n es prefix after above is len before there among i e h inner false later low =
     let same = is_first n i low later in
-    let first = same_some (slice_get es n) (top parent n g) e (top_there g parent n es front after is len) (ap (slice_get es) (sym same) ∙ h) in
+    let first = same_some (slice_get es n) (top parent n g) e (top_there g parent n es prefix after is len) (ap (slice_get es) (sym same) ∙ h) in
     let from : parent ≡ e.parent = sym (top_parent g parent n) ∙ ap (λ (x : Element). x.parent) first in
     let P : ℕ → Type 0 = λ p. IsChild es i p in
     record { children = inner.children; parent = subst P from (record { above = above; there = there; earlier = omega arith; place = among.0; among = rw same among.1 }) }
@@ -265,23 +265,23 @@ stands_next es m i e k low one rest false h = rest (is_past (m + k) i h)
 mutual
   unfolding WereRead
 
-  pub stands_one : (g : Grown) (s : Stand) (parent n d : ℕ) (es front after : List Element) → WereRead s g → es ≡ front ++ (flat parent n g ++ after) → length front ≡ n → 33 ≤ d + s.depth
+  pub stands_one : (g : Grown) (s : Stand) (parent n d : ℕ) (es prefix after : List Element) → WereRead s g → es ≡ prefix ++ (flat parent n g ++ after) → length prefix ≡ n → 33 ≤ d + s.depth
       → (i : ℕ) (e : Element) → slice_get es i ≡ Some e → n ≤ i → i < n + size g → (t : Bool) → nat_lt n i ≡ t → Inner es n i e
-  stands_one g s parent n d es front after r is len fuel i e h low high false first = at_top g s parent n d es front after r is len fuel i e h (is_first n i low first)
-  stands_one (grown name kind gs) s parent n zero es front after r is len fuel i e h low high true later = let o = is_own s name kind gs r.0 in absurd (omega (arith, o.depth))
-  stands_one (grown name kind gs) s parent n (suc d) es front after r is len fuel i e h low high true later =
+  stands_one g s parent n d es prefix after r is len fuel i e h low high false first = at_top g s parent n d es prefix after r is len fuel i e h (is_first n i low first)
+  stands_one (grown name kind gs) s parent n zero es prefix after r is len fuel i e h low high true later = let o = is_own s name kind gs r.0 in absurd (omega (arith, o.depth))
+  stands_one (grown name kind gs) s parent n (suc d) es prefix after r is len fuel i e h low high true later =
       let x = node name kind parent (numbers (n + 1) gs) in
-      let o = stands_all gs (stand_below s kind) n (n + 1) d es (front ++ x ∷ []) after x r.1 (behind_one es front x (flats n (n + 1) gs) after is) (one_longer front x n len) (omega arith) (omega arith)
-      (get_at es front x (flats n (n + 1) gs ++ after) n is len) (among_from [] (numbers (n + 1) gs) (numbers (n + 1) gs) refl) i e h (let l = is_later n i later in omega arith) (omega arith) in
+      let o = stands_all gs (stand_below s kind) n (n + 1) d es (prefix ++ x ∷ []) after x r.1 (behind_one es prefix x (flats n (n + 1) gs) after is) (one_longer prefix x n len) (omega arith) (omega arith)
+      (get_at es prefix x (flats n (n + 1) gs ++ after) n is len) (among_from [] (numbers (n + 1) gs) (numbers (n + 1) gs) refl) i e h (let l = is_later n i later in omega arith) (omega arith) in
       record { children = o.children; parent = λ l. o.parent }
 
-  pub stands_all : (gs : Growns) (s : Stand) (parent m d : ℕ) (es front after : List Element) (above : Element) → AllRead s gs → es ≡ front ++ (flats parent m gs ++ after) → length front ≡ m → 33 ≤ d + s.depth → parent < m
+  pub stands_all : (gs : Growns) (s : Stand) (parent m d : ℕ) (es prefix after : List Element) (above : Element) → AllRead s gs → es ≡ prefix ++ (flats parent m gs ++ after) → length prefix ≡ m → 33 ≤ d + s.depth → parent < m
       → slice_get es parent ≡ Some above → AllByRecursion (IsAmong above.children) (numbers m gs) → (i : ℕ) (e : Element) → slice_get es i ≡ Some e → m ≤ i → i < m + sizes gs → Outer es i e
-  stands_all none_grown s parent m d es front after above r is len fuel before there among i e h low high = absurd (omega arith)
-  stands_all (then_grown g gs) s parent m d es front after above r is len fuel before there among i e h low high =
-      let first = before_rest es front (flat parent m g) (flats parent (m + size g) gs) after is in
+  stands_all none_grown s parent m d es prefix after above r is len fuel before there among i e h low high = absurd (omega arith)
+  stands_all (then_grown g gs) s parent m d es prefix after above r is len fuel before there among i e h low high =
+      let first = before_rest es prefix (flat parent m g) (flats parent (m + size g) gs) after is in
       stands_next es m i e (size g) low
-      (λ here. at_child g s parent m es front (flats parent (m + size g) gs ++ after) above first len before there among.0 i e h
-      (stands_one g s parent m d es front (flats parent (m + size g) gs ++ after) r.0 first len fuel i e h low here (nat_lt m i) refl) (nat_lt m i) refl low)
-      (λ past. stands_all gs s parent (m + size g) d es (front ++ flat parent m g) after above r.1 (behind_all es front (flat parent m g) (flats parent (m + size g) gs) after is) (all_longer front parent m g len) fuel (omega arith) there among.1 i e h past (omega arith))
+      (λ here. at_child g s parent m es prefix (flats parent (m + size g) gs ++ after) above first len before there among.0 i e h
+      (stands_one g s parent m d es prefix (flats parent (m + size g) gs ++ after) r.0 first len fuel i e h low here (nat_lt m i) refl) (nat_lt m i) refl low)
+      (λ past. stands_all gs s parent (m + size g) d es (prefix ++ flat parent m g) after above r.1 (behind_all es prefix (flat parent m g) (flats parent (m + size g) gs) after is) (all_longer prefix parent m g len) fuel (omega arith) there among.1 i e h past (omega arith))
       (nat_lt i (m + size g)) refl

@@ -15,7 +15,7 @@ use Rattle.element_props.specs.declared.prop.Prop.{Prop}
 use Rattle.element_tree.specs.declared.kinds.Element.{Element}
 use Rattle.element_tree.specs.declared.types.ElementType.{ElementType}
 use Rattle.element_tree.specs.declared.tree_walk.Spot.{Spot as CodeSpot}
-use Rattle.element_props.specs.Rows as table
+use Rattle.element_props.specs.FormRows as table
 use Rattle.element_tree.specs.Table.{rows}
 use Rattle.element_tree.specs.Types.{class_of_type, is_section_type}
 use Rattle.element_tree.specs.Kinds.{kind_of}
@@ -151,9 +151,9 @@ walk_init spot n m r t code made a b numbers cs is_empty is_code is_children is_
 
 -- ---- the list that is filled
 
-pub with_middle : (front : List Element) (e : Element) (xs : List Element) (cs : List ℕ) (n : ℕ) → n ≡ length front → with_children ((front ++ e ∷ []) ++ xs) n cs ≡ front ++ record e { children = cs } ∷ xs
+pub with_middle : (prefix : List Element) (e : Element) (xs : List Element) (cs : List ℕ) (n : ℕ) → n ≡ length prefix → with_children ((prefix ++ e ∷ []) ++ xs) n cs ≡ prefix ++ record e { children = cs } ∷ xs
 with_middle [] e xs cs n is = rw is refl
-with_middle (z ∷ front) e xs cs n is = rw is (ap (λ (zs : List Element). z ∷ zs) (with_middle front e xs cs (length front) refl))
+with_middle (z ∷ prefix) e xs cs n is = rw is (ap (λ (zs : List Element). z ∷ zs) (with_middle prefix e xs cs (length prefix) refl))
 
 pub with_element : (es : List Element) (n : ℕ) (cs ks : List ℕ) (e : Element) → n < length es → e ≡ get_or es n e → ks ≡ cs
     → set es n (record { name = e.name; kind = e.kind; parent = e.parent; children = ks }) ≡ with_children es n cs

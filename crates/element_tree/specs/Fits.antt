@@ -5,7 +5,7 @@ use Rattle.json_path.specs.Machine.{path_of}
 use Rattle.element_props.specs.declared.prop.Prop.{Prop}
 use Rattle.element_props.specs.declared.prop.Prop.TheVariants.{Absent, Template, Text, Number, Truth, Choice, Pattern, Pairs, Replies, Texts, Patterns}
 use Rattle.element_props.specs.Forms.{filled_text}
-use Rattle.element_props.specs.Rows.{Form, template, plain, filled, lock, whole, up_to, flag, choice, pattern, test_patterns, pairs, replies, texts, csv, json_path, largest, Presence, optional, Row}
+use Rattle.element_props.specs.FormRows.{Form, template, plain, filled, lock, whole, up_to, flag, choice, pattern, test_patterns, pairs, replies, texts, csv, json_path, largest, Presence, optional, Row}
 
 abbrev pub IsShort : ℕ → List ℕ → Type 0
 IsShort limit s = nat_lt limit (length s) ≡ false

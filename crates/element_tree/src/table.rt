@@ -1,7 +1,7 @@
 // The table of the types of element: the name of each in a plan, and its properties.
 
 ghost use Rattle.std.specs.Prelude.{◌≡◌, map, true};
-ghost use Rattle.element_props.specs.Rows.{are_short};
+ghost use Rattle.element_props.specs.FormRows.{are_short};
 ghost use Rattle.element_props.specs.Seen.{row_seen};
 ghost use Rattle.element_tree.specs.Named.{named_seen};
 ghost use Rattle.element_tree.specs.Table as table;

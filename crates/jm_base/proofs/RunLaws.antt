@@ -8,7 +8,7 @@ use Rattle.jm_base.specs.declared.types.Request.{Request}
 use Rattle.jm_base.specs.declared.types.Request.TheVariants.{Script, Http}
 use Rattle.jm_base.specs.declared.types.Heard.{Heard}
 use Rattle.jm_base.specs.declared.types.Heard.TheVariants.{Reading, Paused, Asked}
-use Rattle.jm_base.specs.Run.{Answers, Event, Run, over, give, read, wait, ask, ◌>>=◌, behind, behind_all, over_value}
+use Rattle.jm_base.specs.Run.{Answers, Event, Run, over, give, read, wait, ask, ◌>>=◌, after_event, after_events, over_value}
 use Rattle.jm_base.specs.Outside.{same_bytes, same_request, list_form, script_form, Scripts, Replays, at_end, by_reading, by_pause, by_asking, fault_count, faults_after, Account, Hears, Path, here, giving, reads, waits, asks, Goes, TellsNothing}
 
 same_bytes-refl : (xs : List ℕ) → same_bytes xs xs ≡ true
@@ -36,10 +36,10 @@ replays-append (by_pause e q) r = by_pause e (replays-append q r)
 replays-append (by_asking e q) r = by_asking e (replays-append q r)
 
 -- over an outside that answers so, the run gives these events and then what the rest gives
-pub path-value : {V A : Type 0} (o : Answers V) {r s : Run A} {heard : List Heard} {events : List Event} → Path r heard events s → (v w : V) → Replays o v heard w → over_value o r v ≡ behind_all events (over_value o s w)
+pub path-value : {V A : Type 0} (o : Answers V) {r s : Run A} {heard : List Heard} {events : List Event} → Path r heard events s → (v w : V) → Replays o v heard w → over_value o r v ≡ after_events events (over_value o s w)
 unfolding over_value
 path-value o here v w at_end = refl
-path-value o (giving p) v w r = ap (behind _) (path-value o p v w r)
+path-value o (giving p) v w r = ap (after_event _) (path-value o p v w r)
 path-value o (reads p) v w (by_reading e r) = rw e (path-value o p _ w r)
 path-value o (waits p) v w (by_pause e r) = rw e (path-value o p _ w r)
 path-value o (asks p) v w (by_asking e r) = rw e (path-value o p _ w r)

@@ -45,7 +45,7 @@ as_many trace = ap length (by_items trace) ∙ length-flat_map (λ item. entries
 -- the items before a sample have fewer
 pub fewer : (trace : List TraceItem) (i : ℕ) (item : TraceItem) → i < length trace → one_if_sample (get_or trace i item) ≡ 1 → length (traced (take i trace)) < samples_in trace
 fewer trace i item h one =
-    let front : length (traced (take i trace)) ≡ length (flat_map (λ x. entries_in (bare_item x)) (take i trace)) = ap length (by_items (take i trace)) in
+    let prefix : length (traced (take i trace)) ≡ length (flat_map (λ x. entries_in (bare_item x)) (take i trace)) = ap length (by_items (take i trace)) in
     let all : length (flat_map (λ x. entries_in (bare_item x)) trace) ≡ samples_in trace = sym (ap length (by_items trace)) ∙ as_many trace in
     let here : length (entries_in (bare_item (get_or trace i item))) ≡ 1 = one_entry (get_or trace i item) ∙ one in
     let within = length-flat_map-take (λ x. entries_in (bare_item x)) trace i item h in omega arith
@@ -102,7 +102,7 @@ module _ (labels : ℕ) (rows : List Row) (trace : List TraceItem) (i : ℕ) (is
   -- the rows stay in bounds, since the trace has few samples
   pub stays_in_bounds : samples_in trace ≤ 4194304 → IsInBounds rows
   stays_in_bounds few =
-      let front : length (traced (take i trace)) ≡ samples_in (take i trace) = as_many (take i trace) in
+      let prefix : length (traced (take i trace)) ≡ samples_in (take i trace) = as_many (take i trace) in
       let fewer_in_front = sum_by-take-le one_if_sample trace i in
       in_bounds labels rows (traced (take i trace)) is (omega arith)
 

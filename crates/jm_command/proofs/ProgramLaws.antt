@@ -183,7 +183,7 @@ module _ (left left' : Option (List ℕ)) (read read' : ℕ) (old new : Sinks) (
   line_unwritten none failed = record {
     rose = failed.rose;
     results = keeps_same old.results new.results none.results;
-    reports = failed.front;
+    reports = failed.prefix;
     read_calm = calm;
     result_calm = none.result_faults;
   }
@@ -321,6 +321,6 @@ module _ (left : Option (List ℕ)) (read : ℕ) (results : Option (List ℕ)) (
   usage_said ReadFault s = absurd s
   usage_said WriteFault s = record {
     unread = unread;
-    unwritten = record { rose = s.rose; results = Keeps-refl results; reports = s.front; read_calm = refl; result_calm = refl };
+    unwritten = record { rose = s.rose; results = Keeps-refl results; reports = s.prefix; read_calm = refl; result_calm = refl };
   }
   usage_said Memory s = absurd s

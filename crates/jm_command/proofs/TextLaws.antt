@@ -7,7 +7,7 @@ use Rattle.std.specs.Option.{option_map_or}
 use Rattle.std.proofs.lemmas.List.{append-nil, map-append}
 use Rattle.std.proofs.lemmas.List.Elements.{All-head, All-tail}
 use Rattle.edge_io.proofs.EdgeLaws.{Appends-nil}
-use Rattle.var_functions.specs.Props.{pairs_of}
+use Rattle.var_functions.specs.RunProps.{pairs_of}
 use Rattle.jm_base.specs.declared.types.End.{End}
 use Rattle.jm_base.specs.declared.types.End.TheVariants.{Completed, StopThread, StopTest, Stopped, SampleLimit, RoundLimit, ValueLimit, NoMemory}
 use Rattle.jm_base.specs.Outside.{Account}
@@ -36,8 +36,8 @@ last_end-append [] end = refl
 last_end-append (x ∷ []) end = refl
 last_end-append (x ∷ y ∷ items) end = last_end-append (y ∷ items) end
 
-bare_end : (trace front : List TraceItem) (end : End) → trace ≡ front ++ TracedEnd end ∷ [] → last_end (bare trace) ≡ Some end
-bare_end trace front end is = ap (λ t. last_end (bare t)) is ∙ ap last_end (map-append _ front (TracedEnd end ∷ [])) ∙ last_end-append (bare front) end
+bare_end : (trace prefix : List TraceItem) (end : End) → trace ≡ prefix ++ TracedEnd end ∷ [] → last_end (bare trace) ≡ Some end
+bare_end trace prefix end is = ap (λ t. last_end (bare t)) is ∙ ap last_end (map-append _ prefix (TracedEnd end ∷ [])) ∙ last_end-append (bare prefix) end
 
 -- the items of a thread that was not cut are those of the plan's meaning
 whole_items : (plan : Tree) (s : Solo) (items : List Item) (end : End) → IsShown plan s items end → end_is_whole end ≡ true → items ≡ shown_of plan s
@@ -120,7 +120,7 @@ module _ (plan : Tree) (s : Solo) (trace : List TraceItem) (end : End) (shown : 
 
     -- the results are not out
     pub results_failed : TextFailed results a b f g → (r : Option (List ℕ)) (k : ℕ) → PlanSays (SoloCommand s) plan (sinks a f r k) (sinks b g r k) WriteFault
-    results_failed h r k = (results, report, may, inl (record { some = h.front; rose = h.rose; nothing = record { reports = refl; report_faults = refl } }))
+    results_failed h r k = (results, report, may, inl (record { some = h.prefix; rose = h.rose; nothing = record { reports = refl; report_faults = refl } }))
 
     pub results_cut : TextCut results a b f g → (r : Option (List ℕ)) (k : ℕ) → PlanSays (SoloCommand s) plan (sinks a f r k) (sinks b g r k) Memory
     results_cut h r k = inr (results, report, may, inl (record { part = h.part; calm = h.calm; nothing = record { reports = refl; report_faults = refl } }))
@@ -137,7 +137,7 @@ module _ (plan : Tree) (s : Solo) (trace : List TraceItem) (end : End) (shown : 
     solo_says out r r' k k' Usage h = absurd h
     solo_says out r r' k k' Refused h = absurd h
     solo_says out r r' k k' ReadFault h = absurd h
-    solo_says out r r' k k' WriteFault h = (results, report, may, inr (record { results_out = out.out; some = h.front; rose = h.rose; result_calm = out.calm }))
+    solo_says out r r' k k' WriteFault h = (results, report, may, inr (record { results_out = out.out; some = h.prefix; rose = h.rose; result_calm = out.calm }))
     solo_says out r r' k k' Memory h = inr (results, report, may, inr (record { results_out = out.out; result_calm = out.calm; part = h.part; calm = h.calm }))
 
 -- a report that is whole, of a thread that was cut
@@ -153,7 +153,7 @@ check_says plan a b f g r k Usage h = absurd h
 check_says plan a b f g r k Refused h = absurd h
 check_says plan a b f g r k ReadFault h = absurd h
 check_says plan a b f g r k WriteFault h =
-    (results_for Check plan, [], (refl, refl), inl (record { some = h.front; rose = h.rose; nothing = record { reports = refl; report_faults = refl } }))
+    (results_for Check plan, [], (refl, refl), inl (record { some = h.prefix; rose = h.rose; nothing = record { reports = refl; report_faults = refl } }))
 check_says plan a b f g r k Memory h =
     inr (results_for Check plan, [], (refl, refl), inl (record { part = h.part; calm = h.calm; nothing = record { reports = refl; report_faults = refl } }))
 
@@ -164,7 +164,7 @@ made_says plan m a f r r' k k' Usage h = absurd h
 made_says plan m a f r r' k k' Refused h = absurd h
 made_says plan m a f r r' k k' ReadFault h = absurd h
 made_says plan m a f r r' k k' WriteFault h =
-    ([], h.0, (refl, h.1), inr (record { results_out = Appends-nil a; some = h.2.front; rose = h.2.rose; result_calm = refl }))
+    ([], h.0, (refl, h.1), inr (record { results_out = Appends-nil a; some = h.2.prefix; rose = h.2.rose; result_calm = refl }))
 made_says plan m a f r r' k k' Memory h = elim h [
   | inl n ↦ inl (record { results = record { results = refl; result_faults = refl }; reports = record { reports = n.0; report_faults = n.1 } })
   | inr c ↦ inr ([], c.0, (refl, c.1), inr (record { results_out = Appends-nil a; result_calm = refl; part = c.2.part; calm = c.2.calm }))

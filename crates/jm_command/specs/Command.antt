@@ -2,8 +2,8 @@
 use Rattle.std.specs.Prelude.{◌≡◌, ◌⊎◌, ℕ, ◌+◌, ◌≤◌, List, length, Option, Some, None, Result, Ok, Err, codes, nat_le, if◌then◌else◌}
 use Rattle.std.specs.Io.KnownBytes.{Appends, Keeps}
 use Rattle.jm_base.specs.Counts.{Rose}
-use Rattle.edge_io.specs.Edges.{TookAll, TookCount, TookAtMost, AppendsFront}
-use Rattle.line_output.specs.Pieces.{AppendsPart}
+use Rattle.edge_io.specs.Edges.{TookAll, TookCount, TookAtMost, AppendsProperPrefix}
+use Rattle.line_output.specs.OutputPieces.{AppendsPart}
 use Rattle.plan_json.specs.Shape.{Raw, reading_of}
 use Rattle.plan_json.specs.declared.error.TreeError.{TreeError}
 use Rattle.element_props.specs.declared.error.BuildError.{BuildError}
@@ -129,7 +129,7 @@ pub record IsUnread (command : Command) (old new : Edges) : Type 0 where
 pub record LineUnwritten (old new : Edges) (line : List ℕ) : Type 0 where
   pub rose : Rose old.report_faults new.report_faults
   pub results : Keeps old.results new.results
-  pub reports : AppendsFront old.reports new.reports line
+  pub reports : AppendsProperPrefix old.reports new.reports line
   pub read_calm : new.read_faults ≡ old.read_faults
   pub result_calm : new.result_faults ≡ old.result_faults
 
@@ -140,7 +140,7 @@ pub record ResultsUnwritten (command : Command) (old new : Edges) : Type 0 where
   pub has_plan : HasPlan command old new plan
   pub may : MayPrint command plan text report
   pub rose : Rose old.result_faults new.result_faults
-  pub results : AppendsFront old.results new.results text
+  pub results : AppendsProperPrefix old.results new.results text
   pub reports : Keeps old.reports new.reports
   pub read_calm : new.read_faults ≡ old.read_faults
   pub report_calm : new.report_faults ≡ old.report_faults
@@ -153,7 +153,7 @@ pub record ReportUnwritten (command : Command) (old new : Edges) : Type 0 where
   pub may : MayPrint command plan text report
   pub rose : Rose old.report_faults new.report_faults
   pub results : Appends old.results new.results text
-  pub reports : AppendsFront old.reports new.reports report
+  pub reports : AppendsProperPrefix old.reports new.reports report
   pub read_calm : new.read_faults ≡ old.read_faults
   pub result_calm : new.result_faults ≡ old.result_faults
 

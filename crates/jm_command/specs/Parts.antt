@@ -2,8 +2,8 @@
 use Rattle.std.specs.Prelude.{◌≡◌, ◌⊎◌, ℕ, ◌<◌, ◌≤◌, Bool, true, List, length, Option, Some, None}
 use Rattle.std.specs.Io.KnownBytes.{Appends}
 use Rattle.jm_base.specs.Counts.{Rose}
-use Rattle.edge_io.specs.Edges.{AppendsFront}
-use Rattle.line_output.specs.Pieces.{AppendsPart}
+use Rattle.edge_io.specs.Edges.{AppendsProperPrefix}
+use Rattle.line_output.specs.OutputPieces.{AppendsPart}
 use Rattle.trace_output.specs.Printing.{TextOut, TextFailed, TextCut}
 use Rattle.element_props.specs.Patterns.{Asked}
 use Rattle.element_tree.specs.Tree.{Tree, threads_of}
@@ -64,14 +64,14 @@ pub record BothOut (results report : List ℕ) (old new : Sinks) : Type 0 where
 
 -- a prefix of the results is out, and the report was not begun
 pub record ResultsFailed (results : List ℕ) (old new : Sinks) : Type 0 where
-  pub some : AppendsFront old.results new.results results
+  pub some : AppendsProperPrefix old.results new.results results
   pub rose : Rose old.result_faults new.result_faults
   pub nothing : NoReports old new
 
 -- the results and a prefix of the report are out
 pub record ReportFailed (results report : List ℕ) (old new : Sinks) : Type 0 where
   pub results_out : Appends old.results new.results results
-  pub some : AppendsFront old.reports new.reports report
+  pub some : AppendsProperPrefix old.reports new.reports report
   pub rose : Rose old.report_faults new.report_faults
   pub result_calm : new.result_faults ≡ old.result_faults
 

@@ -3,7 +3,7 @@ use Rattle.std.specs.Prelude.{◌≡◌, codes, ℕ, Bool, true, false, List, []
 use Rattle.std.specs.List.{flat_map}
 use Rattle.std.specs.Option.{option_map_or}
 use Rattle.jm_base.specs.declared.types.Entry.{Entry}
-use Rattle.var_functions.specs.Props.{pairs_of}
+use Rattle.var_functions.specs.RunProps.{pairs_of}
 use Rattle.jm_base.specs.declared.types.End.{End}
 use Rattle.jm_base.specs.declared.types.End.TheVariants.{Completed, StopThread, StopTest, Stopped, SampleLimit, RoundLimit, ValueLimit, NoMemory}
 use Rattle.jm_base.specs.Run.{over_value}

@@ -18,7 +18,7 @@ use element_tree::{Plan, write_plan};
 use jm_base::{M, NoMemory};
 use outside_world::ScriptOutside;
 use std::alloc::Global;
-use thread_machine::{Solo as Ran, run_alone};
+use thread_machine::{FinishedThread, run_alone};
 use trace_output::{PrintError, print_results};
 use var_functions::{Props, PropsError};
 
@@ -119,7 +119,7 @@ fn print_solo<O: Sink, E: Sink>(
 }
 
 // Runs a thread of the plan over the plan's own replies.
-fn run_thread(alloc: Global, solo: &Solo, plan: &Plan) -> M<Ran>
+fn run_thread(alloc: Global, solo: &Solo, plan: &Plan) -> M<FinishedThread>
     requires { HasThread solo.now plan.now }
     ensures shown { IfOk result (λ ran. IsShown plan.now solo.now (bare ran.trace.items) ran.end) }
     ensures labels { IfOk result (λ ran. All (IsLabelled (length (labels_of plan.now.elements))) ran.trace.items) }

@@ -17,7 +17,7 @@ use element_tree::Plan;
 use interval_tables::Report;
 use jm_base::{End, Entry, M};
 use std::alloc::Global;
-use thread_machine::{Solo, TraceItem};
+use thread_machine::{FinishedThread, TraceItem};
 use trace_output::{PrintError, print_report};
 
 /// Prints the report of a thread that has run: the summary of its samples, and the line that says how it ended.
@@ -25,7 +25,7 @@ pub fn report_ran<E: Sink>(
     alloc: Global,
     plan: &Plan,
     thread: u16,
-    ran: &Solo,
+    ran: &FinishedThread,
     reports: &mut E,
 ) -> Status
     requires thread { thread < length (threads_of plan.now) }

@@ -22,9 +22,9 @@ use Rattle.jm_meaning.proofs.PartLaws.{then-assoc}
 -- the next pair is set, and then those after it
 pub pair-step : (pairs : List Pair) (i : ℕ) (p : Pair) (s : State) → i < length pairs → p ≡ get_or pairs i p
     → set_all (drop i pairs) s ≡ and_then (tried (text p.value) s (put p.name)) (set_all (drop (i + 1) pairs))
-pair-step pairs i p s within is = ap (λ l. set_all l s) (front ∙ ap (λ q. q ∷ drop (i + 1) pairs) (sym is)) where
-  front : drop i pairs ≡ get_or pairs i p ∷ drop (i + 1) pairs
-  front = rw (add-one i) (drop-cons pairs i p within)
+pair-step pairs i p s within is = ap (λ l. set_all l s) (prefix ∙ ap (λ q. q ∷ drop (i + 1) pairs) (sym is)) where
+  prefix : drop i pairs ≡ get_or pairs i p ∷ drop (i + 1) pairs
+  prefix = rw (add-one i) (drop-cons pairs i p within)
 
 pub all-behind : (xs ys : List Pair) (s : State) → set_all (xs ++ ys) s ≡ and_then (set_all xs s) (set_all ys)
 all-behind [] ys s = refl
@@ -36,10 +36,10 @@ all-behind (x ∷ xs) ys s =
 pub element-step : (elements : List Element) (i : ℕ) (e : Element) (s : State) → i < length elements → e ≡ get_or elements i e
     → set_all (user_variables (drop i elements)) s ≡ and_then (set_all (pairs_of e.kind) s) (set_all (user_variables (drop (i + 1) elements)))
 element-step elements i e s within is =
-    ap (λ l. set_all (user_variables l) s) (front ∙ ap (λ q. q ∷ drop (i + 1) elements) (sym is))
+    ap (λ l. set_all (user_variables l) s) (prefix ∙ ap (λ q. q ∷ drop (i + 1) elements) (sym is))
     ∙ all-behind (pairs_of e.kind) (user_variables (drop (i + 1) elements)) s where
-      front : drop i elements ≡ get_or elements i e ∷ drop (i + 1) elements
-      front = rw (add-one i) (drop-cons elements i e within)
+      prefix : drop i elements ≡ get_or elements i e ∷ drop (i + 1) elements
+      prefix = rw (add-one i) (drop-cons elements i e within)
 
 -- an element of another kind has none
 pub none-of : (k : Kind) → ((vars : List Pair) → k ≡ UserVariables vars → ⊥) → pairs_of k ≡ []

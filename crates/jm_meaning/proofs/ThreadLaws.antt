@@ -35,9 +35,9 @@ all_append : {A : Type 0} (P : A → Type 0) (xs ys : List A) → AllByRecursion
 all_append P [] ys a b = b
 all_append P (x ∷ xs) ys a b = (a.0, all_append P xs ys a.1 b)
 
-behind : (front : List Element) (e : Element) (es : List Element) → slice_get (front ++ e ∷ es) (length front) ≡ Some e
+behind : (prefix : List Element) (e : Element) (es : List Element) → slice_get (prefix ++ e ∷ es) (length prefix) ≡ Some e
 behind [] e es = refl
-behind (x ∷ front) e es = behind front e es
+behind (x ∷ prefix) e es = behind prefix e es
 
 of_group : (elements : List Element) (element group n size : ℕ) (e : Element) → slice_get elements element ≡ Some e → group_size e.kind ≡ Some size → n ≤ size
     → AllByRecursion (IsOneOf elements) (group_threads element group n)
@@ -47,19 +47,19 @@ of_group elements element group (suc n) size e is sized le =
     (of_group elements element group n size e is sized (omega (arith, le)))
     (record { element = e; size = size; there = is; sized = sized; first = omega arith; last = le }, tt)
 
-of_first : (front : List Element) (e : Element) (es : List Element) (group : ℕ) → ((g : ℕ) → AllByRecursion (IsOneOf (front ++ e ∷ es)) (threads_from (length front + 1) g es))
-    → (o : Option ℕ) → group_size e.kind ≡ o → AllByRecursion (IsOneOf (front ++ e ∷ es)) (threads_with (length front) group o (λ g. threads_from (length front + 1) g es))
-of_first front e es group later None is = later group
-of_first front e es group later (Some n) is =
-    all_append (IsOneOf (front ++ e ∷ es)) (group_threads (length front) group n) (threads_from (length front + 1) (group + 1) es)
-    (of_group (front ++ e ∷ es) (length front) group n n e (behind front e es) is (omega arith)) (later (group + 1))
+of_first : (prefix : List Element) (e : Element) (es : List Element) (group : ℕ) → ((g : ℕ) → AllByRecursion (IsOneOf (prefix ++ e ∷ es)) (threads_from (length prefix + 1) g es))
+    → (o : Option ℕ) → group_size e.kind ≡ o → AllByRecursion (IsOneOf (prefix ++ e ∷ es)) (threads_with (length prefix) group o (λ g. threads_from (length prefix + 1) g es))
+of_first prefix e es group later None is = later group
+of_first prefix e es group later (Some n) is =
+    all_append (IsOneOf (prefix ++ e ∷ es)) (group_threads (length prefix) group n) (threads_from (length prefix + 1) (group + 1) es)
+    (of_group (prefix ++ e ∷ es) (length prefix) group n n e (behind prefix e es) is (omega arith)) (later (group + 1))
 
-of_elements : (front es : List Element) (group : ℕ) → AllByRecursion (IsOneOf (front ++ es)) (threads_from (length front) group es)
-of_elements front [] group = tt
-of_elements front (e ∷ es) group =
-    of_first front e es group
-    (λ g. subst (λ n. AllByRecursion (IsOneOf (front ++ e ∷ es)) (threads_from n g es)) (length-append front (e ∷ []))
-    (subst (λ xs. AllByRecursion (IsOneOf xs) (threads_from (length (front ++ e ∷ [])) g es)) (append_assoc front (e ∷ []) es) (of_elements (front ++ e ∷ []) es g)))
+of_elements : (prefix es : List Element) (group : ℕ) → AllByRecursion (IsOneOf (prefix ++ es)) (threads_from (length prefix) group es)
+of_elements prefix [] group = tt
+of_elements prefix (e ∷ es) group =
+    of_first prefix e es group
+    (λ g. subst (λ n. AllByRecursion (IsOneOf (prefix ++ e ∷ es)) (threads_from n g es)) (length-append prefix (e ∷ []))
+    (subst (λ xs. AllByRecursion (IsOneOf xs) (threads_from (length (prefix ++ e ∷ [])) g es)) (append_assoc prefix (e ∷ []) es) (of_elements (prefix ++ e ∷ []) es g)))
     (group_size e.kind) refl
 
 pub is_one_of : (elements : List Element) (i : ℕ) (t : Thread) → slice_get (threads_in elements) i ≡ Some t → IsOneOf elements t

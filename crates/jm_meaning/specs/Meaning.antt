@@ -110,9 +110,9 @@ abbrev pub and_end : Run Ending → Run Unit
 and_end run = run >>= λ e. give (Ended (end_of e.signal)) (over tt)
 
 -- a pause of that many milliseconds, where there is one, and then the run
-abbrev pub behind_pause : {A : Type 0} → ℕ → Run A → Run A
-behind_pause zero run = run
-behind_pause (suc ms) run = wait (suc ms) (give (Waited (suc ms)) run)
+abbrev pub after_pause : {A : Type 0} → ℕ → Run A → Run A
+after_pause zero run = run
+after_pause (suc ms) run = wait (suc ms) (give (Waited (suc ms)) run)
 
 -- the first variables of a thread are set, and then come the rounds of its group
 abbrev pub thread_part : Tree → ℕ → Part
@@ -121,4 +121,4 @@ thread_part plan group s = and_then (set_first plan.elements s) (group_part (her
 -- the events of a thread by its number: its ramp-up pause, its first variables, the rounds of its group, and its end
 unfoldable pub events : Tree → ℕ → Options → Run (Unit {0})
 events plan thread options =
-    behind_pause (pause_of plan thread) (and_end (thread_part plan (group_of plan thread) (first_of plan thread options)))
+    after_pause (pause_of plan thread) (and_end (thread_part plan (group_of plan thread) (first_of plan thread options)))

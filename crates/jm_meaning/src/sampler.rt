@@ -178,7 +178,7 @@ fn sample_of_reply(alloc: Global, label: u16, first: u64, second: u64, reply: &R
         elapsed: capped(second.saturating_sub(first)),
         label,
         code: reply.code,
-        message: Text::new(alloc, front(reply.message.bytes()))?,
+        message: Text::new(alloc, prefix(reply.message.bytes()))?,
         ok: 200 <= reply.code && reply.code <= 399,
         failure: Text::new(alloc, &[])?,
         bytes: capped(reply.body.bytes().len() as u64),
@@ -196,7 +196,7 @@ fn capped(n: u64) -> u32
     }
 }
 
-fn front(bytes: &[u8]) -> &[u8]
+fn prefix(bytes: &[u8]) -> &[u8]
     ensures { result.now ≡ Rattle.std.specs.Prelude.take 256 bytes.now }
 {
     if bytes.len() > 256 {

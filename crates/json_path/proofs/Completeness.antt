@@ -58,21 +58,21 @@ append-nil [] = refl
 append-nil (x ∷ xs) = ap (λ ys. x ∷ ys) (append-nil xs)
 
 -- further bytes of a name
-name_run : (at : ℕ) (more front : List ℕ) (ss : List Step) → list_all is_name_byte more ≡ true → run at more (in_name ss front) ≡ Ok (in_name ss (front ++ more))
-name_run at [] front ss h = run-none at (in_name ss front) ∙ ap (λ x. Ok (in_name ss x)) (sym (append-nil front))
-name_run at (b ∷ bs) front ss h =
+name_run : (at : ℕ) (more prefix : List ℕ) (ss : List Step) → list_all is_name_byte more ≡ true → run at more (in_name ss prefix) ≡ Ok (in_name ss (prefix ++ more))
+name_run at [] prefix ss h = run-none at (in_name ss prefix) ∙ ap (λ x. Ok (in_name ss x)) (sym (append-nil prefix))
+name_run at (b ∷ bs) prefix ss h =
     let (is, rest) = and_true (is_name_byte b) (list_all is_name_byte bs) h in
-    run-next at b bs (in_name ss front) (in_name ss (front ++ b ∷ [])) (ap (λ c. if c then Some (in_name ss (front ++ b ∷ [])) else begin_step b (between (ss ++ Name front ∷ []))) is)
-    ∙ name_run (at + 1) bs (front ++ b ∷ []) ss rest ∙ ap (λ x. Ok (in_name ss x)) (append_assoc front (b ∷ []) bs)
+    run-next at b bs (in_name ss prefix) (in_name ss (prefix ++ b ∷ [])) (ap (λ c. if c then Some (in_name ss (prefix ++ b ∷ [])) else begin_step b (between (ss ++ Name prefix ∷ []))) is)
+    ∙ name_run (at + 1) bs (prefix ++ b ∷ []) ss rest ∙ ap (λ x. Ok (in_name ss x)) (append_assoc prefix (b ∷ []) bs)
 
 -- further bytes of a quoted name
-quoted_run : (at : ℕ) (more front : List ℕ) (ss : List Step) → list_all is_quotable more ≡ true → run at more (in_quotes ss front) ≡ Ok (in_quotes ss (front ++ more))
-quoted_run at [] front ss h = run-none at (in_quotes ss front) ∙ ap (λ x. Ok (in_quotes ss x)) (sym (append-nil front))
-quoted_run at (b ∷ bs) front ss h =
+quoted_run : (at : ℕ) (more prefix : List ℕ) (ss : List Step) → list_all is_quotable more ≡ true → run at more (in_quotes ss prefix) ≡ Ok (in_quotes ss (prefix ++ more))
+quoted_run at [] prefix ss h = run-none at (in_quotes ss prefix) ∙ ap (λ x. Ok (in_quotes ss x)) (sym (append-nil prefix))
+quoted_run at (b ∷ bs) prefix ss h =
     let (is, rest) = and_true (is_quotable b) (list_all is_quotable bs) h in
-    run-next at b bs (in_quotes ss front) (in_quotes ss (front ++ b ∷ []))
-    (ap (λ c. if c then Some (after_quote ss front) else Some (in_quotes ss (front ++ b ∷ []))) (not_true (b == 39) is))
-    ∙ quoted_run (at + 1) bs (front ++ b ∷ []) ss rest ∙ ap (λ x. Ok (in_quotes ss x)) (append_assoc front (b ∷ []) bs)
+    run-next at b bs (in_quotes ss prefix) (in_quotes ss (prefix ++ b ∷ []))
+    (ap (λ c. if c then Some (after_quote ss prefix) else Some (in_quotes ss (prefix ++ b ∷ []))) (not_true (b == 39) is))
+    ∙ quoted_run (at + 1) bs (prefix ++ b ∷ []) ss rest ∙ ap (λ x. Ok (in_quotes ss x)) (append_assoc prefix (b ∷ []) bs)
   where
     not_true : (c : Bool) → not c ≡ true → c ≡ false
     not_true true e = absurd cc
@@ -85,19 +85,19 @@ lt_true : (a b : ℕ) → a < b → nat_lt a b ≡ true
 lt_true a b h = grind (arith, nat_tests)
 
 -- further digits of a place
-index_run : (at : ℕ) (more front : List ℕ) (ss : List Step) → list_all is_ascii_digit more ≡ true → length front + length more ≤ 9 → run at more (in_index ss front) ≡ Ok (in_index ss (front ++ more))
-index_run at [] front ss h few = run-none at (in_index ss front) ∙ ap (λ x. Ok (in_index ss x)) (sym (append-nil front))
-index_run at (b ∷ bs) front ss h few =
+index_run : (at : ℕ) (more prefix : List ℕ) (ss : List Step) → list_all is_ascii_digit more ≡ true → length prefix + length more ≤ 9 → run at more (in_index ss prefix) ≡ Ok (in_index ss (prefix ++ more))
+index_run at [] prefix ss h few = run-none at (in_index ss prefix) ∙ ap (λ x. Ok (in_index ss x)) (sym (append-nil prefix))
+index_run at (b ∷ bs) prefix ss h few =
     let (is, rest) = and_true (is_ascii_digit b) (list_all is_ascii_digit bs) h in
-    let one : length (front ++ b ∷ []) ≡ length front + 1 = omega (arith, length-append front (b ∷ [])) in
-    let fewer : length front < 9 = omega arith in
-    let after : State = in_index ss (front ++ b ∷ []) in
-    let closing : State = with_index (in_index ss front) in
-    run-next at b bs (in_index ss front) after
-    (ap (λ c. if c then Some closing else if is_ascii_digit b && nat_lt (length front) 9 then Some after else None) (digit_bytes b is).0
-    ∙ ap (λ c. if c && nat_lt (length front) 9 then Some after else None) is
-    ∙ ap (λ c. if c then Some after else None) (lt_true (length front) 9 fewer))
-    ∙ index_run (at + 1) bs (front ++ b ∷ []) ss rest (omega arith) ∙ ap (λ x. Ok (in_index ss x)) (append_assoc front (b ∷ []) bs)
+    let one : length (prefix ++ b ∷ []) ≡ length prefix + 1 = omega (arith, length-append prefix (b ∷ [])) in
+    let fewer : length prefix < 9 = omega arith in
+    let after : State = in_index ss (prefix ++ b ∷ []) in
+    let closing : State = with_index (in_index ss prefix) in
+    run-next at b bs (in_index ss prefix) after
+    (ap (λ c. if c then Some closing else if is_ascii_digit b && nat_lt (length prefix) 9 then Some after else None) (digit_bytes b is).0
+    ∙ ap (λ c. if c && nat_lt (length prefix) 9 then Some after else None) is
+    ∙ ap (λ c. if c then Some after else None) (lt_true (length prefix) 9 fewer))
+    ∙ index_run (at + 1) bs (prefix ++ b ∷ []) ss rest (omega arith) ∙ ap (λ x. Ok (in_index ss x)) (append_assoc prefix (b ∷ []) bs)
 
 -- where steps have been read, another one leads to where it is read too
 pub record Leads (at : ℕ) (bytes : List ℕ) (s : State) (ss : List Step) : Type 0 where

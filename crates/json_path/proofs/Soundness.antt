@@ -189,14 +189,14 @@ viable _ _ (at_star ss rest are) =
 
 -- the first of these bytes that can't stand
 record Sticks (begin : State) (before bytes : List ℕ) (from at : ℕ) : Type 0 where
-  front : List ℕ
+  prefix : List ℕ
   byte : ℕ
   behind : List ℕ
   state : State
-  all : bytes ≡ front ++ byte ∷ behind
-  place : at ≡ from + length front
-  ran : run from front begin ≡ Ok state
-  reached : Reached state (before ++ front)
+  all : bytes ≡ prefix ++ byte ∷ behind
+  place : at ≡ from + length prefix
+  ran : run from prefix begin ≡ Ok state
+  reached : Reached state (before ++ prefix)
   stuck : next byte state ≡ None
 
 Leads : State → List ℕ → List ℕ → ℕ → Result State ℕ → Type 0
@@ -207,14 +207,14 @@ leads_on : (b : ℕ) (bytes before : List ℕ) (from : ℕ) (s s' : State) (r : 
 unfolding Leads
 leads_on b bytes before from s s' (Ok u) e h = subst (λ x. Reached u x) (append_assoc before (b ∷ []) bytes) h
 leads_on b bytes before from s s' (Err at) e h = record {
-  front = b ∷ h.front;
+  prefix = b ∷ h.prefix;
   byte = h.byte;
   behind = h.behind;
   state = h.state;
   all = ap (λ x. b ∷ x) h.all;
-  place = h.place ∙ further (length h.front);
-  ran = run-next from b h.front s s' e ∙ h.ran;
-  reached = subst (λ x. Reached h.state x) (append_assoc before (b ∷ []) h.front) h.reached;
+  place = h.place ∙ further (length h.prefix);
+  ran = run-next from b h.prefix s s' e ∙ h.ran;
+  reached = subst (λ x. Reached h.state x) (append_assoc before (b ∷ []) h.prefix) h.reached;
   stuck = h.stuck;
 }
   where
@@ -233,7 +233,7 @@ leads (b ∷ bytes) before from s reached = go (next b s) refl (next_reached b s
         ((s' : State) → Reached s' (before ++ b ∷ []) → Leads s' (before ++ b ∷ []) bytes (from + 1) (run (from + 1) bytes s')) →
         Leads s before (b ∷ bytes) from (state_or_fault from o (run (from + 1) bytes))
     go None e r ih = record {
-      front = [];
+      prefix = [];
       byte = b;
       behind = bytes;
       state = s;
@@ -279,20 +279,20 @@ answer_end _ _ (at_star ss rest are) text is ran = not_whole text (after_star ss
 
 stuck_fault : (text : List ℕ) (at : ℕ) → Sticks start [] text 0 at → IsFaultOf text at
 stuck_fault text at h = record {
-  before = h.front;
+  before = h.prefix;
   after = h.byte ∷ h.behind;
   all = h.all;
-  place = h.place ∙ zero-plus (length h.front);
-  stands = viable h.state h.front h.reached;
-  stops = λ w. unread (0 + length h.front) w.1 (sym (stays w.0) ∙ whole_path 0 ((h.front ++ h.byte ∷ []) ++ w.0) w.1 w.2);
+  place = h.place ∙ zero-plus (length h.prefix);
+  stands = viable h.state h.prefix h.reached;
+  stops = λ w. unread (0 + length h.prefix) w.1 (sym (stays w.0) ∙ whole_path 0 ((h.prefix ++ h.byte ∷ []) ++ w.0) w.1 w.2);
 }
   where
     zero-plus : (n : ℕ) → 0 + n ≡ n
     zero-plus n = omega arith
 
-    stays : (more : List ℕ) → or_else_fault (run 0 ((h.front ++ h.byte ∷ []) ++ more) start) (finish 0) ≡ Err (0 + length h.front)
+    stays : (more : List ℕ) → or_else_fault (run 0 ((h.prefix ++ h.byte ∷ []) ++ more) start) (finish 0) ≡ Err (0 + length h.prefix)
     stays more = ap (λ o. or_else_fault o (finish 0))
-        (ap (λ x. run 0 x start) (append_assoc h.front (h.byte ∷ []) more) ∙ run-then 0 h.front (h.byte ∷ more) start h.state h.ran ∙ run-stuck (0 + length h.front) h.byte more h.state h.stuck)
+        (ap (λ x. run 0 x start) (append_assoc h.prefix (h.byte ∷ []) more) ∙ run-then 0 h.prefix (h.byte ∷ more) start h.state h.ran ∙ run-stuck (0 + length h.prefix) h.byte more h.state h.stuck)
 
 -- What the machine answers is the list of steps that the text spells, or its fault.
 pub path_is_right : (text : List ℕ) → MatchResult (path_of text) (IsPathOf text) (IsFaultOf text)

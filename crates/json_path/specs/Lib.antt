@@ -3,4 +3,4 @@ pub mod Machine
 pub mod Gives
 pub mod Holding
 pub mod Selection
-pub mod Views
+pub mod JsonViews

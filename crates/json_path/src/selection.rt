@@ -6,7 +6,7 @@ ghost use Rattle.serde_json.specs.Data.{Data};
 ghost use Rattle.serde_json.specs.View.{view, items_view, members_view};
 ghost use Rattle.serde_json.specs.Written.{has_float};
 ghost use Rattle.json_path.specs.Selection.{same_text, named, item_at, item_values, member_values, step_values, reached, shown, selected};
-ghost use Rattle.json_path.specs.Views.{data_of};
+ghost use Rattle.json_path.specs.JsonViews.{data_of};
 
 use crate::path::{JsonPath, Step};
 use jm_base::{M, Text};

@@ -3,9 +3,9 @@ use Rattle.std.proofs.Common.{◌≡◌, ℕ, ◌+◌, List, [], ◌++◌, lengt
 use Rattle.std.proofs.lemmas.List.{append-nil, take_at, take-append-le}
 use Rattle.std.proofs.Math.Seq.{take-add, drop-append_seam}
 use Rattle.std.specs.Io.KnownBytes.{Appends}
-use Rattle.edge_io.specs.Edges.{AppendsFront}
+use Rattle.edge_io.specs.Edges.{AppendsProperPrefix}
 use Rattle.edge_io.proofs.EdgeLaws.{Appends-nil, Appends-append}
-use Rattle.line_output.specs.Pieces.{Moves, MovesPart, AppendsPart}
+use Rattle.line_output.specs.OutputPieces.{Moves, MovesPart, AppendsPart}
 
 -- ---- one text after another
 
@@ -39,18 +39,18 @@ take_past : (xs ys : List ℕ) (n : ℕ) → take (length xs + n) (xs ++ ys) ≡
 take_past xs ys n = take-add (length xs) n (xs ++ ys) ∙ (ap (λ l. l ++ take n (drop (length xs) (xs ++ ys))) (take_at xs ys (length xs) refl) ∙ ap (λ l. xs ++ take n l) (drop-append_seam xs ys))
 
 -- a prefix of a text is one of a longer text
-pub front_wider : (a b : Option (List ℕ)) (s t : List ℕ) → AppendsFront a b s → AppendsFront a b (s ++ t)
+pub front_wider : (a b : Option (List ℕ)) (s t : List ℕ) → AppendsProperPrefix a b s → AppendsProperPrefix a b (s ++ t)
 front_wider a b s t f = (f.0, omega (arith, f.1, length-append s t), subst (λ l. Appends a b l) (sym (take-append-le f.0 s t (omega (arith, f.1)))) f.2)
 
 -- a text, and then a prefix of another
-pub front_after : (a b c : Option (List ℕ)) (s t : List ℕ) → Appends a b s → AppendsFront b c t → AppendsFront a c (s ++ t)
+pub front_after : (a b c : Option (List ℕ)) (s t : List ℕ) → Appends a b s → AppendsProperPrefix b c t → AppendsProperPrefix a c (s ++ t)
 front_after a b c s t out f =
     (length s + f.0, omega (arith, f.1, length-append s t), subst (λ l. Appends a c l) (sym (take_past s t f.0)) (Appends-append a b c s (take f.0 t) out f.2))
 
 -- after a text that has moved, a prefix of what is still held back and of one more text
-pub front_more : (a b c : Option (List ℕ)) (held holds s t : List ℕ) → Moves a b held holds s → AppendsFront b c (holds ++ t) → AppendsFront a c (held ++ (s ++ t))
+pub front_more : (a b c : Option (List ℕ)) (held holds s t : List ℕ) → Moves a b held holds s → AppendsProperPrefix b c (holds ++ t) → AppendsProperPrefix a c (held ++ (s ++ t))
 front_more a b c held holds s t m f =
-    subst (λ l. AppendsFront a c l) (sym (append_assoc m.0 holds t) ∙ (ap (λ l. l ++ t) m.2 ∙ append_assoc held s t)) (front_after a b c m.0 (holds ++ t) m.1 f)
+    subst (λ l. AppendsProperPrefix a c l) (sym (append_assoc m.0 holds t) ∙ (ap (λ l. l ++ t) m.2 ∙ append_assoc held s t)) (front_after a b c m.0 (holds ++ t) m.1 f)
 
 -- ---- to the end
 
@@ -59,8 +59,8 @@ pub all_sent : (a b c : Option (List ℕ)) (holds s : List ℕ) → Moves a b []
 all_sent a b c holds s m out = subst (λ l. Appends a c l) m.2 (Appends-append a b c m.0 holds m.1 out)
 
 -- a prefix of what was still held back goes out
-pub front_sent : (a b c : Option (List ℕ)) (holds s : List ℕ) → Moves a b [] holds s → AppendsFront b c holds → AppendsFront a c s
-front_sent a b c holds s m f = subst (λ l. AppendsFront a c l) m.2 (front_after a b c m.0 holds m.1 f)
+pub front_sent : (a b c : Option (List ℕ)) (holds s : List ℕ) → Moves a b [] holds s → AppendsProperPrefix b c holds → AppendsProperPrefix a c s
+front_sent a b c holds s m f = subst (λ l. AppendsProperPrefix a c l) m.2 (front_after a b c m.0 holds m.1 f)
 
 -- what is held back is given up, with what was not put
 pub part_sent : (a b : Option (List ℕ)) (holds t : List ℕ) → MovesPart a b [] holds t → AppendsPart a b t

@@ -3,8 +3,8 @@
 ghost use Rattle.std.specs.Prelude.{◌≡◌, ◌≤◌, ◌++◌, [], length, IfOk, OnOk, OnErr};
 ghost use Rattle.std.specs.Io.KnownBytes.{Appends};
 ghost use Rattle.jm_base.specs.Counts.{Rose};
-ghost use Rattle.edge_io.specs.Edges.{AppendsFront};
-ghost use Rattle.line_output.specs.Pieces.{Moves};
+ghost use Rattle.edge_io.specs.Edges.{AppendsProperPrefix};
+ghost use Rattle.line_output.specs.OutputPieces.{Moves};
 
 use edge_io::{Sink, write_all};
 use jm_base::{Failed, M};
@@ -49,7 +49,7 @@ impl Pending {
         ensures moved { OnOk result (Moves (K.written sink.old) (K.written sink.new) self.old self.new text.now) }
         ensures ok { OnOk result (K.faults sink.new ≡ K.faults sink.old) }
 
-        ensures front { OnErr result (AppendsFront (K.written sink.old) (K.written sink.new) (self.old ++ text.now)) }
+        ensures prefix { OnErr result (AppendsProperPrefix (K.written sink.old) (K.written sink.new) (self.old ++ text.now)) }
         ensures cause { OnErr result (Rose (K.faults sink.old) (K.faults sink.new)) }
         ensures gone { OnErr result (self.new ≡ []) }
 
@@ -67,7 +67,7 @@ impl Pending {
         ensures moved { OnOk result (Moves (K.written sink.old) (K.written sink.new) self.old self.new text.now) }
         ensures ok { OnOk result (K.faults sink.new ≡ K.faults sink.old) }
 
-        ensures front { OnErr result (AppendsFront (K.written sink.old) (K.written sink.new) (self.old ++ text.now)) }
+        ensures prefix { OnErr result (AppendsProperPrefix (K.written sink.old) (K.written sink.new) (self.old ++ text.now)) }
         ensures cause { OnErr result (Rose (K.faults sink.old) (K.faults sink.new)) }
         ensures gone { OnErr result (self.new ≡ []) }
 
@@ -86,7 +86,7 @@ impl Pending {
         ensures whole { OnOk result (Appends (K.written sink.old) (K.written sink.new) self.old) }
         ensures ok { OnOk result (K.faults sink.new ≡ K.faults sink.old) }
 
-        ensures front { OnErr result (AppendsFront (K.written sink.old) (K.written sink.new) self.old) }
+        ensures prefix { OnErr result (AppendsProperPrefix (K.written sink.old) (K.written sink.new) self.old) }
         ensures cause { OnErr result (Rose (K.faults sink.old) (K.faults sink.new)) }
 
         ensures gone { self.new ≡ [] }

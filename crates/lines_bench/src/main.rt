@@ -27,7 +27,7 @@ fn first_sample(alloc: Global) -> M<Sample> {
     })
 }
 
-/// Writes the line of a sample so many times, each into the place of the one before, and gives the bytes of all lines.
+/// Writes the line of a sample that many times, each into the place of the one before, and gives the bytes of all lines.
 fn write_often(alloc: Global, plan: &Plan, sample: &Sample, count: u64) -> M<u64>
     requires thread { 0 < length (threads_of plan.now) }
     requires label { sample.now.label < length (labels_of plan.now.elements) }

@@ -10,8 +10,8 @@ use Rattle.var_functions.specs.Expansion.{expanded, expansion}
 use Rattle.var_functions.specs.Came.{Refused}
 use Rattle.element_tree.specs.declared.package.Turn.TheVariants.{Child, Over}
 use Rattle.cursor_steps.specs.declared.pass.Pass.{Pass}
-use Rattle.cursor_steps.specs.Step.{answers, past_limit, expanding}
-use Rattle.cursor_steps.specs.Children.{is_left, behind_child, pass_over}
+use Rattle.cursor_steps.specs.CursorStep.{answers, past_limit, expanding}
+use Rattle.cursor_steps.specs.Children.{is_left, after_child, pass_over}
 use Rattle.cursor_steps.proofs.Steps.{text-came, text-refused}
 use Rattle.cursor_steps.proofs.Passes.{some-left, none-left}
 use Rattle.logic_controllers.specs.declared.if_cursor.IfCursor.{IfCursor}
@@ -41,13 +41,13 @@ if-over all condition c state h = let none : is_left c.pass ≡ false = none-lef
 
 -- a child is left
 pub if-plain : (all : Bool) (condition : Pieces) (c : IfCursor) (state : UserState) (place : ℕ) (pass : Pass) → c.pass.next < c.pass.children → all ≡ false
-    → place ≡ c.pass.next → pass ≡ behind_child c.pass
+    → place ≡ c.pass.next → pass ≡ after_child c.pass
     → if_next all condition c state ≡ answers (Child place) (record { element = c.element; pass = pass }) state
 if-plain all condition c state place pass h each is behind = let left : is_left c.pass ≡ true = some-left c.pass h in rw (left, each, is, behind) refl
 
 pub if-child : (a b : Account) (all : Bool) (condition : Pieces) (c : IfCursor) (old new : UserState) (text : List ℕ) (place : ℕ) (pass : Pass) → c.pass.next < c.pass.children → all ≡ true
     → Goes a (expansion condition old.vars old.fns) [] (over (expanded (Some text) new.fns)) b → new.vars ≡ old.vars → is_true text ≡ true
-    → place ≡ c.pass.next → pass ≡ behind_child c.pass
+    → place ≡ c.pass.next → pass ≡ after_child c.pass
     → Goes a (if_next all condition c old) [] (answers (Child place) (record { element = c.element; pass = pass }) new) b
 if-child a b all condition c old new text place pass h each goes same holds is behind =
     let left : is_left c.pass ≡ true = some-left c.pass h in

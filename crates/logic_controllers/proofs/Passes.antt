@@ -7,15 +7,15 @@ use Rattle.element_tree.specs.declared.package.Turn.TheVariants.{Child, Over}
 use Rattle.cursor_steps.specs.declared.pass.Pass.{Pass}
 use Rattle.logic_controllers.specs.declared.simple_cursor.SimpleCursor.{SimpleCursor}
 use Rattle.logic_controllers.specs.declared.once_cursor.OnceCursor.{OnceCursor}
-use Rattle.cursor_steps.specs.Step.{answers}
-use Rattle.cursor_steps.specs.Children.{is_left, behind_child}
+use Rattle.cursor_steps.specs.CursorStep.{answers}
+use Rattle.cursor_steps.specs.Children.{is_left, after_child}
 use Rattle.cursor_steps.proofs.Passes.{some-left, none-left}
 use Rattle.logic_controllers.specs.SimpleController.{simple_next}
 use Rattle.logic_controllers.specs.OnceOnlyController.{once_next}
 
 -- ---- Simple
 
-pub simple-child : (c : SimpleCursor) (state : UserState) (place : ℕ) (pass : Pass) → (place ≡ c.pass.next) × (place < c.pass.children) × (pass ≡ behind_child c.pass)
+pub simple-child : (c : SimpleCursor) (state : UserState) (place : ℕ) (pass : Pass) → (place ≡ c.pass.next) × (place < c.pass.children) × (pass ≡ after_child c.pass)
     → simple_next c state ≡ answers (Child place) (record c { pass = pass }) state
 simple-child c state place pass h =
     let left : is_left c.pass ≡ true = some-left c.pass (omega (arith, h.0, h.1)) in rw (left, h.0, h.2) refl
@@ -30,7 +30,7 @@ simple-over c state pass h =
 zero-is : (n : ℕ) → n ≡ 0 → (n == 0) ≡ true
 zero-is n h = rw h refl
 
-pub once-child : (round : ℕ) (c : OnceCursor) (state : UserState) (place : ℕ) (pass : Pass) → round ≡ 0 → (place ≡ c.pass.next) × (place < c.pass.children) × (pass ≡ behind_child c.pass)
+pub once-child : (round : ℕ) (c : OnceCursor) (state : UserState) (place : ℕ) (pass : Pass) → round ≡ 0 → (place ≡ c.pass.next) × (place < c.pass.children) × (pass ≡ after_child c.pass)
     → once_next round c state ≡ answers (Child place) (record c { pass = pass }) state
 once-child round c state place pass first h =
     let left : is_left c.pass ≡ true = some-left c.pass (omega (arith, h.0, h.1)) in rw (first, left, h.0, h.2) refl

@@ -13,8 +13,8 @@ use Rattle.element_tree.specs.declared.package.Turn.{Turn}
 use Rattle.element_tree.specs.declared.package.Turn.TheVariants.{Child, Round, Over}
 use Rattle.cursor_steps.specs.declared.pass.Pass.{Pass}
 use Rattle.logic_controllers.specs.declared.rounds.Rounds.{Rounds}
-use Rattle.cursor_steps.specs.Step.{Step, answers, past_limit, expanding}
-use Rattle.cursor_steps.specs.Children.{is_left, behind_child}
+use Rattle.cursor_steps.specs.CursorStep.{Step, answers, past_limit, expanding}
+use Rattle.cursor_steps.specs.Children.{is_left, after_child}
 use Rattle.logic_controllers.specs.Rounds.{round_begun, opened_vars, opened}
 use Rattle.cursor_steps.proofs.Steps.{text-came, text-refused, vars-refused}
 use Rattle.cursor_steps.proofs.Passes.{some-left, none-left}
@@ -28,7 +28,7 @@ decided c text state =
 
 -- a child is left in the round
 pub while-child : (condition : Pieces) (c : WhileCursor) (state : UserState) (place : ℕ) (pass : Pass)
-    → (place ≡ c.rounds.pass.next) × (place < c.rounds.pass.children) × (pass ≡ behind_child c.rounds.pass)
+    → (place ≡ c.rounds.pass.next) × (place < c.rounds.pass.children) × (pass ≡ after_child c.rounds.pass)
     → while_goes condition c state ≡ answers (Child place) (record { element = c.element; rounds = record c.rounds { pass = pass } }) state
 while-child condition c state place pass h =
     let left : is_left c.rounds.pass ≡ true = some-left c.rounds.pass (omega (arith, h.0, h.1)) in rw (left, h.0, h.2) refl

@@ -8,8 +8,8 @@ use Rattle.element_tree.specs.declared.kinds.Kind.TheVariants.{ForEach}
 use Rattle.element_tree.specs.declared.package.Turn.{Turn}
 use Rattle.element_tree.specs.declared.package.Turn.TheVariants.{Child, Round, Over}
 use Rattle.logic_controllers.specs.declared.each_cursor.EachCursor.{EachCursor}
-use Rattle.cursor_steps.specs.Step.{Step, answers, with_vars}
-use Rattle.cursor_steps.specs.Children.{is_left, behind_child}
+use Rattle.cursor_steps.specs.CursorStep.{Step, answers, with_vars}
+use Rattle.cursor_steps.specs.Children.{is_left, after_child}
 use Rattle.logic_controllers.specs.Rounds.{before_rounds, round_begun, opened_vars, opened}
 
 -- the variables that it reads: the first part of their names, whether `_` stands after it, the number before the first
@@ -44,7 +44,7 @@ each_decides (Some value) c state = answers Round (record c { rounds = round_beg
 -- in a round the next child; after the last one the next value is read
 abbrev pub each_goes : Row → EachCursor → UserState → Run (Step Turn EachCursor)
 each_goes row c state =
-    if is_left c.rounds.pass then answers (Child c.rounds.pass.next) (record c { rounds = record c.rounds { pass = behind_child c.rounds.pass } }) state
+    if is_left c.rounds.pass then answers (Child c.rounds.pass.next) (record c { rounds = record c.rounds { pass = after_child c.rounds.pass } }) state
     else each_decides (value_at row c.rounds.begun state.vars) c state
 
 -- the variables where the kept value goes to the output

@@ -7,8 +7,8 @@ use Rattle.var_functions.specs.declared.state.UserState.{UserState}
 use Rattle.element_tree.specs.declared.package.Turn.{Turn}
 use Rattle.element_tree.specs.declared.package.Turn.TheVariants.{Child, Over}
 use Rattle.logic_controllers.specs.declared.if_cursor.IfCursor.{IfCursor}
-use Rattle.cursor_steps.specs.Step.{Step, answers, expanding}
-use Rattle.cursor_steps.specs.Children.{pass_over, is_left, behind_child}
+use Rattle.cursor_steps.specs.CursorStep.{Step, answers, expanding}
+use Rattle.cursor_steps.specs.Children.{pass_over, is_left, after_child}
 
 -- a condition is true where its text is `true`, in capitals or not
 abbrev pub is_true : List ℕ → Bool
@@ -22,7 +22,7 @@ if_enters false condition children c state =
 
 -- the next child is run
 abbrev pub if_runs : IfCursor → UserState → Run (Step Turn IfCursor)
-if_runs c state = answers (Child c.pass.next) (record c { pass = behind_child c.pass }) state
+if_runs c state = answers (Child c.pass.next) (record c { pass = after_child c.pass }) state
 
 -- where a child is left: with `all` it is run where the condition is true now, without it in any case
 abbrev pub if_goes : Bool → Pieces → IfCursor → UserState → Run (Step Turn IfCursor)

@@ -10,8 +10,8 @@ use Rattle.element_tree.specs.declared.kinds.Loops.TheVariants.{Forever, Times}
 use Rattle.element_tree.specs.declared.package.Turn.{Turn}
 use Rattle.element_tree.specs.declared.package.Turn.TheVariants.{Child, Round, Over}
 use Rattle.logic_controllers.specs.declared.loop_cursor.LoopCursor.{LoopCursor}
-use Rattle.cursor_steps.specs.Step.{Step, answers, expanding, with_vars}
-use Rattle.cursor_steps.specs.Children.{is_left, behind_child}
+use Rattle.cursor_steps.specs.CursorStep.{Step, answers, expanding, with_vars}
+use Rattle.cursor_steps.specs.Children.{is_left, after_child}
 use Rattle.cursor_steps.specs.Numeral.{is_decimal}
 use Rattle.logic_controllers.specs.Rounds.{before_rounds, round_begun, opened_vars, opened}
 
@@ -35,7 +35,7 @@ loop_enters loops children c state =
 -- in a round the next child; after the last one the next round, where one is left
 abbrev pub loop_goes : LoopCursor → UserState → Run (Step Turn LoopCursor)
 loop_goes c state =
-    if is_left c.rounds.pass then answers (Child c.rounds.pass.next) (record c { rounds = record c.rounds { pass = behind_child c.rounds.pass } }) state
+    if is_left c.rounds.pass then answers (Child c.rounds.pass.next) (record c { rounds = record c.rounds { pass = after_child c.rounds.pass } }) state
     else if round_begins c.loops c.rounds.begun then answers Round (record c { rounds = round_begun c.rounds }) state
     else answers Over c state
 

@@ -5,8 +5,8 @@ use Rattle.var_functions.specs.declared.state.UserState.{UserState}
 use Rattle.element_tree.specs.declared.package.Turn.{Turn}
 use Rattle.element_tree.specs.declared.package.Turn.TheVariants.{Child, Over}
 use Rattle.logic_controllers.specs.declared.once_cursor.OnceCursor.{OnceCursor}
-use Rattle.cursor_steps.specs.Step.{Step, answers}
-use Rattle.cursor_steps.specs.Children.{pass_over, is_left, behind_child}
+use Rattle.cursor_steps.specs.CursorStep.{Step, answers}
+use Rattle.cursor_steps.specs.Children.{pass_over, is_left, after_child}
 
 -- a pass over this many children begins
 abbrev pub once_enters : ℕ → OnceCursor → UserState → Run (Step (Unit {0}) OnceCursor)
@@ -15,5 +15,5 @@ once_enters children c state = answers tt (record c { pass = pass_over children 
 -- In round 0 the next child; the pass is over after the last one, and in every other round.
 abbrev pub once_next : ℕ → OnceCursor → UserState → Run (Step Turn OnceCursor)
 once_next round c state =
-    if round == 0 && is_left c.pass then answers (Child c.pass.next) (record c { pass = behind_child c.pass }) state
+    if round == 0 && is_left c.pass then answers (Child c.pass.next) (record c { pass = after_child c.pass }) state
     else answers Over c state

@@ -10,8 +10,8 @@ use Rattle.var_functions.specs.Vars.{Variables, value_of}
 use Rattle.element_tree.specs.declared.package.Turn.{Turn}
 use Rattle.element_tree.specs.declared.package.Turn.TheVariants.{Child, Round, Over}
 use Rattle.logic_controllers.specs.declared.while_cursor.WhileCursor.{WhileCursor}
-use Rattle.cursor_steps.specs.Step.{Step, answers, expanding, with_vars}
-use Rattle.cursor_steps.specs.Children.{is_left, behind_child}
+use Rattle.cursor_steps.specs.CursorStep.{Step, answers, expanding, with_vars}
+use Rattle.cursor_steps.specs.Children.{is_left, after_child}
 use Rattle.logic_controllers.specs.Rounds.{before_rounds, round_begun, opened_vars, opened}
 
 -- spaces only
@@ -48,7 +48,7 @@ while_decides condition c state =
 -- in a round the next child; after the last one it is decided whether a further round begins
 abbrev pub while_goes : Pieces → WhileCursor → UserState → Run (Step Turn WhileCursor)
 while_goes condition c state =
-    if is_left c.rounds.pass then answers (Child c.rounds.pass.next) (record c { rounds = record c.rounds { pass = behind_child c.rounds.pass } }) state
+    if is_left c.rounds.pass then answers (Child c.rounds.pass.next) (record c { rounds = record c.rounds { pass = after_child c.rounds.pass } }) state
     else while_decides condition c state
 
 -- a round that began is opened first

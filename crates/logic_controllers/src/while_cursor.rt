@@ -4,7 +4,7 @@ ghost use Rattle.std.specs.Prelude.{◌≡◌, ◌<◌, ◌≤◌, slice_get, So
 ghost use Rattle.template_text.specs.Pieces.{Pieces};
 ghost use Rattle.element_tree.specs.declared.kinds.Element.{Element};
 ghost use Rattle.var_functions.specs.State.{IsLater};
-ghost use Rattle.cursor_steps.specs.Step.{StepsTo, IsThere};
+ghost use Rattle.cursor_steps.specs.CursorStep.{StepsTo, IsThere};
 ghost use Rattle.cursor_steps.specs.Children.{IsAmong, run_count, Passes};
 ghost use Rattle.logic_controllers.specs.Rounds.{most_rounds, before_rounds, begun_after};
 ghost use Rattle.logic_controllers.specs.WhileController.{is_blank, last_ok, goes_on, while_enters, while_goes, while_next, WhileKept};

@@ -15,12 +15,12 @@ has_samples c = nat_lt 0 c.1.count
 
 -- the line of a label with its row, after these fields
 abbrev pub row_line : List (List ℕ) → List ℕ × Row → List ℕ
-row_line front c =
-    csv_line (front ++ c.0 ∷ decimal c.1.count ∷ decimal c.1.errors ∷ decimal c.1.total ∷ decimal c.1.bytes ∷ decimal c.1.least ∷ decimal c.1.greatest ∷ [])
+row_line prefix c =
+    csv_line (prefix ++ c.0 ∷ decimal c.1.count ∷ decimal c.1.errors ∷ decimal c.1.total ∷ decimal c.1.bytes ∷ decimal c.1.least ∷ decimal c.1.greatest ∷ [])
 
 -- a line for each label that has samples, in the order of the labels
 abbrev pub label_lines : List (List ℕ) → Tree → List Row → List ℕ
-label_lines front plan rows = flat_map (row_line front) (filter has_samples (zip (labels_of plan.elements) rows))
+label_lines prefix plan rows = flat_map (row_line prefix) (filter has_samples (zip (labels_of plan.elements) rows))
 
 -- the line of an interval: its samples and its errors over all labels
 abbrev pub interval_line : Report → List ℕ

@@ -116,18 +116,18 @@ fn all_line(alloc: Global, out: &mut Vec<u8>, report: &Report) -> M<()>
 fn label_lines<'a>(
     alloc: Global,
     out: &mut Vec<u8>,
-    front: &[&'a [u8]],
+    prefix: &[&'a [u8]],
     plan: &'a Plan,
     rows: &[Row],
 ) -> M<()>
     requires { length rows.now ≡ length (labels_of plan.now.elements) }
-    ensures { OnOk result (out.new.items ≡ out.old.items ++ label_lines (map (λ f. f.now) front.now) plan.now rows.now) }
+    ensures { OnOk result (out.new.items ≡ out.old.items ++ label_lines (map (λ f. f.now) prefix.now) plan.now rows.now) }
 {
     for label in 0..plan.labels() {
         let row = &rows[usize::from(label)];
         if row.count > 0 {
             let name = plan.label_text(label);
-            row_line(alloc, out, front, name.bytes(), row)?;
+            row_line(alloc, out, prefix, name.bytes(), row)?;
         }
     }
     Ok(())
@@ -137,11 +137,11 @@ fn label_lines<'a>(
 fn row_line<'a>(
     alloc: Global,
     out: &mut Vec<u8>,
-    front: &[&'a [u8]],
+    prefix: &[&'a [u8]],
     label: &'a [u8],
     row: &Row,
 ) -> M<()>
-    ensures { OnOk result (out.new.items ≡ out.old.items ++ row_line (map (λ f. f.now) front.now) (label.now, row.now)) }
+    ensures { OnOk result (out.new.items ≡ out.old.items ++ row_line (map (λ f. f.now) prefix.now) (label.now, row.now)) }
 {
     let mut count = Buffer::new();
     let mut errors = Buffer::new();
@@ -150,7 +150,7 @@ fn row_line<'a>(
     let mut least = Buffer::new();
     let mut greatest = Buffer::new();
     let mut fields = Vec::new(alloc);
-    fields.extend_from_slice(front)?;
+    fields.extend_from_slice(prefix)?;
     fields.extend_from_slice(&[
         label,
         count.format(row.count).as_bytes(),

@@ -2,7 +2,7 @@
 use Rattle.std.proofs.Common.{Result, Ok, Err, IfOk, OnOk, ◌≡◌, ℕ, List, [], ◌∷◌, ◌⊎◌, inl, inr, sym, refl, ap, ◌∙◌, subst, get_or}
 use Rattle.jm_base.specs.declared.types.Entry.{Entry}
 use Rattle.phaser_core.specs.declared.view.Numbers.{Numbers}
-use Rattle.phaser_core.specs.declared.view.Reading.{Reading}
+use Rattle.phaser_core.specs.declared.view.ReporterView.{ReporterView}
 use Rattle.phaser_core.specs.declared.view.View.{View}
 use Rattle.phaser_core.specs.declared.view.View.TheVariants as view
 use Rattle.phaser_core.specs.declared.view.Event.{Event}
@@ -11,11 +11,11 @@ use Rattle.phaser_core.specs.declared.applied.Applied.{Applied}
 use Rattle.phaser_core.specs.Cells.{is_odd, end_at}
 use Rattle.phaser_core.specs.Step.{core_step}
 use Rattle.phaser_core.specs.Plain.{writer_step, writer_at, step_answer, words_after, writers_after, closing_step, closing_if, with_closing, look_result, look_parts, take_result, take_words, take_parts, split_result, split_writers, join_result, join_writers}
-use Rattle.phaser_core.specs.Shape.{Shape, ShowsViews, found_of, Answered, Applies}
+use Rattle.phaser_core.specs.CoreShape.{Shape, ShowsViews, found_of, Answered, Applies}
 use Rattle.phaser_core.proofs.Simulates.{shape_of, shape_is, writer_answers, swap_answers, clear_answers, flip_answers, stop_answers, look_answers, take_answers, split_answers, join_answers}
 
 -- from what is answered on the shape of a state to any shape that shows it
-shown_applies : (s : Shape) (e : Event) (F : Shape → Applied × Shape) (a : Applied) (t : Shape) (r : Reading) (os : List View) → ShowsViews s r os
+shown_applies : (s : Shape) (e : Event) (F : Shape → Applied × Shape) (a : Applied) (t : Shape) (r : ReporterView) (os : List View) → ShowsViews s r os
     → Answered (shape_of s.numbers s.words r os) e (found_of s.numbers s.words (view.Reporter r ∷ os) e) (core_step s.numbers s.words (view.Reporter r ∷ os) e) (F (shape_of s.numbers s.words r os)).0 (F (shape_of s.numbers s.words r os)).1
     → a ≡ (F s).0 → t ≡ (F s).1 → Answered s e (found_of s.numbers s.words (view.Reporter r ∷ os) e) (core_step s.numbers s.words (view.Reporter r ∷ os) e) a t
 shown_applies s e F a t r os sh h ea et =
@@ -24,7 +24,7 @@ shown_applies s e F a t r os sh h ea et =
     subst (λ (z : Applied × Shape). Answered s e (found_of s.numbers s.words (view.Reporter r ∷ os) e) (core_step s.numbers s.words (view.Reporter r ∷ os) e) z.0 z.1) (λ i. (sym ea i, sym et i)) on_s
 
 to_applies : (s : Shape) (e : Event) (F : Shape → Applied × Shape)
-    → ((n : Numbers) (ws : List ℕ) (r : Reading) (os : List View) → r.labels ≡ n.labels → Answered (shape_of n ws r os) e (found_of n ws (view.Reporter r ∷ os) e) (core_step n ws (view.Reporter r ∷ os) e) (F (shape_of n ws r os)).0 (F (shape_of n ws r os)).1)
+    → ((n : Numbers) (ws : List ℕ) (r : ReporterView) (os : List View) → r.labels ≡ n.labels → Answered (shape_of n ws r os) e (found_of n ws (view.Reporter r ∷ os) e) (core_step n ws (view.Reporter r ∷ os) e) (F (shape_of n ws r os)).0 (F (shape_of n ws r os)).1)
     → (a : Applied) (t : Shape) → a ≡ (F s).0 → t ≡ (F s).1 → Applies s e a t
 to_applies s e F h a t ea et [] sh = absurd sh
 to_applies s e F h a t ea et (view.Reporter r ∷ os) sh = shown_applies s e F a t r os sh (h s.numbers s.words r os sh.labels) ea et

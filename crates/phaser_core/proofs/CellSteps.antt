@@ -10,11 +10,11 @@ use Rattle.phaser_core.specs.declared.view.Numbers.{Numbers}
 use Rattle.jm_base.specs.declared.types.Entry.{Entry}
 use Rattle.phaser_core.specs.declared.view.Stage.{Stage}
 use Rattle.phaser_core.specs.declared.view.Stage.TheVariants.{Out, In, On}
-use Rattle.phaser_core.specs.declared.view.Writing.{Writing}
+use Rattle.phaser_core.specs.declared.view.WriterView.{WriterView}
 use Rattle.phaser_core.specs.declared.view.Joined.{Joined}
-use Rattle.phaser_core.specs.declared.view.Closing.{Closing}
-use Rattle.phaser_core.specs.declared.view.Closing.TheVariants.{Idle, Swapped, Cleared, Waiting, Harvest}
-use Rattle.phaser_core.specs.declared.view.Reading.{Reading}
+use Rattle.phaser_core.specs.declared.view.ReporterStage.{ReporterStage}
+use Rattle.phaser_core.specs.declared.view.ReporterStage.TheVariants.{Idle, Swapped, Cleared, Waiting, Harvest}
+use Rattle.phaser_core.specs.declared.view.ReporterView.{ReporterView}
 use Rattle.phaser_core.specs.declared.view.View.{View}
 use Rattle.phaser_core.specs.declared.view.View.TheVariants.{Reporter, Writer, Gone}
 use Rattle.jm_base.specs.Totals.{one_if, total}
@@ -23,7 +23,7 @@ use Rattle.interval_tables.specs.declared.row.Row.{Row}
 use Rattle.phaser_core.proofs.Halves.{Phased, TimelyStage, AllTimely, Timely, IsLive, Counted, worth_report}
 use Rattle.phaser_core.specs.Cells.{is_odd, end_at, initial, combine, vacant, gather, folded, pick, part, adds, skips, column, sums, done, place, cell_at, table_cells, no_report, report_from, report_of, row_from, rows_from, row_at, rows_in, word_count}
 use Rattle.phaser_core.specs.Invariant.{InsideBefore, MayCount, AllSmall, InTable}
-use Rattle.phaser_core.specs.Moves.{marked, reporter_raised, closed_with, holding, gathered, gathered_if}
+use Rattle.phaser_core.specs.CoreMoves.{marked, reporter_raised, closed_with, holding, gathered, gathered_if}
 use Rattle.phaser_core.specs.Shares.{AllUpTo, AllFrom, Rising}
 use Rattle.phaser_core.specs.Views.{stage_inside, inside, busy, uses, at_stage, turned, pending, current, other, at_closing, active, worth, entry_at, stage_at, value, taken_count, list_at, joined_at}
 use Rattle.phaser_core.proofs.PhaseSteps.{each_set, bound, odd_next, end_low, end_some, same_self, which}
@@ -249,7 +249,7 @@ done_low lb nr f j e (suc d) sum a b =
     let p = pick_low (row_at lb nr e.label == j / 6) (pick (skips f d == j % 6) (part (j % 6) e) (vacant (j % 6))) (vacant (j % 6)) 4294967296 (pick_low (skips f d == j % 6) (part (j % 6) e) (vacant (j % 6)) 4294967296 (part_low (j % 6) e a b) (omega arith)) (omega arith) in
     let o = combine_sum (j % 6) (done lb nr f j e d) x sum in omega arith
 
-stage_low : (n : Numbers) (nr : ℕ) (r : Reading) (l : List (ℕ × Entry)) (s : Stage) (i j : ℕ) → j % 6 < 4 → TimelyStage n r l s → stage_at n.labels nr i j s ≤ 34359738368 * busy s
+stage_low : (n : Numbers) (nr : ℕ) (r : ReporterView) (l : List (ℕ × Entry)) (s : Stage) (i j : ℕ) → j % 6 < 4 → TimelyStage n r l s → stage_at n.labels nr i j s ≤ 34359738368 * busy s
 stage_low n nr r l Out i j sum h = let u = vacant_sum (j % 6) sum in omega arith
 stage_low n nr r l (In p) i j sum h = let u = vacant_sum (j % 6) sum in omega arith
 stage_low n nr r l (On p m e d) i j sum h = let a = done_low n.labels nr (not e.ok) j e d sum h.4 h.5 in let u = vacant_sum (j % 6) sum in let o = one_low (not e.ok) in let b = h.2 in pick_low (m == i) (done n.labels nr (not e.ok) j e d) (vacant (j % 6)) 34359738368 (omega arith) (omega arith)
@@ -260,12 +260,12 @@ joined_low lb a i j (x ∷ xs) sum h =
     let r = joined_low lb a i j xs sum h.1 in let t = list_low lb x.number i j x.list sum h.0.2 in
     let o = combine_sum (j % 6) (list_at lb x.number i j x.list) (joined_at lb i j xs) sum in omega arith
 
-value_low : (n : Numbers) (r : Reading) (v : View) (i j : ℕ) → j % 6 < 4 → Timely n r v → value n.labels i j v ≤ 34359738368 * uses v
+value_low : (n : Numbers) (r : ReporterView) (v : View) (i j : ℕ) → j % 6 < 4 → Timely n r v → value n.labels i j v ≤ 34359738368 * uses v
 value_low n r (Reporter q) i j sum h = joined_low n.labels (active r) i j q.joined sum h
 value_low n r (Writer w) i j sum h = let a = list_low n.labels w.number i j w.list sum h.3 in let b = stage_low n w.number r w.list w.stage i j sum h.0 in let o = combine_sum (j % 6) (gather (j % 6) (entry_at n.labels w.number i j) w.list) (stage_at n.labels w.number i j w.stage) sum in omega arith
 value_low n r Gone i j sum h = let u = vacant_sum (j % 6) sum in omega arith
 
-value_bound : (n : Numbers) (ws : List ℕ) (vs : List View) (p : Phased n ws vs) (r : Reading) (c : Counted n ws vs r) (i j : ℕ) → j % 6 < 4 → worth n.labels i j vs ≤ 144115188075855872
+value_bound : (n : Numbers) (ws : List ℕ) (vs : List View) (p : Phased n ws vs) (r : ReporterView) (c : Counted n ws vs r) (i j : ℕ) → j % 6 < 4 → worth n.labels i j vs ≤ 144115188075855872
 value_bound n ws vs p r c i j sum =
     let z = gather_sum (j % 6) (value n.labels i j) vs sum in
     let a : total (value n.labels i j) vs ≤ total (λ v. 34359738368 * uses v) vs = total_le (value n.labels i j) (λ v. 34359738368 * uses v) vs (λ id v e. value_low n r v i j sum (c.timely id v e)) in
@@ -283,24 +283,24 @@ joined_none : (lb : ℕ) (a i j : ℕ) (js : List Joined) → AllTimely a js →
 joined_none lb a i j [] h lt = refl
 joined_none lb a i j (x ∷ xs) h lt = (λ t. combine (j % 6) (list_none lb x.number a i j x.list h.0.1 lt t) (joined_none lb a i j xs h.1 lt t)) ∙ vacant_vacant (j % 6)
 
-pub may_low : (c : Closing) (k m : ℕ) (q p : Bool) → MayCount c k q p m → (k ≤ m) × (m ≤ k + pending c)
+pub may_low : (c : ReporterStage) (k m : ℕ) (q p : Bool) → MayCount c k q p m → (k ≤ m) × (m ≤ k + pending c)
 may_low Idle k m q p h = (omega arith, omega arith)
 may_low Swapped k m q p h = h
 may_low Cleared k m q p h = h
 may_low (Waiting want) k m q p h = (h.0, h.1)
 may_low (Harvest j) k m q p h = (omega arith, omega arith)
 
-stage_none : (n : Numbers) (nr : ℕ) (r : Reading) (l : List (ℕ × Entry)) (s : Stage) (i j : ℕ) → TimelyStage n r l s → active r < i → stage_at n.labels nr i j s ≡ vacant (j % 6)
+stage_none : (n : Numbers) (nr : ℕ) (r : ReporterView) (l : List (ℕ × Entry)) (s : Stage) (i j : ℕ) → TimelyStage n r l s → active r < i → stage_at n.labels nr i j s ≡ vacant (j % 6)
 stage_none n nr r l Out i j h lt = refl
 stage_none n nr r l (In p) i j h lt = refl
 stage_none n nr r l (On p m e d) i j h lt = let b = may_low r.closing r.interval m (current r) p h.0 in ap (λ (b : Bool). pick b (done n.labels nr (not e.ok) j e d) (vacant (j % 6))) (ne_eqb m i (λ e. omega arith))
 
-value_none : (n : Numbers) (r : Reading) (v : View) (i j : ℕ) → Timely n r v → active r < i → value n.labels i j v ≡ vacant (j % 6)
+value_none : (n : Numbers) (r : ReporterView) (v : View) (i j : ℕ) → Timely n r v → active r < i → value n.labels i j v ≡ vacant (j % 6)
 value_none n r (Reporter q) i j h lt = joined_none n.labels (active r) i j q.joined h lt
 value_none n r (Writer w) i j h lt = (λ t. combine (j % 6) (list_none n.labels w.number (active r) i j w.list h.2 lt t) (stage_none n w.number r w.list w.stage i j h.0 lt t)) ∙ vacant_vacant (j % 6)
 value_none n r Gone i j h lt = refl
 
-pub later_none : (n : Numbers) (vs : List View) (r : Reading) → ((id : ℕ) (v : View) → get_elem? vs id ≡ some v → Timely n r v) → (i j : ℕ) → active r < i → worth n.labels i j vs ≡ vacant (j % 6)
+pub later_none : (n : Numbers) (vs : List View) (r : ReporterView) → ((id : ℕ) (v : View) → get_elem? vs id ≡ some v → Timely n r v) → (i j : ℕ) → active r < i → worth n.labels i j vs ≡ vacant (j % 6)
 later_none n vs r timely i j lt = gather_unit (j % 6) (value n.labels i j) vs (λ id v e. value_none n r v i j (timely id v e) lt)
 
 -- one step more of an entry, at its own cell and at another
@@ -313,7 +313,7 @@ stage_else lb nr m e d i j low ne = dite (ℕ_discrete m i)
     (λ h. ap (λ (z : ℕ). pick (m == i) z (vacant (j % 6))) (done_else lb nr e d j low (λ h'. ne (sym h, h'))))
     (λ h. ap (λ (b : Bool). pick b (done lb nr (not e.ok) j e (d + 1)) (vacant (j % 6))) (ne_eqb m i h) ∙ sym (ap (λ (b : Bool). pick b (done lb nr (not e.ok) j e d) (vacant (j % 6))) (ne_eqb m i h)))
 
-pending_low : (c : Closing) → pending c ≤ 1
+pending_low : (c : ReporterStage) → pending c ≤ 1
 pending_low Idle = omega arith
 pending_low Swapped = omega arith
 pending_low Cleared = omega arith
@@ -321,14 +321,14 @@ pending_low (Waiting want) = omega arith
 pending_low (Harvest j) = omega arith
 
 -- while cells are taken, samples enter the next interval
-harvest_next : (c : Closing) (k m : ℕ) (q p : Bool) → MayCount c k q p m → 0 < taken_count c → m ≡ k + 1
+harvest_next : (c : ReporterStage) (k m : ℕ) (q p : Bool) → MayCount c k q p m → 0 < taken_count c → m ≡ k + 1
 harvest_next Idle k m q p h t = absurd (omega arith)
 harvest_next Swapped k m q p h t = absurd (omega arith)
 harvest_next Cleared k m q p h t = absurd (omega arith)
 harvest_next (Waiting want) k m q p h t = absurd (omega arith)
 harvest_next (Harvest j) k m q p h t = h
 
-pub taken_low : (cells : ℕ) (c : Closing) → InTable cells c → taken_count c ≤ cells
+pub taken_low : (cells : ℕ) (c : ReporterStage) → InTable cells c → taken_count c ≤ cells
 taken_low cells Idle h = omega arith
 taken_low cells Swapped h = omega arith
 taken_low cells Cleared h = omega arith
@@ -350,12 +350,12 @@ report_same labels m f g h = ap (λ (l : List Row). record { interval = m; rows 
 
 -- Steps of a writer
 
-module _ (n : Numbers) (ws : List ℕ) (vs : List View) (p : Phased n ws vs) (c : Counted n ws vs p.reader) (id : ℕ) (w : Writing) (at : get_elem? vs id ≡ some (Writer w)) where
-  abbrev r : Reading
+module _ (n : Numbers) (ws : List ℕ) (vs : List View) (p : Phased n ws vs) (c : Counted n ws vs p.reader) (id : ℕ) (w : WriterView) (at : get_elem? vs id ≡ some (Writer w)) where
+  abbrev r : ReporterView
   r = p.reader
 
   -- where no cell's word and no value changes
-  counted_writer : (ws' : List ℕ) (w' : Writing) → get_or ws' 0 0 ≡ get_or ws 0 0 → ((i j : ℕ) → get_or ws' (cell_at n.labels i j) 0 ≡ get_or ws (cell_at n.labels i j) 0) → ((i j : ℕ) → value n.labels i j (Writer w') ≡ value n.labels i j (Writer w))
+  counted_writer : (ws' : List ℕ) (w' : WriterView) → get_or ws' 0 0 ≡ get_or ws 0 0 → ((i j : ℕ) → get_or ws' (cell_at n.labels i j) 0 ≡ get_or ws (cell_at n.labels i j) 0) → ((i j : ℕ) → value n.labels i j (Writer w') ≡ value n.labels i j (Writer w))
       → Timely n r (Writer w') → Counted n ws' (set vs id (Writer w')) r
   counted_writer ws' w' same_active same_cells same_value mine =
       let worth_same : (i j : ℕ) → worth n.labels i j (set vs id (Writer w')) ≡ worth n.labels i j vs = λ i j. gather_same (j % 6) (value n.labels i j) vs id (Writer w) (Writer w') at (same_value i j) in record {
@@ -379,7 +379,7 @@ module _ (n : Numbers) (ws : List ℕ) (vs : List View) (p : Phased n ws vs) (c 
   pub mark_counts : (x : ℕ) (a b : Bool) → Counted n (set ws 4 x) (set vs id (Writer (marked w a b))) r
   mark_counts x a b = counted_writer (set ws 4 x) (marked w a b) (get_or-set_other ws 4 0 x 0 (λ h. omega arith)) (λ i j. cell_else n ws 4 x i j (omega arith)) (λ i j. refl) mine
 
-  may_active : (cl : Closing) (k : ℕ) (b q : Bool) → MayCount cl k b q (k + pending cl)
+  may_active : (cl : ReporterStage) (k : ℕ) (b q : Bool) → MayCount cl k b q (k + pending cl)
   may_active Idle k b q = add-zero k
   may_active Swapped k b q = (omega arith, omega arith)
   may_active Cleared k b q = (omega arith, omega arith)
@@ -410,7 +410,7 @@ module _ (n : Numbers) (ws : List ℕ) (vs : List View) (p : Phased n ws vs) (c 
       → let i0 : ℕ = cell_at n.labels m (6 * row_at n.labels w.number e.label + column e d) in Counted n (set ws i0 (folded (column e d) (get_or ws i0 0) (part (column e d) e))) (set vs id (Writer (at_stage w (On q m e (d + 1)) w.list))) r
   add_counts q m e d is more =
       let col : ℕ = column e d in let j0 : ℕ = 6 * row_at n.labels w.number e.label + col in let i0 : ℕ = cell_at n.labels m j0 in let x : ℕ = get_or ws i0 0 in let y : ℕ = part col e in
-      let w' : Writing = at_stage w (On q m e (d + 1)) w.list in let ws' : List ℕ = set ws i0 (folded col x y) in
+      let w' : WriterView = at_stage w (On q m e (d + 1)) w.list in let ws' : List ℕ = set ws i0 (folded col x y) in
       let was : TimelyStage n r w.list (On q m e d) = subst (TimelyStage n r w.list) is mine.0 in
       let b = may_low r.closing r.interval m (current r) q was.0 in let pend = pending_low r.closing in
       let lc = column_low (not e.ok) d more in let label = was.3 in
@@ -453,26 +453,26 @@ module _ (n : Numbers) (ws : List ℕ) (vs : List View) (p : Phased n ws vs) (c 
 -- Steps of the reporter
 
 module _ (n : Numbers) (ws : List ℕ) (vs : List View) (p : Phased n ws vs) (c : Counted n ws vs p.reader) where
-  abbrev R : Reading
+  abbrev R : ReporterView
   R = p.reader
 
-  same_worths : (r' : Reading) → r'.joined ≡ R.joined → (i j : ℕ) → worth n.labels i j (set vs 0 (Reporter r')) ≡ worth n.labels i j vs
-  same_worths r' joined i j = gather_same (j % 6) (value n.labels i j) vs 0 (Reporter R) (Reporter r') p.front (ap (λ (l : List Joined). joined_at n.labels i j l) joined)
+  same_worths : (r' : ReporterView) → r'.joined ≡ R.joined → (i j : ℕ) → worth n.labels i j (set vs 0 (Reporter r')) ≡ worth n.labels i j vs
+  same_worths r' joined i j = gather_same (j % 6) (value n.labels i j) vs 0 (Reporter R) (Reporter r') p.prefix (ap (λ (l : List Joined). joined_at n.labels i j l) joined)
 
-  some_inside : (id : ℕ) (w : Writing) (q : Bool) (m : ℕ) (e : Entry) (d : ℕ) → get_elem? vs id ≡ some (Writer w) → w.stage ≡ On q m e d → 1 ≤ total (inside q) vs
+  some_inside : (id : ℕ) (w : WriterView) (q : Bool) (m : ℕ) (e : Entry) (d : ℕ) → get_elem? vs id ≡ some (Writer w) → w.stage ≡ On q m e d → 1 ≤ total (inside q) vs
   some_inside id w q m e d at is = let t = total_at (inside q) vs id (Writer w) at in let o : stage_inside q w.stage ≡ 1 = ap (stage_inside q) is ∙ ap one_if (same_self q) in omega arith
 
-  timely_stage : (r' : Reading) (l : List (ℕ × Entry)) (s : Stage) → ((q : Bool) (m : ℕ) (e : Entry) (d : ℕ) → s ≡ On q m e d → MayCount R.closing R.interval (current R) q m → MayCount r'.closing r'.interval (current r') q m) → TimelyStage n R l s → TimelyStage n r' l s
+  timely_stage : (r' : ReporterView) (l : List (ℕ × Entry)) (s : Stage) → ((q : Bool) (m : ℕ) (e : Entry) (d : ℕ) → s ≡ On q m e d → MayCount R.closing R.interval (current R) q m → MayCount r'.closing r'.interval (current r') q m) → TimelyStage n R l s → TimelyStage n r' l s
   timely_stage r' l Out f h = tt
   timely_stage r' l (In q) f h = tt
   timely_stage r' l (On q m e d) f h = (f q m e d refl h.0, h.1, h.2, h.3, h.4, h.5)
 
-  timely_view : (r' : Reading) (id : ℕ) (v : View) → get_elem? vs id ≡ some v → active R ≤ active r' → ((q : Bool) (m : ℕ) → 1 ≤ total (inside q) vs → MayCount R.closing R.interval (current R) q m → MayCount r'.closing r'.interval (current r') q m) → Timely n R v → Timely n r' v
+  timely_view : (r' : ReporterView) (id : ℕ) (v : View) → get_elem? vs id ≡ some v → active R ≤ active r' → ((q : Bool) (m : ℕ) → 1 ≤ total (inside q) vs → MayCount R.closing R.interval (current R) q m → MayCount r'.closing r'.interval (current r') q m) → Timely n R v → Timely n r' v
   timely_view r' id (Reporter q) at le f h = timely_more (active R) (active r') q.joined h le
   timely_view r' id (Writer w) at le f h = (timely_stage r' w.list w.stage (λ q m e d is. f q m (some_inside id w q m e d at is)) h.0, h.1, up_more (active R) (active r') w.list h.2 le, h.3)
   timely_view r' id Gone at le f h = tt
 
-  counted_reporter : (ws' : List ℕ) (r' : Reading) → r'.joined ≡ R.joined → get_or ws' 0 0 ≡ active r' → active R ≤ active r'
+  counted_reporter : (ws' : List ℕ) (r' : ReporterView) → r'.joined ≡ R.joined → get_or ws' 0 0 ≡ active r' → active R ≤ active r'
       → ((q : Bool) (m : ℕ) → 1 ≤ total (inside q) vs → MayCount R.closing R.interval (current R) q m → MayCount r'.closing r'.interval (current r') q m)
       → length r'.cells ≡ taken_count r'.closing → InTable (table_cells n.labels) r'.closing
       → ((i j : ℕ) → IsLive r' i → j < table_cells n.labels → (i ≡ r'.interval → length r'.cells ≤ j) → get_or ws' (cell_at n.labels i j) 0 ≡ worth n.labels i j vs)
@@ -481,7 +481,7 @@ module _ (n : Numbers) (ws : List ℕ) (vs : List View) (p : Phased n ws vs) (c 
       → Counted n ws' (set vs 0 (Reporter r')) r'
   counted_reporter ws' r' joined act le may taken within cells emptied reports sums' = record {
     now_active = act;
-    timely = each_set (λ _ v. Timely n r' v) vs 0 (Reporter r') (subst (AllTimely (active r')) (sym joined) (timely_more (active R) (active r') R.joined (c.timely 0 (Reporter R) p.front) le))
+    timely = each_set (λ _ v. Timely n r' v) vs 0 (Reporter r') (subst (AllTimely (active r')) (sym joined) (timely_more (active R) (active r') R.joined (c.timely 0 (Reporter R) p.prefix) le))
         (λ j u _ e. timely_view r' j u e le may (c.timely j u e));
     taken = taken;
     within = within;
@@ -501,7 +501,7 @@ module _ (n : Numbers) (ws : List ℕ) (vs : List View) (p : Phased n ws vs) (c 
   swap_counts idle =
       let wide = p.wide in let pend : pending R.closing ≡ 0 = ap pending idle in let none : taken_count R.closing ≡ 0 = ap taken_count idle in
       counted_reporter (set ws 0 (R.interval + 1)) (at_closing R Swapped) refl (get_or-set_same ws 0 (R.interval + 1) 0 (omega arith)) (omega arith)
-      (λ q m _ h. let e : m ≡ R.interval = subst (λ (x : Closing). MayCount x R.interval (current R) q m) idle h in (omega arith, omega arith))
+      (λ q m _ h. let e : m ≡ R.interval = subst (λ (x : ReporterStage). MayCount x R.interval (current R) q m) idle h in (omega arith, omega arith))
       (c.taken ∙ none) tt
       (λ i j live low whole. cell_else n ws 0 (R.interval + 1) i j (omega arith) ∙ c.cells i j live low whole)
       (λ j low. absurd (let t = c.taken in omega arith)) c.reports c.sums_are
@@ -510,7 +510,7 @@ module _ (n : Numbers) (ws : List ℕ) (vs : List View) (p : Phased n ws vs) (c 
   clear_counts at x swapped low some_at =
       let pend : pending R.closing ≡ 1 = ap pending swapped in let none : taken_count R.closing ≡ 0 = ap taken_count swapped in
       counted_reporter (set ws at x) (at_closing R Cleared) refl (get_or-set_other ws at 0 x 0 (λ h. omega arith) ∙ c.now_active ∙ ap (λ (z : ℕ). R.interval + z) pend) (omega arith)
-      (λ q m _ h. subst (λ (z : Closing). MayCount z R.interval (current R) q m) swapped h)
+      (λ q m _ h. subst (λ (z : ReporterStage). MayCount z R.interval (current R) q m) swapped h)
       (c.taken ∙ none) tt
       (λ i j live low' whole. cell_else n ws at x i j low ∙ c.cells i j live low' whole)
       (λ j low'. absurd (let t = c.taken in omega arith)) c.reports c.sums_are
@@ -521,9 +521,9 @@ module _ (n : Numbers) (ws : List ℕ) (vs : List View) (p : Phased n ws vs) (c 
       let was : current R ≡ is_odd R.interval = ap (λ (t : ℕ). is_odd (R.interval + t)) (ap turned cleared) ∙ ap is_odd (add-zero R.interval) in
       let far : other R ≡ is_odd (R.interval + 1) = ap not was ∙ sym (odd_next R.interval) in
       let old : (total (inside (other R)) vs ≡ 0) × (get_or ws (end_at (other R)) 0 ≡ initial (other R)) =
-      subst (λ (z : Closing). InsideBefore z (total (inside (other R)) vs) (get_or ws (end_at (other R)) 0) (initial (other R)) (total uses vs)) cleared p.behind in
+      subst (λ (z : ReporterStage). InsideBefore z (total (inside (other R)) vs) (get_or ws (end_at (other R)) 0) (initial (other R)) (total uses vs)) cleared p.behind in
       counted_reporter (set ws 1 x) (at_closing R (Waiting want)) refl (get_or-set_other ws 1 0 x 0 (λ h. omega arith) ∙ c.now_active ∙ ap (λ (z : ℕ). R.interval + z) pend) (omega arith)
-      (λ q m some_in h. let b : (R.interval ≤ m) × (m ≤ R.interval + 1) = subst (λ (z : Closing). MayCount z R.interval (current R) q m) cleared h in
+      (λ q m some_in h. let b : (R.interval ≤ m) × (m ≤ R.interval + 1) = subst (λ (z : ReporterStage). MayCount z R.interval (current R) q m) cleared h in
       (b.0, b.1, λ e. absurd (let z = ap (λ (t : Bool). total (inside t) vs) (e ∙ sym far) in let o = old.0 in omega arith)))
       (c.taken ∙ none) tt
       (λ i j live low' whole. cell_else n ws 1 x i j (omega arith) ∙ c.cells i j live low' whole)
@@ -574,7 +574,7 @@ module _ (n : Numbers) (ws : List ℕ) (vs : List View) (p : Phased n ws vs) (c 
       let pend : pending R.closing ≡ 1 = ap pending waiting in
       let nothing : length R.cells ≡ 0 = c.taken ∙ ap taken_count waiting in
       gather_counts ws [] 0 (0 == table_cells R.labels) refl pend (c.now_active ∙ ap (λ (z : ℕ). R.interval + z) pend)
-      (λ q m some_in h. let may : (R.interval ≤ m) × (m ≤ R.interval + 1) × (q ≡ current R → m ≡ R.interval + 1) = subst (λ (z : Closing). MayCount z R.interval (current R) q m) waiting h in
+      (λ q m some_in h. let may : (R.interval ≤ m) × (m ≤ R.interval + 1) × (q ≡ current R → m ≡ R.interval + 1) = subst (λ (z : ReporterStage). MayCount z R.interval (current R) q m) waiting h in
       which (current R) q (λ b. q ≡ b → 1 ≤ total (inside b) vs → m ≡ R.interval + 1) (λ e _. may.2 e) (λ e s. absurd (omega arith)) refl some_in)
       ((λ j low. ((λ _. c.cells R.interval j (omega arith, omega arith) low (λ _. omega arith)), c.cells (R.interval + 1) j (omega arith, omega arith) low (λ e. absurd (omega arith)))), λ j low. absurd (omega arith))
       refl (omega arith)
@@ -590,7 +590,7 @@ module _ (n : Numbers) (ws : List ℕ) (vs : List View) (p : Phased n ws vs) (c 
       let here : get_or ws' i0 0 ≡ vacant (j % 6) = get_or-set_same ws i0 (vacant (j % 6)) 0 (omega arith) in
       let there : (i j' : ℕ) → cell_at n.labels i j' ≢ i0 → get_or ws' (cell_at n.labels i j') 0 ≡ get_or ws (cell_at n.labels i j') 0 = λ i j' ne. get_or-set_other ws i0 (cell_at n.labels i j') (vacant (j % 6)) 0 ne in
       gather_counts ws' l (j + 1) (j + 1 == table_cells R.labels) refl pend (get_or-set_other ws i0 0 (vacant (j % 6)) 0 (λ h. omega arith) ∙ c.now_active ∙ ap (λ (z : ℕ). R.interval + z) pend)
-      (λ q m _ h. subst (λ (z : Closing). MayCount z R.interval (current R) q m) harvest h) (
+      (λ q m _ h. subst (λ (z : ReporterStage). MayCount z R.interval (current R) q m) harvest h) (
         (λ j' low'. (
           (λ after. there R.interval j' (place_apart n R.interval R.interval j' j (omega arith) (omega arith) low' low (λ z. let e = z.1 in omega arith)) ∙ c.cells R.interval j' (omega arith, omega arith) low' (λ _. omega arith)),
           there (R.interval + 1) j' (place_apart n (R.interval + 1) R.interval j' j (omega arith) (omega arith) low' low (λ z. let a = z.0 in omega arith)) ∙ c.cells (R.interval + 1) j' (omega arith, omega arith) low' (λ e. absurd (omega arith)),

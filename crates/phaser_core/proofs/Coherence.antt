@@ -2,8 +2,8 @@
 use Rattle.std.proofs.Common.{◌≡◌, ◌≢◌, ℕ, zero, suc, ◌+◌, ◌%◌, ◌<◌, ◌≤◌, ◌==◌, Bool, true, false, ltb, List, [], ◌∷◌, ◌++◌, length, get_or, set, take, sym, refl, ap, ◌∙◌, subst, arith, Some, None, Option, length-set, length-append, true≢false, eq-eqb}
 use Rattle.phaser_core.specs.declared.view.Numbers.{Numbers}
 use Rattle.phaser_core.specs.declared.view.Stage.TheVariants.{Out, In, On}
-use Rattle.phaser_core.specs.declared.view.Closing.{Closing}
-use Rattle.phaser_core.specs.declared.view.Closing.TheVariants.{Idle, Swapped, Cleared, Waiting, Harvest}
+use Rattle.phaser_core.specs.declared.view.ReporterStage.{ReporterStage}
+use Rattle.phaser_core.specs.declared.view.ReporterStage.TheVariants.{Idle, Swapped, Cleared, Waiting, Harvest}
 use Rattle.phaser_core.specs.declared.view.Event.{Event}
 use Rattle.phaser_core.specs.declared.view.Event.TheVariants as event
 use Rattle.phaser_core.specs.declared.step.Change.TheVariants.{Swap}
@@ -42,7 +42,7 @@ writer_coherent n ws wr p e i h = record { sized = h.sized; wide = words_long ws
 
 -- The reporter's part
 
-closing_fits : (labels interval : ℕ) (ws : List ℕ) (e : Event) (c : Closing) (taken : List ℕ) → interval + pending c ≤ 16777216 → InTable (table_cells labels) c → length taken ≡ taken_count c
+closing_fits : (labels interval : ℕ) (ws : List ℕ) (e : Event) (c : ReporterStage) (taken : List ℕ) → interval + pending c ≤ 16777216 → InTable (table_cells labels) c → length taken ≡ taken_count c
     → (interval + pending (closing_if (closing_step interval e c) e ws c) ≤ 16777216) × InTable (table_cells labels) (closing_if (closing_step interval e c) e ws c) × (length taken ≡ taken_count (closing_if (closing_step interval e c) e ws c))
 closing_fits labels interval ws event.SwapActive Idle taken r t k = swap_fits (ltb interval 16777216) refl where
   swap_fits : (b : Bool) → ltb interval 16777216 ≡ b → (interval + pending (closing_if (step_if b 0 (Swap (interval + 1))) event.SwapActive ws Idle) ≤ 16777216) × InTable (table_cells labels) (closing_if (step_if b 0 (Swap (interval + 1))) event.SwapActive ws Idle) × (length taken ≡ taken_count (closing_if (step_if b 0 (Swap (interval + 1))) event.SwapActive ws Idle))
@@ -70,11 +70,11 @@ gathered_fits labels j p false is room most count = record { room = room; in_tab
 
 looked_fits : (labels : ℕ) (p : Parts) (want : ℕ) (b : Bool) → p.closing ≡ Waiting want → FitsParts labels p → FitsParts labels (looked b labels p)
 looked_fits labels p want true is h =
-    let room : p.interval + 1 ≤ 16777216 = subst (λ (c : Closing). p.interval + pending c ≤ 16777216) is h.room in
+    let room : p.interval + 1 ≤ 16777216 = subst (λ (c : ReporterStage). p.interval + pending c ≤ 16777216) is h.room in
     gathered_fits labels 0 (with_taken p []) (0 == table_cells labels) refl room (omega arith) refl
 looked_fits labels p want false is h = h
 
-look_fits : (labels found : ℕ) (p : Parts) (c : Closing) → p.closing ≡ c → FitsParts labels p → FitsParts labels (look_parts c found labels p)
+look_fits : (labels found : ℕ) (p : Parts) (c : ReporterStage) → p.closing ≡ c → FitsParts labels p → FitsParts labels (look_parts c found labels p)
 look_fits labels found p Idle is h = h
 look_fits labels found p Swapped is h = h
 look_fits labels found p Cleared is h = h
@@ -84,7 +84,7 @@ look_fits labels found p (Harvest j) is h = h
 pub look_coherent : (n : Numbers) (ws : List ℕ) (wr : List WriterState) (p : Parts) (found : ℕ) → IsCoherent n ws wr p → IsCoherent n ws wr (look_parts p.closing found n.labels p)
 look_coherent n ws wr p found h = record { sized = h.sized; wide = h.wide; fit = h.fit; parts = look_fits n.labels found p p.closing refl h.parts }
 
-take_fits : (labels : ℕ) (ws : List ℕ) (p : Parts) (c : Closing) → p.closing ≡ c → FitsParts labels p → FitsParts labels (take_parts c labels ws p)
+take_fits : (labels : ℕ) (ws : List ℕ) (p : Parts) (c : ReporterStage) → p.closing ≡ c → FitsParts labels p → FitsParts labels (take_parts c labels ws p)
 take_fits labels ws p Idle is h = h
 take_fits labels ws p Swapped is h = h
 take_fits labels ws p Cleared is h = h
@@ -93,10 +93,10 @@ take_fits labels ws p (Harvest j) is h =
     let found : ℕ = get_or ws (cell_at labels p.interval j) 0 in
     let more : length (p.taken ++ found ∷ []) ≡ length p.taken + 1 = length-append p.taken (found ∷ []) in
     let count : length p.taken ≡ j = h.count ∙ ap taken_count is in let low : j < table_cells labels = subst (InTable (table_cells labels)) is h.in_table in
-    let room : p.interval + 1 ≤ 16777216 = subst (λ (c : Closing). p.interval + pending c ≤ 16777216) is h.room in
+    let room : p.interval + 1 ≤ 16777216 = subst (λ (c : ReporterStage). p.interval + pending c ≤ 16777216) is h.room in
     gathered_fits labels (j + 1) (with_taken p (p.taken ++ found ∷ [])) (j + 1 == table_cells labels) refl room (omega arith) (omega arith)
 
-take_long : (labels : ℕ) (ws : List ℕ) (p : Parts) (c : Closing) → length (take_words c labels ws p) ≡ length ws
+take_long : (labels : ℕ) (ws : List ℕ) (p : Parts) (c : ReporterStage) → length (take_words c labels ws p) ≡ length ws
 take_long labels ws p Idle = refl
 take_long labels ws p Swapped = refl
 take_long labels ws p Cleared = refl

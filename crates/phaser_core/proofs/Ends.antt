@@ -8,9 +8,9 @@ use Rattle.jm_base.specs.declared.types.Entry.{Entry}
 use Rattle.interval_tables.specs.declared.report.Report.{Report}
 use Rattle.interval_tables.specs.Rows.{sum_of}
 use Rattle.phaser_core.specs.declared.view.Numbers.{Numbers}
-use Rattle.phaser_core.specs.declared.view.Closing.TheVariants.{Idle}
+use Rattle.phaser_core.specs.declared.view.ReporterStage.TheVariants.{Idle}
 use Rattle.phaser_core.specs.declared.view.Joined.{Joined}
-use Rattle.phaser_core.specs.declared.view.Reading.{Reading}
+use Rattle.phaser_core.specs.declared.view.ReporterView.{ReporterView}
 use Rattle.phaser_core.specs.declared.view.View.{View}
 use Rattle.phaser_core.specs.declared.view.View.TheVariants.{Reporter, Gone}
 use Rattle.phaser_core.specs.Cells.{table_cells, cell_at, report_from, no_report}
@@ -43,22 +43,22 @@ joined_report labels m a js f timely is =
     ∙ ap (λ (es : List Entry). record { interval = m; rows = sum_of labels es }) (share_in m js)
 
 -- what a read tells once there is no other view: each closed report is the sum of the joined lists' entries of its interval, and so are the cells of the open one
-pub read_knows : (n : Numbers) (ws : List ℕ) (vs : List View) (k : RecorderInvariant n ws vs) (r : Reading) → get_elem? vs 0 ≡ some (Reporter r) → r.closing ≡ Idle → ((port : ℕ) (u : View) → port ≢ 0 → get_elem? vs port ≡ some u → u ≡ Gone)
+pub read_knows : (n : Numbers) (ws : List ℕ) (vs : List View) (k : RecorderInvariant n ws vs) (r : ReporterView) → get_elem? vs 0 ≡ some (Reporter r) → r.closing ≡ Idle → ((port : ℕ) (u : View) → port ≢ 0 → get_elem? vs port ≡ some u → u ≡ Gone)
     → (length r.closed ≡ r.interval) × ((m : ℕ) → m < r.interval → get_or r.closed m no_report ≡ record { interval = m; rows = sum_of n.labels (entries_in m (lists_of r.joined)) })
     × ((j : ℕ) → j < table_cells n.labels → get_or ws (cell_at n.labels r.interval j) 0 ≡ joined_at n.labels r.interval j r.joined) × AllTimely r.interval r.joined
-read_knows n ws vs k r front idle others =
-    let e = ends_sums n ws vs (halves n ws vs k) r front idle others in
-    let t : AllTimely (active r) r.joined = joined_in_time n ws vs k 0 r front in
+read_knows n ws vs k r prefix idle others =
+    let e = ends_sums n ws vs (halves n ws vs k) r prefix idle others in
+    let t : AllTimely (active r) r.joined = joined_in_time n ws vs k 0 r prefix in
     let now : active r ≡ r.interval = ap (λ (p : ℕ). r.interval + p) (ap pending idle) ∙ add-zero r.interval in
-    let is = reader_is n ws vs k 0 r front in (
-      subst (λ (q : Reading). length q.closed ≡ q.interval) is k.closed_reports.count,
+    let is = reader_is n ws vs k 0 r prefix in (
+      subst (λ (q : ReporterView). length q.closed ≡ q.interval) is k.closed_reports.count,
       (λ m old. e.0 m old ∙ joined_report n.labels m (active r) r.joined (λ j. joined_at n.labels m j r.joined) t (λ j low. refl)),
       e.1,
       subst (λ (a : ℕ). AllTimely a r.joined) now t,
     )
 
 -- the closed reports with that of the open interval
-pub partition_of : (labels : ℕ) (r : Reading) (f : ℕ → ℕ) → length r.closed ≡ r.interval → ((m : ℕ) → m < r.interval → get_or r.closed m no_report ≡ record { interval = m; rows = sum_of labels (entries_in m (lists_of r.joined)) })
+pub partition_of : (labels : ℕ) (r : ReporterView) (f : ℕ → ℕ) → length r.closed ≡ r.interval → ((m : ℕ) → m < r.interval → get_or r.closed m no_report ≡ record { interval = m; rows = sum_of labels (entries_in m (lists_of r.joined)) })
     → ((j : ℕ) → j < table_cells labels → f j ≡ joined_at labels r.interval j r.joined) → AllTimely r.interval r.joined → Partition labels (lists_of r.joined) (r.closed ++ report_from labels r.interval f ∷ [])
 partition_of labels r f count closed cells timely =
     let last : Report = report_from labels r.interval f in

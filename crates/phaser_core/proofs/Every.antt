@@ -9,17 +9,17 @@ use Rattle.jm_base.specs.Totals.{one_if}
 use Rattle.phaser_core.specs.declared.view.Numbers.{Numbers}
 use Rattle.phaser_core.specs.declared.view.Stage.{Stage}
 use Rattle.phaser_core.specs.declared.view.Stage.TheVariants.{Out, In, On}
-use Rattle.phaser_core.specs.declared.view.Writing.{Writing}
-use Rattle.phaser_core.specs.declared.view.Closing.{Closing}
-use Rattle.phaser_core.specs.declared.view.Closing.TheVariants.{Idle, Swapped, Cleared, Waiting, Harvest}
-use Rattle.phaser_core.specs.declared.view.Reading.{Reading}
+use Rattle.phaser_core.specs.declared.view.WriterView.{WriterView}
+use Rattle.phaser_core.specs.declared.view.ReporterStage.{ReporterStage}
+use Rattle.phaser_core.specs.declared.view.ReporterStage.TheVariants.{Idle, Swapped, Cleared, Waiting, Harvest}
+use Rattle.phaser_core.specs.declared.view.ReporterView.{ReporterView}
 use Rattle.phaser_core.specs.declared.view.View.{View}
 use Rattle.phaser_core.specs.declared.view.View.TheVariants.{Reporter, Writer, Gone}
 use Rattle.phaser_core.specs.declared.view.Event.{Event}
 use Rattle.phaser_core.specs.declared.view.Event.TheVariants as event
 use Rattle.phaser_core.specs.Cells.{sums}
 use Rattle.phaser_core.specs.Views.{IsSized}
-use Rattle.phaser_core.specs.Moves.{Move, entering, loading, adding, leaving, swapping, clearing, flipping, looking, taking, looking_stop, raising_stop, raising_as_reporter, stepped_words, stepped_views, splitting, split_off, joining}
+use Rattle.phaser_core.specs.CoreMoves.{Move, entering, loading, adding, leaving, swapping, clearing, flipping, looking, taking, looking_stop, raising_stop, raising_as_reporter, stepped_words, stepped_views, splitting, split_off, joining}
 use Rattle.phaser_core.specs.Invariant.{RecorderInvariant, Keeps}
 use Rattle.phaser_core.specs.Step.{CoreState, given, port_of, writer_move, reporter_move, move_of, move_at, moved, split_if, split_stage, split_at, join_stage, join_at, core_step, first_state, next_state, after_all, FitsEvent, AllFit}
 use Rattle.phaser_core.proofs.Lists.{set_else}
@@ -39,7 +39,7 @@ module _ (n : Numbers) (ws : List ℕ) (vs : List View) (k : RecorderInvariant n
   abbrev K : Move → Type 0
   K m = Keeps n ws vs port m
 
-  writer_case : (e : Event) (w : Writing) (s : Stage) (m : Move) → get_elem? vs port ≡ some (Writer w) → w.stage ≡ s → FitsEvent e → writer_move n e w s ≡ Some m → K m
+  writer_case : (e : Event) (w : WriterView) (s : Stage) (m : Move) → get_elem? vs port ≡ some (Writer w) → w.stage ≡ s → FitsEvent e → writer_move n e w s ≡ Some m → K m
   writer_case (event.Enter x) w Out m at is f h = let g = given_some (ltb (length w.list) n.budget) (entering w) m h in subst K g.1 (enter_keeps n ws vs k port w at is (less (length w.list) n.budget g.0))
   writer_case (event.Load x e) w (In p) m at is f h = let g = given_some (ltb e.label n.labels) (loading w p e) m h in subst K g.1 (load_keeps n ws vs k port w at p e is (less e.label n.labels g.0) f.0 f.1)
   writer_case (event.Add x) w (On p i e d) m at is f h = let g = given_some (ltb d (3 + one_if (not e.ok))) (adding n.labels w p i e d) m h in let l = less d (3 + one_if (not e.ok)) g.0 in subst K g.1 (add_keeps n ws vs k port w at p i e d is (omega arith))
@@ -50,7 +50,7 @@ module _ (n : Numbers) (ws : List ℕ) (vs : List View) (k : RecorderInvariant n
   writer_case (event.RaiseStop x) w Out m at is f h = subst K (same_some (raising_stop w) m h) (raise_keeps n ws vs k port w at)
   writer_case e w s m at is f h = absurd cc
 
-  reporter_case : (e : Event) (r : Reading) (c : Closing) (m : Move) → get_elem? vs port ≡ some (Reporter r) → r.closing ≡ c → reporter_move e r c ≡ Some m → K m
+  reporter_case : (e : Event) (r : ReporterView) (c : ReporterStage) (m : Move) → get_elem? vs port ≡ some (Reporter r) → r.closing ≡ c → reporter_move e r c ≡ Some m → K m
   reporter_case event.SwapActive r Idle m at is h = let g = given_some (ltb r.interval 16777216) (swapping r) m h in subst K g.1 (swap_keeps n ws vs k port r at is (less r.interval 16777216 g.0))
   reporter_case event.ClearEnd r Swapped m at is h = subst K (same_some (clearing r) m h) (clear_keeps n ws vs k port r at is)
   reporter_case event.Flip r Cleared m at is h = subst K (same_some (flipping r) m h) (flip_keeps n ws vs k port r at is)
@@ -76,14 +76,14 @@ module _ (n : Numbers) (ws : List ℕ) (vs : List View) (k : RecorderInvariant n
   same_state : (a b : CoreState) → Some a ≡ Some b → a ≡ b
   same_state a b h = cc
 
-  split_if_case : (b : Bool) (w : Writing) (s : CoreState) → get_elem? vs 1 ≡ some (Writer w) → b ≡ ltb w.made n.writers → split_if b ws vs (Writer w) ≡ Some s → RecorderInvariant n s.0 s.1
+  split_if_case : (b : Bool) (w : WriterView) (s : CoreState) → get_elem? vs 1 ≡ some (Writer w) → b ≡ ltb w.made n.writers → split_if b ws vs (Writer w) ≡ Some s → RecorderInvariant n s.0 s.1
   split_if_case true w s at is h =
       let fits = k.accounts.each 1 (Writer w) at in let port = fits.0 in let zero_number : w.number ≡ 0 = omega arith in
       subst (λ (z : CoreState). RecorderInvariant n z.0 z.1) (same_state (ws, set vs 1 (splitting (Writer w)) ++ split_off (Writer w) ∷ []) s h)
       (split_keeps n ws vs k 1 w at (fits.4 zero_number) (less w.made n.writers (sym is)))
   split_if_case false w s at is h = absurd cc
 
-  split_stage_case : (w : Writing) (g : Stage) (s : CoreState) → get_elem? vs 1 ≡ some (Writer w) → split_stage n ws vs w g ≡ Some s → RecorderInvariant n s.0 s.1
+  split_stage_case : (w : WriterView) (g : Stage) (s : CoreState) → get_elem? vs 1 ≡ some (Writer w) → split_stage n ws vs w g ≡ Some s → RecorderInvariant n s.0 s.1
   split_stage_case w Out s at h = split_if_case (ltb w.made n.writers) w s at refl h
   split_stage_case w (In p) s at h = absurd cc
   split_stage_case w (On p m e d) s at h = absurd cc
@@ -94,15 +94,15 @@ module _ (n : Numbers) (ws : List ℕ) (vs : List View) (k : RecorderInvariant n
   split_case (some (Writer w)) s at h = split_stage_case w w.stage s at h
   split_case (some Gone) s at h = absurd cc
 
-  join_stage_case : (port : ℕ) (r : Reading) (c : Closing) (w : Writing) (g : Stage) (s : CoreState) → (port ≡ 0 → ⊥) → get_elem? vs 0 ≡ some (Reporter r) → get_elem? vs port ≡ some (Writer w) → w.stage ≡ g → join_stage ws vs port r c w g ≡ Some s → RecorderInvariant n s.0 s.1
-  join_stage_case port r Idle w Out s ne front at out h =
+  join_stage_case : (port : ℕ) (r : ReporterView) (c : ReporterStage) (w : WriterView) (g : Stage) (s : CoreState) → (port ≡ 0 → ⊥) → get_elem? vs 0 ≡ some (Reporter r) → get_elem? vs port ≡ some (Writer w) → w.stage ≡ g → join_stage ws vs port r c w g ≡ Some s → RecorderInvariant n s.0 s.1
+  join_stage_case port r Idle w Out s ne prefix at out h =
       subst (λ (z : CoreState). RecorderInvariant n z.0 z.1) (same_state (ws, set (set vs 0 (joining (Reporter r) (Writer w))) port Gone) s h)
-      (join_keeps n ws vs k 0 r front port w ne (set_else vs 0 port (joining (Reporter r) (Writer w)) ne ∙ at) out)
-  join_stage_case port r c w g s ne front at out h = absurd cc
+      (join_keeps n ws vs k 0 r prefix port w ne (set_else vs 0 port (joining (Reporter r) (Writer w)) ne ∙ at) out)
+  join_stage_case port r c w g s ne prefix at out h = absurd cc
 
   join_case : (port : ℕ) (o o' : maybe.Option View) (s : CoreState) → (port ≡ 0 → ⊥) → get_elem? vs 0 ≡ o → get_elem? vs port ≡ o' → join_at ws vs port o o' ≡ Some s → RecorderInvariant n s.0 s.1
-  join_case port (some (Reporter r)) (some (Writer w)) s ne front at h = join_stage_case port r r.closing w w.stage s ne front at refl h
-  join_case port o o' s ne front at h = absurd cc
+  join_case port (some (Reporter r)) (some (Writer w)) s ne prefix at h = join_stage_case port r r.closing w w.stage s ne prefix at refl h
+  join_case port o o' s ne prefix at h = absurd cc
 
 -- a step of one word
 abbrev one_step : Numbers → List ℕ → List View → Event → Option CoreState

@@ -8,22 +8,22 @@ use Rattle.phaser_core.specs.declared.view.Numbers.{Numbers}
 use Rattle.phaser_core.specs.declared.view.Stage.{Stage}
 use Rattle.phaser_core.specs.declared.view.Stage.TheVariants.{Out, In, On}
 use Rattle.phaser_core.specs.declared.view.Joined.{Joined}
-use Rattle.phaser_core.specs.declared.view.Reading.{Reading}
+use Rattle.phaser_core.specs.declared.view.ReporterView.{ReporterView}
 use Rattle.phaser_core.specs.declared.view.View.{View}
 use Rattle.phaser_core.specs.declared.view.View.TheVariants.{Reporter, Writer, Gone}
 use Rattle.phaser_core.specs.Cells.{end_at, initial, phase, vacant, sums, table_cells, word_count, cell_at, no_report, report_from}
 use Rattle.phaser_core.specs.Views.{Pair, IsSized, inside, uses, holders, heads, pending, current, other, active, taken_count, worth}
 use Rattle.phaser_core.specs.Shares.{AllUpTo, Rising}
 use Rattle.phaser_core.specs.Invariant.{InsideBefore, MayCount, InTable, ShowsStop, Fits, AllSmall}
-use Rattle.phaser_core.specs.Moves.{stepped_words, stepped_views, Move}
+use Rattle.phaser_core.specs.CoreMoves.{stepped_words, stepped_views, Move}
 
 -- the phases, who is inside, and who there is
 pub record Phased (n : Numbers) (words : List ℕ) (views : List View) : Type 0 where
   pub wide : length words ≡ word_count n.labels
   pub sizes : IsSized n
-  pub reader : Reading
+  pub reader : ReporterView
   pub labels : reader.labels ≡ n.labels
-  pub front : get_elem? views 0 ≡ some (Reporter reader)
+  pub prefix : get_elem? views 0 ≡ some (Reporter reader)
   pub made : ℕ
   pub ports : length views ≡ made + 1
   pub few : made ≤ n.writers
@@ -38,7 +38,7 @@ pub record Phased (n : Numbers) (words : List ℕ) (views : List View) : Type 0 
   pub each : (id : ℕ) (v : View) → get_elem? views id ≡ some v → Fits n made id v
 
 -- a stage, and the lists of a view, in time
-abbrev pub TimelyStage : Numbers → Reading → List Pair → Stage → Type 0
+abbrev pub TimelyStage : Numbers → ReporterView → List Pair → Stage → Type 0
 TimelyStage n r l Out = Unit {0}
 TimelyStage n r l (In p) = Unit {0}
 TimelyStage n r l (On p m e d) = MayCount r.closing r.interval (current r) p m × AllUpTo m l × (d ≤ sums e) × (e.label < n.labels) × (e.elapsed < 4294967296) × (e.bytes < 4294967296)
@@ -47,13 +47,13 @@ abbrev pub AllTimely : ℕ → List Joined → Type 0
 AllTimely a [] = Unit {0}
 AllTimely a (j ∷ js) = (Rising j.list × AllUpTo a j.list × AllSmall j.list) × AllTimely a js
 
-abbrev pub Timely : Numbers → Reading → View → Type 0
+abbrev pub Timely : Numbers → ReporterView → View → Type 0
 Timely n r (Reporter q) = AllTimely (active r) q.joined
 Timely n r (Writer w) = TimelyStage n r w.list w.stage × Rising w.list × AllUpTo (active r) w.list × AllSmall w.list
 Timely n r Gone = Unit {0}
 
 -- the interval that closes and the next, in every stage
-abbrev pub IsLive : Reading → ℕ → Type 0
+abbrev pub IsLive : ReporterView → ℕ → Type 0
 IsLive r i = (r.interval ≤ i) × (i ≤ r.interval + 1)
 
 -- the report that all contributions of an interval make
@@ -61,7 +61,7 @@ abbrev pub worth_report : ℕ → ℕ → List View → Report
 worth_report labels m views = report_from labels m (λ j. worth labels m j views)
 
 -- the active word, the cells and the reports
-pub record Counted (n : Numbers) (words : List ℕ) (views : List View) (r : Reading) : Type 0 where
+pub record Counted (n : Numbers) (words : List ℕ) (views : List View) (r : ReporterView) : Type 0 where
   pub now_active : get_or words 0 0 ≡ active r
   pub timely : (id : ℕ) (v : View) → get_elem? views id ≡ some v → Timely n r v
   pub taken : length r.cells ≡ taken_count r.closing

@@ -5,9 +5,9 @@ use lib.ListN.{get_elem?}
 use Rattle.interval_tables.specs.declared.report.Report.{Report}
 use Rattle.phaser_core.specs.declared.view.Numbers.{Numbers}
 use Rattle.phaser_core.specs.declared.view.Stage.TheVariants.{Out}
-use Rattle.phaser_core.specs.declared.view.Closing.{Closing}
-use Rattle.phaser_core.specs.declared.view.Closing.TheVariants.{Idle, Swapped, Cleared, Waiting, Harvest}
-use Rattle.phaser_core.specs.declared.view.Reading.{Reading}
+use Rattle.phaser_core.specs.declared.view.ReporterStage.{ReporterStage}
+use Rattle.phaser_core.specs.declared.view.ReporterStage.TheVariants.{Idle, Swapped, Cleared, Waiting, Harvest}
+use Rattle.phaser_core.specs.declared.view.ReporterView.{ReporterView}
 use Rattle.phaser_core.specs.declared.view.View.{View}
 use Rattle.phaser_core.specs.declared.view.View.TheVariants as view
 use Rattle.phaser_core.specs.declared.writer.WriterState.{WriterState}
@@ -15,10 +15,10 @@ use Rattle.phaser_core.specs.declared.writer.WriterState.TheVariants.{Live, Gone
 use Rattle.phaser_core.specs.Cells.{table_cells, word_count, cell_at, report_from, report_of}
 use Rattle.phaser_core.specs.Views.{IsSized}
 use Rattle.phaser_core.specs.Shares.{Partition}
-use Rattle.phaser_core.specs.Moves.{first_cells, first_words}
+use Rattle.phaser_core.specs.CoreMoves.{first_cells, first_words}
 use Rattle.phaser_core.specs.Invariant.{RecorderInvariant}
 use Rattle.phaser_core.specs.Plain.{Parts, IsCoherent, is_idle}
-use Rattle.phaser_core.specs.Shape.{Shape, kept_of, ShowsViews, Shows, all_gone, open_report, joined_lists}
+use Rattle.phaser_core.specs.CoreShape.{Shape, kept_of, ShowsViews, Shows, all_gone, open_report, joined_lists}
 use Rattle.phaser_core.proofs.Members.{first_wide}
 use Rattle.phaser_core.proofs.CellSteps.{report_same, place_in}
 use Rattle.phaser_core.proofs.Steps.{reporter_port}
@@ -64,7 +64,7 @@ open_is labels interval ws first count at long wide = report_same labels interva
     (λ j low. let n : Numbers = record { labels = labels; writers = 0; budget = 0 } in let within = place_in n interval j low in
     take_at (take (length ws - first) (drop first ws)) count j (omega arith) ∙ take_at (drop first ws) (length ws - first) j (omega arith) ∙ drop_at ws first j ∙ ap (λ (i : ℕ). get_or ws i 0) (omega arith))
 
-gone_view : (v : View) → kept_of v ≡ Gone → ((r : Reading) → v ≡ view.Reporter r → ⊥) → v ≡ view.Gone
+gone_view : (v : View) → kept_of v ≡ Gone → ((r : ReporterView) → v ≡ view.Reporter r → ⊥) → v ≡ view.Gone
 gone_view (view.Writer w) is not = absurd cc
 gone_view (view.Reporter r) is not = absurd (not r refl)
 gone_view view.Gone is not = refl
@@ -77,18 +77,18 @@ gone_if_all (view.Reporter r ∷ os) (suc i) v h e = gone_if_all os i v h e
 gone_if_all (view.Gone ∷ os) zero v h e = sym (ap kept_of (some-injective view.Gone v e))
 gone_if_all (view.Gone ∷ os) (suc i) v h e = gone_if_all os i v h e
 
-pub idle_is : (c : Closing) → is_idle c ≡ true → c ≡ Idle
+pub idle_is : (c : ReporterStage) → is_idle c ≡ true → c ≡ Idle
 idle_is Idle h = refl
 idle_is Swapped h = absurd (true≢false (sym h))
 idle_is Cleared h = absurd (true≢false (sym h))
 idle_is (Waiting want) h = absurd (true≢false (sym h))
 idle_is (Harvest j) h = absurd (true≢false (sym h))
 
-others_are_gone : (n : Numbers) (ws : List ℕ) (r : Reading) (os : List View) → RecorderInvariant n ws (view.Reporter r ∷ os) → all_gone (map kept_of os) ≡ true → (port : ℕ) (v : View) → port ≢ 0 → get_elem? (view.Reporter r ∷ os) port ≡ some v → v ≡ view.Gone
+others_are_gone : (n : Numbers) (ws : List ℕ) (r : ReporterView) (os : List View) → RecorderInvariant n ws (view.Reporter r ∷ os) → all_gone (map kept_of os) ≡ true → (port : ℕ) (v : View) → port ≢ 0 → get_elem? (view.Reporter r ∷ os) port ≡ some v → v ≡ view.Gone
 others_are_gone n ws r os k all zero v ne e = absurd (ne refl)
 others_are_gone n ws r os k all (suc i) v ne e = gone_view v (gone_if_all os i v all e) (λ q is. ne (reporter_port n ws (view.Reporter r ∷ os) k (suc i) q (e ∙ ap some is)))
 
-ends_shape : (s : Shape) (r : Reading) (os : List View) → ShowsViews s r os → is_idle s.reporter.closing ≡ true → all_gone s.writers ≡ true → RecorderInvariant s.numbers s.words (view.Reporter r ∷ os) → Partition s.numbers.labels (joined_lists (view.Reporter r ∷ os)) (s.reporter.closed ++ open_report s ∷ [])
+ends_shape : (s : Shape) (r : ReporterView) (os : List View) → ShowsViews s r os → is_idle s.reporter.closing ≡ true → all_gone s.writers ≡ true → RecorderInvariant s.numbers s.words (view.Reporter r ∷ os) → Partition s.numbers.labels (joined_lists (view.Reporter r ∷ os)) (s.reporter.closed ++ open_report s ∷ [])
 ends_shape s r os sh idle all k =
     let now : r.closing ≡ Idle = ap (λ (p : Parts). p.closing) sh.reporter ∙ idle_is s.reporter.closing idle in
     let others = others_are_gone s.numbers s.words r os k (ap all_gone sh.writers ∙ all) in

@@ -7,17 +7,17 @@ use lib.ListN.{get_elem?}
 use Rattle.std.proofs.lemmas.Bool.Decides.{nat_tests}
 use Rattle.phaser_core.specs.declared.view.Numbers.{Numbers}
 use Rattle.phaser_core.specs.declared.view.Stage.TheVariants.{Out}
-use Rattle.phaser_core.specs.declared.view.Writing.{Writing}
+use Rattle.phaser_core.specs.declared.view.WriterView.{WriterView}
 use Rattle.phaser_core.specs.declared.view.Joined.{Joined}
-use Rattle.phaser_core.specs.declared.view.Closing.{Closing}
-use Rattle.phaser_core.specs.declared.view.Reading.{Reading}
+use Rattle.phaser_core.specs.declared.view.ReporterStage.{ReporterStage}
+use Rattle.phaser_core.specs.declared.view.ReporterView.{ReporterView}
 use Rattle.phaser_core.specs.declared.view.View.{View}
 use Rattle.phaser_core.specs.declared.view.View.TheVariants.{Reporter, Writer, Gone}
 use Rattle.jm_base.specs.Totals.{one_if, total}
 use Rattle.phaser_core.proofs.Halves.{Phased}
 use Rattle.phaser_core.specs.Cells.{is_odd, end_at, initial, phase, word_count}
 use Rattle.phaser_core.specs.Invariant.{InsideBefore, AllKept, Fits}
-use Rattle.phaser_core.specs.Moves.{splitting, split_off, taking_in, joining, first_words, first_cells}
+use Rattle.phaser_core.specs.CoreMoves.{splitting, split_off, taking_in, joining, first_words, first_cells}
 use Rattle.phaser_core.specs.Shares.{AllInRange}
 use Rattle.phaser_core.specs.Views.{stage_inside, inside, busy, uses, holders, heads, writer_zero, turned, pending, current, other, left_of, further, first_reading, IsSized, made_known, AllJoined}
 use Rattle.phaser_core.proofs.PhaseSteps.{same_total, each_set, is_reader}
@@ -41,24 +41,24 @@ at_end (x ∷ xs) v u zero e = inl (e, omega arith)
 at_end (x ∷ xs) v u (suc j) e = ⊎_elim (λ a. inl (a.0, omega arith)) (λ b. inr (b.0, ap suc b.1)) (at_end xs v u j e)
 
 -- where other views have the same sums, and the reporter is as far
-regroup : (n : Numbers) (ws : List ℕ) (vs us : List View) (k : Phased n ws vs) (r' : Reading) (made : ℕ) → r'.labels ≡ k.reader.labels → r'.interval ≡ k.reader.interval → r'.closing ≡ k.reader.closing → get_elem? us 0 ≡ some (Reporter r')
+regroup : (n : Numbers) (ws : List ℕ) (vs us : List View) (k : Phased n ws vs) (r' : ReporterView) (made : ℕ) → r'.labels ≡ k.reader.labels → r'.interval ≡ k.reader.interval → r'.closing ≡ k.reader.closing → get_elem? us 0 ≡ some (Reporter r')
     → length us ≡ made + 1 → made ≤ n.writers → ((p : Bool) → total (inside p) us ≡ total (inside p) vs) → total uses us ≡ total uses vs → total heads us ≡ made
     → ((q : ℕ) → total (holders q) us ≡ one_if (ltb q made)) → ((id : ℕ) (v : View) → get_elem? us id ≡ some v → Fits n made id v) → Phased n ws us
-regroup n ws vs us k r' made named far closing front ports few within used people numbers each =
+regroup n ws vs us k r' made named far closing prefix ports few within used people numbers each =
     let c : current k.reader ≡ current r' = λ i. is_odd (sym far i + turned (sym closing i)) in
     record {
       wide = k.wide;
       sizes = k.sizes;
       labels = named ∙ k.labels;
       reader = r';
-      front = front;
+      prefix = prefix;
       made = made;
       ports = ports;
       few = few;
-      closed = subst (λ (z : ℕ × Closing). z.0 + pending z.1 ≤ 16777216) (λ i. (sym far i, sym closing i)) k.closed;
+      closed = subst (λ (z : ℕ × ReporterStage). z.0 + pending z.1 ≤ 16777216) (λ i. (sym far i, sym closing i)) k.closed;
       parity = k.parity ∙ c;
       now = subst (λ (q : Bool). total (inside q) us + get_or ws (end_at q) 0 ≡ get_or ws 1 0) c (ap (λ (x : ℕ). x + get_or ws (end_at (current k.reader)) 0) (within (current k.reader)) ∙ k.now);
-      behind = subst (λ (z : Bool × Closing). InsideBefore z.1 (total (inside (not z.0)) us) (get_or ws (end_at (not z.0)) 0) (initial (not z.0)) (total uses us)) (λ i. (c i, sym closing i))
+      behind = subst (λ (z : Bool × ReporterStage). InsideBefore z.1 (total (inside (not z.0)) us) (get_or ws (end_at (not z.0)) 0) (initial (not z.0)) (total uses us)) (λ i. (c i, sym closing i))
           (subst (λ (z : ℕ × ℕ). InsideBefore k.reader.closing z.0 (get_or ws (end_at (other k.reader)) 0) (initial (other k.reader)) z.1) (λ i. (sym (within (other k.reader)) i, sym used i)) k.behind);
       started = subst (λ (z : Bool × ℕ). get_or ws 1 0 ≤ initial z.0 + z.1) (λ i. (c i, sym used i)) k.started;
       ends = λ p. subst (λ (t : ℕ). (initial p ≤ get_or ws (end_at p) 0) × (get_or ws (end_at p) 0 ≤ initial p + t)) (sym used) (k.ends p);
@@ -85,18 +85,18 @@ kept_snoc n made [] j h a b c d = (a, b, c, d, tt)
 kept_snoc n made (x ∷ xs) j h a b c d = (h.0, h.1, h.2, h.3, kept_snoc n made xs j h.4 a b c d)
 
 -- the reporter makes writer 0
-pub split_first : (n : Numbers) (ws : List ℕ) (vs : List View) (k : Phased n ws vs) (id : ℕ) (r : Reading) → get_elem? vs id ≡ some (Reporter r) → r.ready ≡ false → Phased n ws (set vs id (splitting (Reporter r)) ++ writer_zero ∷ [])
+pub split_first : (n : Numbers) (ws : List ℕ) (vs : List View) (k : Phased n ws vs) (id : ℕ) (r : ReporterView) → get_elem? vs id ≡ some (Reporter r) → r.ready ≡ false → Phased n ws (set vs id (splitting (Reporter r)) ++ writer_zero ∷ [])
 split_first n ws vs k id r at fresh =
-    let new : View = writer_zero in let r' : Reading = record { labels = r.labels; interval = r.interval; closing = r.closing; joined = r.joined; ready = true; cells = r.cells; closed = r.closed; raised = r.raised } in let left : View = Reporter r' in
+    let new : View = writer_zero in let r' : ReporterView = record { labels = r.labels; interval = r.interval; closing = r.closing; joined = r.joined; ready = true; cells = r.cells; closed = r.closed; raised = r.raised } in let left : View = Reporter r' in
     let us : List View = set vs id left ++ new ∷ [] in
     let mine = k.each id (Reporter r) at in
     let none : k.made ≡ 0 = mine.2 fresh in
-    let is = is_reader n ws vs k id r at in let front = mine.0 in let ports = k.ports in let sizes = k.sizes in
+    let is = is_reader n ws vs k id r at in let prefix = mine.0 in let ports = k.ports in let sizes = k.sizes in
     let alone : (j : ℕ) (u : View) → get_elem? vs j ≡ some u → j ≡ 0 = λ j u e. let l = at_short vs j u e in omega arith in
     let people = k.people in
     let joined_none : length r.joined ≡ 0 = let h = total_at heads vs id (Reporter r) at in omega arith in
-    regroup n ws vs us k r' 1 (ap (λ (q : Reading). q.labels) (sym is)) (ap (λ (q : Reading). q.interval) (sym is)) (ap (λ (q : Reading). q.closing) (sym is))
-    (at_longer (set vs id left) (new ∷ []) 0 left (subst (λ (i : ℕ). get_elem? (set vs i left) 0 ≡ some left) (sym front) (set_here vs 0 left (omega arith))))
+    regroup n ws vs us k r' 1 (ap (λ (q : ReporterView). q.labels) (sym is)) (ap (λ (q : ReporterView). q.interval) (sym is)) (ap (λ (q : ReporterView). q.closing) (sym is))
+    (at_longer (set vs id left) (new ∷ []) 0 left (subst (λ (i : ℕ). get_elem? (set vs i left) 0 ≡ some left) (sym prefix) (set_here vs 0 left (omega arith))))
     (length-append (set vs id left) (new ∷ []) ∙ let l = length-set vs id left in omega arith)
     (omega arith)
     (λ p. summed vs id (Reporter r) left new at (inside p) refl ∙ add-zero (total (inside p) vs))
@@ -105,7 +105,7 @@ split_first n ws vs k id r at fresh =
     (λ q. let t = summed vs id (Reporter r) left new at (holders q) refl in let o = k.numbers q in let m = next_number 0 q in
     let zero_before : one_if (ltb q k.made) ≡ one_if (ltb q 0) = ap (λ (m : ℕ). one_if (ltb q m)) none in omega arith)
     (λ j u e. ⊎_elim
-    (λ (a : (get_elem? (set vs id left) j ≡ some u) × (j < length (set vs id left))). each_set (Fits n 1) vs id left (front, subst (AllKept n 1) (sym (no_length r.joined joined_none)) tt, λ f. absurd (true≢false f)) (λ i x ne b. absurd (ne (alone i x b ∙ sym front))) j u a.0)
+    (λ (a : (get_elem? (set vs id left) j ≡ some u) × (j < length (set vs id left))). each_set (Fits n 1) vs id left (prefix, subst (AllKept n 1) (sym (no_length r.joined joined_none)) tt, λ f. absurd (true≢false f)) (λ i x ne b. absurd (ne (alone i x b ∙ sym prefix))) j u a.0)
     (λ (b : (new ≡ u) × (j ≡ length (set vs id left))). let l = length-set vs id left in let place = b.1 in subst (Fits n 1 j) b.0 (omega arith, omega arith, tt, (λ _. (refl, refl)), λ _. omega arith))
     (at_end (set vs id left) new u j e))
 
@@ -119,7 +119,7 @@ fits_grown n made j (Writer x) some_made f z = (f.0, f.1, f.2, (λ h. absurd (le
 fits_grown n made j Gone some_made f z = tt
 
 -- writer 0 makes one more
-pub split_more : (n : Numbers) (ws : List ℕ) (vs : List View) (k : Phased n ws vs) (id : ℕ) (w : Writing) → get_elem? vs id ≡ some (Writer w) → 0 < w.made → w.made < n.writers
+pub split_more : (n : Numbers) (ws : List ℕ) (vs : List View) (k : Phased n ws vs) (id : ℕ) (w : WriterView) → get_elem? vs id ≡ some (Writer w) → 0 < w.made → w.made < n.writers
     → Phased n ws (set vs id (splitting (Writer w)) ++ split_off (Writer w) ∷ [])
 split_more n ws vs k id w at some_made room =
     let new : View = further w.made in let left : View = splitting (Writer w) in
@@ -132,7 +132,7 @@ split_more n ws vs k id w at some_made room =
     let one_zero : one_if (ltb 0 k.made) ≤ 1 = one_if_le (ltb 0 k.made) in
     let budget = mine.1 in
     regroup n ws vs us k k.reader (k.made + 1) refl refl refl
-    (at_longer vs' (new ∷ []) 0 (Reporter k.reader) (set_else vs id 0 left (λ e. place (sym e)) ∙ k.front))
+    (at_longer vs' (new ∷ []) 0 (Reporter k.reader) (set_else vs id 0 left (λ e. place (sym e)) ∙ k.prefix))
     (length-append vs' (new ∷ []) ∙ let l = length-set vs id left in let p = k.ports in omega arith)
     (omega arith)
     (λ p. summed vs id (Writer w) left new at (inside p) refl ∙ add-zero (total (inside p) vs))
@@ -148,26 +148,26 @@ split_more n ws vs k id w at some_made room =
     (at_end vs' new u j e))
 
 -- the reporter takes in a writer that is out
-pub join_phases : (n : Numbers) (ws : List ℕ) (vs : List View) (k : Phased n ws vs) (id : ℕ) (r : Reading) (port : ℕ) (w : Writing) → get_elem? vs id ≡ some (Reporter r) → (port ≡ id → ⊥)
+pub join_phases : (n : Numbers) (ws : List ℕ) (vs : List View) (k : Phased n ws vs) (id : ℕ) (r : ReporterView) (port : ℕ) (w : WriterView) → get_elem? vs id ≡ some (Reporter r) → (port ≡ id → ⊥)
     → get_elem? (set vs id (joining (Reporter r) (Writer w))) port ≡ some (Writer w) → w.stage ≡ Out → Phased n ws (set (set vs id (joining (Reporter r) (Writer w))) port Gone)
 join_phases n ws vs k id r port w at two at' out =
-    let r' : Reading = taking_in r w in let both : View = Reporter r' in let vs' : List View = set vs id both in let us : List View = set vs' port Gone in
+    let r' : ReporterView = taking_in r w in let both : View = Reporter r' in let vs' : List View = set vs id both in let us : List View = set vs' port Gone in
     let was : get_elem? vs port ≡ some (Writer w) = ⊎_elim (λ x. absurd (two x.0)) (λ x. x.1) (at_set vs id port both (Writer w) at') in
     let mine = k.each id (Reporter r) at in let theirs = k.each port (Writer w) was in
-    let is = is_reader n ws vs k id r at in let front = mine.0 in let ports = k.ports in
+    let is = is_reader n ws vs k id r at in let prefix = mine.0 in let ports = k.ports in
     let sums : (f : View → ℕ) → total f us + f (Writer w) + f (Reporter r) ≡ total f vs + f both + f Gone = λ f.
     let x = total_set f vs id (Reporter r) both at in let y = total_set f vs' port (Writer w) Gone at' in omega arith in
     let free : busy w.stage ≡ 0 = ap busy out in
     let l1 = length-set vs id both in let l2 = length-set vs' port Gone in
-    regroup n ws vs us k r' k.made (ap (λ (q : Reading). q.labels) (sym is)) (ap (λ (q : Reading). q.interval) (sym is)) (ap (λ (q : Reading). q.closing) (sym is))
-    (set_else vs' port 0 Gone (λ e. two (sym e ∙ sym front)) ∙ subst (λ (i : ℕ). get_elem? (set vs i both) 0 ≡ some both) (sym front) (set_here vs 0 both (omega arith)))
+    regroup n ws vs us k r' k.made (ap (λ (q : ReporterView). q.labels) (sym is)) (ap (λ (q : ReporterView). q.interval) (sym is)) (ap (λ (q : ReporterView). q.closing) (sym is))
+    (set_else vs' port 0 Gone (λ e. two (sym e ∙ sym prefix)) ∙ subst (λ (i : ℕ). get_elem? (set vs i both) 0 ≡ some both) (sym prefix) (set_here vs 0 both (omega arith)))
     (omega arith)
     k.few
     (λ p. let s = sums (inside p) in let z : stage_inside p w.stage ≡ 0 = ap (stage_inside p) out in omega arith)
     (let s = sums uses in let t = total_snoc (λ (j : Joined). length j.list) r.joined (left_of w) in omega arith)
     (let s = sums heads in let t = length-append r.joined (left_of w ∷ []) in let p = k.people in omega arith)
     (λ q. let s = sums (holders q) in let t = total_snoc (λ (j : Joined). one_if (j.number == q)) r.joined (left_of w) in let o = k.numbers q in omega arith)
-    (each_set (Fits n k.made) vs' port Gone tt (λ j u ne e. each_set (Fits n k.made) vs id both (front, kept_snoc n k.made r.joined (left_of w) mine.1 (let b = theirs.1 in omega arith) theirs.2 theirs.3 theirs.4, mine.2) (λ i x _ b. k.each i x b) j u e))
+    (each_set (Fits n k.made) vs' port Gone tt (λ j u ne e. each_set (Fits n k.made) vs id both (prefix, kept_snoc n k.made r.joined (left_of w) mine.1 (let b = theirs.1 in omega arith) theirs.2 theirs.3 theirs.4, mine.2) (λ i x _ b. k.each i x b) j u e))
 
 -- the reporter alone
 pub zero_at : (m i : ℕ) → get_or {A = ℕ} (replicate m 0) i 0 ≡ 0
@@ -202,7 +202,7 @@ opens n s =
       sizes = s;
       reader = first_reading n.labels;
       labels = refl;
-      front = refl;
+      prefix = refl;
       made = 0;
       ports = refl;
       few = omega arith;
@@ -235,7 +235,7 @@ no_head n made j (Writer w) f ne z = absurd (omega arith)
 no_head n made j Gone f ne z = refl
 
 -- where the reporter has taken in every writer, there is no other view
-pub all_gone : (n : Numbers) (ws : List ℕ) (vs : List View) (k : Phased n ws vs) (id : ℕ) (r : Reading) → get_elem? vs id ≡ some (Reporter r) → AllJoined r
+pub all_gone : (n : Numbers) (ws : List ℕ) (vs : List View) (k : Phased n ws vs) (id : ℕ) (r : ReporterView) → get_elem? vs id ≡ some (Reporter r) → AllJoined r
     → (j : ℕ) (v : View) → j ≢ 0 → get_elem? vs j ≡ some v → v ≡ Gone
 all_gone n ws vs k id r at all j v ne e =
     let mine = k.each id (Reporter r) at in let zero = mine.0 in

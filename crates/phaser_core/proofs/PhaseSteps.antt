@@ -10,18 +10,18 @@ use Rattle.phaser_core.specs.declared.view.Numbers.{Numbers}
 use Rattle.jm_base.specs.declared.types.Entry.{Entry}
 use Rattle.phaser_core.specs.declared.view.Stage.{Stage}
 use Rattle.phaser_core.specs.declared.view.Stage.TheVariants.{Out, In, On}
-use Rattle.phaser_core.specs.declared.view.Writing.{Writing}
+use Rattle.phaser_core.specs.declared.view.WriterView.{WriterView}
 use Rattle.phaser_core.specs.declared.view.Joined.{Joined}
-use Rattle.phaser_core.specs.declared.view.Closing.{Closing}
-use Rattle.phaser_core.specs.declared.view.Closing.TheVariants.{Idle, Swapped, Cleared, Waiting, Harvest}
-use Rattle.phaser_core.specs.declared.view.Reading.{Reading}
+use Rattle.phaser_core.specs.declared.view.ReporterStage.{ReporterStage}
+use Rattle.phaser_core.specs.declared.view.ReporterStage.TheVariants.{Idle, Swapped, Cleared, Waiting, Harvest}
+use Rattle.phaser_core.specs.declared.view.ReporterView.{ReporterView}
 use Rattle.phaser_core.specs.declared.view.View.{View}
 use Rattle.phaser_core.specs.declared.view.View.TheVariants.{Reporter, Writer, Gone}
 use Rattle.jm_base.specs.Totals.{one_if, total}
 use Rattle.phaser_core.proofs.Halves.{Phased, StaysPhased}
 use Rattle.phaser_core.specs.Cells.{is_odd, same, end_at, initial, phase, part, column, place, folded, vacant, cell_at, table_cells}
 use Rattle.phaser_core.specs.Invariant.{InsideBefore, AllKept, Fits}
-use Rattle.phaser_core.specs.Moves.{Move, add_one, entering, leaving, clearing, flipping, settled, looking, marked, reporter_raised, loading, adding, swapping, taking, closed_with, holding, gathered_if}
+use Rattle.phaser_core.specs.CoreMoves.{Move, add_one, entering, leaving, clearing, flipping, settled, looking, marked, reporter_raised, loading, adding, swapping, taking, closed_with, holding, gathered_if}
 use Rattle.phaser_core.specs.Shares.{AllInRange}
 use Rattle.phaser_core.specs.Views.{stage_inside, inside, busy, uses, holders, heads, at_stage, turned, pending, current, other, at_closing}
 use Rattle.jm_base.proofs.Totals.{total_set, total_le, total_times}
@@ -63,7 +63,7 @@ bound_exact n ws vs k =
     let turn : n.budget * n.writers ≡ n.writers * n.budget = mul_comm n.budget n.writers in
     omega arith
 
-behind_more : (c : Closing) (x e i t u : ℕ) → InsideBefore c x e i t → t ≤ u → InsideBefore c x e i u
+behind_more : (c : ReporterStage) (x e i t u : ℕ) → InsideBefore c x e i t → t ≤ u → InsideBefore c x e i u
 behind_more Idle x e i t u b h = b
 behind_more Swapped x e i t u b h = b
 behind_more Cleared x e i t u b h = b
@@ -113,14 +113,14 @@ phase_next : (x t : ℕ) (c : Bool) → phase x ≡ c → x ≤ initial c + t �
 phase_next x t true e h s = grind (arith, nat_tests)
 phase_next x t false e h s = grind (arith, nat_tests)
 
-behind_leave : (c : Closing) (x x' e e' i t u d : ℕ) → InsideBefore c x e i t → x' + d ≡ x → e' ≡ e + d → t ≤ u → InsideBefore c x' e' i u
+behind_leave : (c : ReporterStage) (x x' e e' i t u d : ℕ) → InsideBefore c x e i t → x' + d ≡ x → e' ≡ e + d → t ≤ u → InsideBefore c x' e' i u
 behind_leave Idle x x' e e' i t u d b a z h = omega arith
 behind_leave Swapped x x' e e' i t u d b a z h = omega arith
 behind_leave Cleared x x' e e' i t u d b a z h = (omega arith, omega arith)
 behind_leave (Waiting want) x x' e e' i t u d b a z h = (omega arith, omega arith)
 behind_leave (Harvest j) x x' e e' i t u d b a z h = omega arith
 
-behind_room : (c : Closing) (x x' e i t d : ℕ) → InsideBefore c x e i t → x' + d ≡ x → e ≤ i + t → e + d ≤ i + t
+behind_room : (c : ReporterStage) (x x' e i t d : ℕ) → InsideBefore c x e i t → x' + d ≡ x → e ≤ i + t → e + d ≤ i + t
 behind_room Idle x x' e i t d b a h = omega arith
 behind_room Swapped x x' e i t d b a h = omega arith
 behind_room Cleared x x' e i t d b a h = omega arith
@@ -144,12 +144,12 @@ in_range_snoc : (labels : ℕ) (l : List (ℕ × Entry)) (x : ℕ × Entry) → 
 in_range_snoc labels [] x h b = (b, tt)
 in_range_snoc labels (y ∷ ys) x h b = (h.0, in_range_snoc labels ys x h.1 b)
 
-module _ (n : Numbers) (ws : List ℕ) (vs : List View) (id : ℕ) (w : Writing) (k : Phased n ws vs) (at : get_elem? vs id ≡ some (Writer w)) where
+module _ (n : Numbers) (ws : List ℕ) (vs : List View) (id : ℕ) (w : WriterView) (k : Phased n ws vs) (at : get_elem? vs id ≡ some (Writer w)) where
   pub not_front : id ≢ 0
   not_front = let f = (k.each id (Writer w) at).0 in λ e. omega arith
 
   -- a step of a writer, from what it does to numbers
-  writer_phases : (vs' : List ℕ) (w' : Writing) → w'.number ≡ w.number → length vs' ≡ length ws
+  writer_phases : (vs' : List ℕ) (w' : WriterView) → w'.number ≡ w.number → length vs' ≡ length ws
       → phase (get_or vs' 1 0) ≡ current k.reader
       → total (inside (current k.reader)) (set vs id (Writer w')) + get_or vs' (end_at (current k.reader)) 0 ≡ get_or vs' 1 0
       → InsideBefore k.reader.closing (total (inside (other k.reader)) (set vs id (Writer w'))) (get_or vs' (end_at (other k.reader)) 0) (initial (other k.reader)) (total uses (set vs id (Writer w')))
@@ -162,7 +162,7 @@ module _ (n : Numbers) (ws : List ℕ) (vs : List View) (id : ℕ) (w : Writing)
     sizes = k.sizes;
     labels = k.labels;
     reader = k.reader;
-    front = set_else vs id 0 (Writer w') (λ e. not_front (sym e)) ∙ k.front;
+    prefix = set_else vs id 0 (Writer w') (λ e. not_front (sym e)) ∙ k.prefix;
     made = k.made;
     ports = length-set vs id (Writer w') ∙ k.ports;
     few = k.few;
@@ -180,7 +180,7 @@ module _ (n : Numbers) (ws : List ℕ) (vs : List View) (id : ℕ) (w : Writing)
   -- a step on a word beside start and the end words, by a writer that stays inside
   stay_phases : (i x : ℕ) (s : Stage) → i ≢ 1 → ((p : Bool) → end_at p ≢ i) → ((p : Bool) → stage_inside p s ≡ stage_inside p w.stage) → busy s ≡ busy w.stage → Phased n (set ws i x) (set vs id (Writer (at_stage w s w.list)))
   stay_phases i x s ne ne' same_in same_busy =
-      let w' : Writing = at_stage w s w.list in
+      let w' : WriterView = at_stage w s w.list in
       let mine = k.each id (Writer w) at in
       let start : get_or (set ws i x) 1 0 ≡ get_or ws 1 0 = get_or-set_other ws i 1 x 0 (λ h. ne (sym h)) in
       let apart : (p : Bool) → get_or (set ws i x) (end_at p) 0 ≡ get_or ws (end_at p) 0 = λ p. get_or-set_other ws i (end_at p) x 0 (ne' p) in
@@ -197,7 +197,7 @@ module _ (n : Numbers) (ws : List ℕ) (vs : List View) (id : ℕ) (w : Writing)
   -- a step on the stop word, which changes only the marks
   pub mark_phases : (x : ℕ) (a b : Bool) → Phased n (set ws 4 x) (set vs id (Writer (marked w a b)))
   mark_phases x a b =
-      let w' : Writing = marked w a b in
+      let w' : WriterView = marked w a b in
       let mine = k.each id (Writer w) at in
       let start : get_or (set ws 4 x) 1 0 ≡ get_or ws 1 0 = get_or-set_other ws 4 1 x 0 (λ h. omega arith) in
       let apart : (p : Bool) → get_or (set ws 4 x) (end_at p) 0 ≡ get_or ws (end_at p) 0 = λ p. get_or-set_other ws 4 (end_at p) x 0 (λ h. end_four p h) in
@@ -221,7 +221,7 @@ module _ (n : Numbers) (ws : List ℕ) (vs : List View) (id : ℕ) (w : Writing)
   pub enter_phases : w.stage ≡ Out → length w.list < n.budget → StaysPhased n ws vs id (entering w)
   enter_phases out room =
       let x : ℕ = get_or ws 1 0 in let c : Bool = current k.reader in
-      let w' : Writing = at_stage w (In (phase x)) w.list in
+      let w' : WriterView = at_stage w (In (phase x)) w.list in
       let most = bound n ws vs k in let wide = k.wide in let started = k.started in
       let small = initial_small c in
       let next : add_one x ≡ x + 1 = omega arith in
@@ -249,7 +249,7 @@ module _ (n : Numbers) (ws : List ℕ) (vs : List View) (id : ℕ) (w : Writing)
   pub exit_phases : (p : Bool) (m : ℕ) (e : Entry) (d : ℕ) → w.stage ≡ On p m e d → e.label < n.labels → StaysPhased n ws vs id (leaving w p m e)
   exit_phases p m e d is label =
       let c : Bool = current k.reader in
-      let w' : Writing = at_stage w Out (w.list ++ (m, e) ∷ []) in
+      let w' : WriterView = at_stage w Out (w.list ++ (m, e) ∷ []) in
       let y : ℕ = get_or ws (end_at p) 0 in let ws' : List ℕ = set ws (end_at p) (add_one y) in
       let most = bound n ws vs k in let wide = k.wide in
       let mine = k.each id (Writer w) at in
@@ -287,11 +287,11 @@ phase_initial true = refl
 phase_initial false = refl
 
 module _ (n : Numbers) (ws : List ℕ) (vs : List View) (k : Phased n ws vs) where
-  abbrev R : Reading
+  abbrev R : ReporterView
   R = k.reader
 
   -- a step of the reporter, from what it does to numbers; c is the parity of start after it
-  reporter_phases : (vs' : List ℕ) (r' : Reading) (c : Bool) → r'.labels ≡ R.labels → r'.joined ≡ R.joined → r'.ready ≡ R.ready → length vs' ≡ length ws → r'.interval + pending r'.closing ≤ 16777216 → c ≡ current r'
+  reporter_phases : (vs' : List ℕ) (r' : ReporterView) (c : Bool) → r'.labels ≡ R.labels → r'.joined ≡ R.joined → r'.ready ≡ R.ready → length vs' ≡ length ws → r'.interval + pending r'.closing ≤ 16777216 → c ≡ current r'
       → phase (get_or vs' 1 0) ≡ c
       → total (inside c) vs + get_or vs' (end_at c) 0 ≡ get_or vs' 1 0
       → InsideBefore r'.closing (total (inside (not c)) vs) (get_or vs' (end_at (not c)) 0) (initial (not c)) (total uses vs)
@@ -300,7 +300,7 @@ module _ (n : Numbers) (ws : List ℕ) (vs : List View) (k : Phased n ws vs) whe
       → Phased n vs' (set vs 0 (Reporter r'))
   reporter_phases vs' r' c labels joined ready long closed is parity now behind started ends =
       let us : List View = set vs 0 (Reporter r') in
-      let at = k.front in
+      let at = k.prefix in
       let used : total uses us ≡ total uses vs = same_total uses vs 0 (Reporter R) (Reporter r') at (ap (λ (l : List Joined). total (λ (j : Joined). length j.list) l) joined) in
       let within : (p : Bool) → total (inside p) us ≡ total (inside p) vs = λ p. same_total (inside p) vs 0 (Reporter R) (Reporter r') at refl in
       let mine = k.each 0 (Reporter R) at in
@@ -310,7 +310,7 @@ module _ (n : Numbers) (ws : List ℕ) (vs : List View) (k : Phased n ws vs) whe
         sizes = k.sizes;
         labels = labels ∙ k.labels;
         reader = r';
-        front = set_here vs 0 (Reporter r') (omega arith);
+        prefix = set_here vs 0 (Reporter r') (omega arith);
         made = k.made;
         ports = length-set vs 0 (Reporter r') ∙ k.ports;
         few = k.few;
@@ -336,7 +336,7 @@ module _ (n : Numbers) (ws : List ℕ) (vs : List View) (k : Phased n ws vs) whe
       let start : get_or ws' 1 0 ≡ get_or ws 1 0 = get_or-set_other ws (end_at o) 1 (initial o) 0 (λ h. end_apart o (sym h)) in
       let here : get_or ws' (end_at o) 0 ≡ initial o = get_or-set_same ws (end_at o) (initial o) 0 (omega arith) in
       let there : get_or ws' (end_at c) 0 ≡ get_or ws (end_at c) 0 = get_or-set_other ws (end_at o) (end_at c) (initial o) 0 (ends_apart c o (ap (same c) (sym far) ∙ not_same c)) in
-      let none : total (inside (not c)) vs ≡ 0 = subst (λ (q : Closing). InsideBefore q (total (inside (other R)) vs) (get_or ws (end_at (other R)) 0) (initial (other R)) (total uses vs)) idle k.behind in
+      let none : total (inside (not c)) vs ≡ 0 = subst (λ (q : ReporterStage). InsideBefore q (total (inside (other R)) vs) (get_or ws (end_at (other R)) 0) (initial (other R)) (total uses vs)) idle k.behind in
       let now = k.now in let started = k.started in let ec = k.ends c in let pend : pending R.closing ≡ 1 = ap pending idle in let few = k.closed in
       reporter_phases ws' (at_closing R Cleared) c refl refl refl (length-set ws (end_at o) (initial o)) (omega arith) (still ∙ sym (ap is_odd (add-zero R.interval)))
       (ap phase start ∙ k.parity)
@@ -357,7 +357,7 @@ module _ (n : Numbers) (ws : List ℕ) (vs : List View) (k : Phased n ws vs) whe
       let start : get_or ws' 1 0 ≡ initial o = get_or-set_same ws 1 (initial o) 0 (omega arith) in
       let apart : (p : Bool) → get_or ws' (end_at p) 0 ≡ get_or ws (end_at p) 0 = λ p. get_or-set_other ws 1 (end_at p) (initial o) 0 (end_apart p) in
       let old : (total (inside (not c)) vs ≡ 0) × (get_or ws (end_at (not c)) 0 ≡ initial (not c)) =
-      subst (λ (q : Closing). InsideBefore q (total (inside (other R)) vs) (get_or ws (end_at (other R)) 0) (initial (other R)) (total uses vs)) cleared k.behind in
+      subst (λ (q : ReporterStage). InsideBefore q (total (inside (other R)) vs) (get_or ws (end_at (other R)) 0) (initial (other R)) (total uses vs)) cleared k.behind in
       let none : total (inside o) vs ≡ 0 = subst (λ (q : Bool). total (inside q) vs ≡ 0) far old.0 in
       let clean : get_or ws (end_at o) 0 ≡ initial o = subst (λ (q : Bool). get_or ws (end_at q) 0 ≡ initial q) far old.1 in
       let now = k.now in let started = k.started in let ac = apart c in let ao = apart o in
@@ -400,7 +400,7 @@ module _ (n : Numbers) (ws : List ℕ) (vs : List View) (k : Phased n ws vs) whe
       let turn : c ≡ is_odd (R.interval + 1) = ap (λ (t : ℕ). is_odd (R.interval + t)) (ap turned waiting) in
       let far : not c ≡ is_odd R.interval = ap not (turn ∙ odd_next R.interval) ∙ not_not (is_odd R.interval) in
       let old : (total (inside (not c)) vs + get_or ws (end_at (not c)) 0 ≡ want) × (want ≤ initial (not c) + total uses vs) =
-      subst (λ (q : Closing). InsideBefore q (total (inside (other R)) vs) (get_or ws (end_at (other R)) 0) (initial (other R)) (total uses vs)) waiting k.behind in
+      subst (λ (q : ReporterStage). InsideBefore q (total (inside (other R)) vs) (get_or ws (end_at (other R)) 0) (initial (other R)) (total uses vs)) waiting k.behind in
       let read : get_or ws (end_at (not c)) 0 ≡ get_or ws (end_at (is_odd R.interval)) 0 = ap (λ (q : Bool). get_or ws (end_at q) 0) far in omega arith
 
   pub look_front : (want : ℕ) → R.closing ≡ Waiting want → StaysPhased n ws vs 0 (looking R want)
@@ -411,13 +411,13 @@ module _ (n : Numbers) (ws : List ℕ) (vs : List View) (k : Phased n ws vs) whe
       (λ hit. subst (λ (b : Bool). Phased n ws (set vs 0 (Reporter (settled R b)))) (sym (eq-eqb found want hit))
       (gather_front [] 0 (0 == table_cells R.labels) (ap turned waiting) (ap pending waiting) (settled_none want waiting hit) ws refl refl (λ _. refl)))
       (λ miss. subst (λ (b : Bool). Phased n ws (set vs 0 (Reporter (settled R b)))) (sym (ne_eqb found want miss))
-      (subst (Phased n ws) (sym (set_again vs 0 (Reporter R) k.front)) k)))
+      (subst (Phased n ws) (sym (set_again vs 0 (Reporter R) k.prefix)) k)))
 
   pub swap_front : R.closing ≡ Idle → R.interval < 16777216 → StaysPhased n ws vs 0 (swapping R)
   swap_front idle few =
       let c : Bool = current R in
       let still : c ≡ is_odd (R.interval + 0) = ap (λ (t : ℕ). is_odd (R.interval + t)) (ap turned idle) in
-      let none : total (inside (not c)) vs ≡ 0 = subst (λ (q : Closing). InsideBefore q (total (inside (other R)) vs) (get_or ws (end_at (other R)) 0) (initial (other R)) (total uses vs)) idle k.behind in
+      let none : total (inside (not c)) vs ≡ 0 = subst (λ (q : ReporterStage). InsideBefore q (total (inside (other R)) vs) (get_or ws (end_at (other R)) 0) (initial (other R)) (total uses vs)) idle k.behind in
       let start : get_or (set ws 0 (R.interval + 1)) 1 0 ≡ get_or ws 1 0 = get_or-set_other ws 0 1 (R.interval + 1) 0 (λ h. omega arith) in
       let apart : (p : Bool) → get_or (set ws 0 (R.interval + 1)) (end_at p) 0 ≡ get_or ws (end_at p) 0 = λ p. get_or-set_other ws 0 (end_at p) (R.interval + 1) 0 (λ h. let e = end_some p in omega arith) in
       let ec = apart c in let now = k.now in let started = k.started in
@@ -434,32 +434,32 @@ module _ (n : Numbers) (ws : List ℕ) (vs : List View) (k : Phased n ws vs) whe
   pub take_front : (j : ℕ) → R.closing ≡ Harvest j → j < table_cells n.labels → StaysPhased n ws vs 0 (taking R j)
   take_front j harvest inside_table =
       let i : ℕ = cell_at R.labels R.interval j in let x : ℕ = get_or ws i 0 in
-      let none : total (inside (other R)) vs ≡ 0 = subst (λ (q : Closing). InsideBefore q (total (inside (other R)) vs) (get_or ws (end_at (other R)) 0) (initial (other R)) (total uses vs)) harvest k.behind in
+      let none : total (inside (other R)) vs ≡ 0 = subst (λ (q : ReporterStage). InsideBefore q (total (inside (other R)) vs) (get_or ws (end_at (other R)) 0) (initial (other R)) (total uses vs)) harvest k.behind in
       gather_front (R.cells ++ x ∷ []) (j + 1) (j + 1 == table_cells R.labels) (ap turned harvest) (ap pending harvest) none (set ws i (vacant (j % 6))) (length-set ws i (vacant (j % 6)))
       (get_or-set_other ws i 1 (vacant (j % 6)) 0 (λ h. omega arith)) (λ p. get_or-set_other ws i (end_at p) (vacant (j % 6)) 0 (λ h. let e = end_low p in omega arith))
 
 -- the reporter's port is 0, and its view is the reader of the rule
-module _ (n : Numbers) (ws : List ℕ) (vs : List View) (k : Phased n ws vs) (id : ℕ) (r : Reading) (at : get_elem? vs id ≡ some (Reporter r)) where
+module _ (n : Numbers) (ws : List ℕ) (vs : List View) (k : Phased n ws vs) (id : ℕ) (r : ReporterView) (at : get_elem? vs id ≡ some (Reporter r)) where
   pub at_front : id ≡ 0
   at_front = (k.each id (Reporter r) at).0
 
   pub is_reader : k.reader ≡ r
-  is_reader = let e : some (Reporter k.reader) ≡ some (Reporter r) = sym k.front ∙ subst (λ (j : ℕ). get_elem? vs j ≡ some (Reporter r)) at_front at in cc
+  is_reader = let e : some (Reporter k.reader) ≡ some (Reporter r) = sym k.prefix ∙ subst (λ (j : ℕ). get_elem? vs j ≡ some (Reporter r)) at_front at in cc
 
-  as_front : (F : Reading → Move) → StaysPhased n ws vs 0 (F k.reader) → StaysPhased n ws vs id (F r)
-  as_front F h = subst (λ (z : ℕ × Reading). StaysPhased n ws vs z.0 (F z.1)) (λ i. (sym at_front i, is_reader i)) h
+  as_front : (F : ReporterView → Move) → StaysPhased n ws vs 0 (F k.reader) → StaysPhased n ws vs id (F r)
+  as_front F h = subst (λ (z : ℕ × ReporterView). StaysPhased n ws vs z.0 (F z.1)) (λ i. (sym at_front i, is_reader i)) h
 
   pub clear_phases : r.closing ≡ Swapped → StaysPhased n ws vs id (clearing r)
-  clear_phases swapped = as_front clearing (clear_front n ws vs k (subst (λ (q : Reading). q.closing ≡ Swapped) (sym is_reader) swapped))
+  clear_phases swapped = as_front clearing (clear_front n ws vs k (subst (λ (q : ReporterView). q.closing ≡ Swapped) (sym is_reader) swapped))
 
   pub flip_phases : r.closing ≡ Cleared → StaysPhased n ws vs id (flipping r)
-  flip_phases cleared = as_front flipping (flip_front n ws vs k (subst (λ (q : Reading). q.closing ≡ Cleared) (sym is_reader) cleared))
+  flip_phases cleared = as_front flipping (flip_front n ws vs k (subst (λ (q : ReporterView). q.closing ≡ Cleared) (sym is_reader) cleared))
 
   pub look_phases : (want : ℕ) → r.closing ≡ Waiting want → StaysPhased n ws vs id (looking r want)
-  look_phases want waiting = as_front (λ q. looking q want) (look_front n ws vs k want (subst (λ (q : Reading). q.closing ≡ Waiting want) (sym is_reader) waiting))
+  look_phases want waiting = as_front (λ q. looking q want) (look_front n ws vs k want (subst (λ (q : ReporterView). q.closing ≡ Waiting want) (sym is_reader) waiting))
 
   pub swap_phases : r.closing ≡ Idle → r.interval < 16777216 → StaysPhased n ws vs id (swapping r)
-  swap_phases idle few = as_front swapping (swap_front n ws vs k (subst (λ (q : Reading). q.closing ≡ Idle) (sym is_reader) idle) (subst (λ (q : Reading). q.interval < 16777216) (sym is_reader) few))
+  swap_phases idle few = as_front swapping (swap_front n ws vs k (subst (λ (q : ReporterView). q.closing ≡ Idle) (sym is_reader) idle) (subst (λ (q : ReporterView). q.interval < 16777216) (sym is_reader) few))
 
   pub take_phases : (j : ℕ) → r.closing ≡ Harvest j → j < table_cells n.labels → StaysPhased n ws vs id (taking r j)
-  take_phases j harvest low = as_front (λ q. taking q j) (take_front n ws vs k j (subst (λ (q : Reading). q.closing ≡ Harvest j) (sym is_reader) harvest) low)
+  take_phases j harvest low = as_front (λ q. taking q j) (take_front n ws vs k j (subst (λ (q : ReporterView). q.closing ≡ Harvest j) (sym is_reader) harvest) low)

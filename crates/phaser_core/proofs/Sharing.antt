@@ -15,7 +15,7 @@ use Rattle.phaser_core.specs.declared.view.Numbers.{Numbers}
 use Rattle.phaser_core.specs.declared.view.Stage.{Stage}
 use Rattle.phaser_core.specs.declared.view.Stage.TheVariants.{Out, In, On}
 use Rattle.phaser_core.specs.declared.view.Joined.{Joined}
-use Rattle.phaser_core.specs.declared.view.Reading.{Reading}
+use Rattle.phaser_core.specs.declared.view.ReporterView.{ReporterView}
 use Rattle.phaser_core.specs.declared.view.View.{View}
 use Rattle.phaser_core.specs.declared.view.View.TheVariants.{Reporter, Writer, Gone}
 use Rattle.phaser_core.specs.Cells.{combine, vacant, gather, pick, part, adds, done, row_from, rows_from, report_from, table_cells, no_report}
@@ -50,17 +50,17 @@ pub joined_sum : (labels m j : ℕ) (js : List Joined) → joined_at labels m j 
 joined_sum labels m j [] = refl
 joined_sum labels m j (x ∷ xs) = (λ i. combine (j % 6) (list_sum labels x.number m j x.list i) (joined_sum labels m j xs i)) ∙ sym (gather_append (j % 6) (adds labels 0 j) (entries_of m x.list) (joined_share m xs))
 
-stage_old : (n : Numbers) (w : ℕ) (r : Reading) (l : List Pair) (s : Stage) (m j : ℕ) → TimelyStage n r l s → m < r.interval → stage_at n.labels w m j s ≡ vacant (j % 6)
+stage_old : (n : Numbers) (w : ℕ) (r : ReporterView) (l : List Pair) (s : Stage) (m j : ℕ) → TimelyStage n r l s → m < r.interval → stage_at n.labels w m j s ≡ vacant (j % 6)
 stage_old n w r l Out m j h lt = refl
 stage_old n w r l (In p) m j h lt = refl
 stage_old n w r l (On p i e d) m j h lt = let b = may_low r.closing r.interval i (current r) p h.0 in ap (λ (b : Bool). pick b (done n.labels w (not e.ok) j e d) (vacant (j % 6))) (ne_eqb i m (λ e. let c = b.0 in omega arith))
 
-view_sum : (n : Numbers) (r : Reading) (m j : ℕ) (v : View) → Timely n r v → m < r.interval → value n.labels m j v ≡ sum_at n.labels j (view_share m v)
+view_sum : (n : Numbers) (r : ReporterView) (m j : ℕ) (v : View) → Timely n r v → m < r.interval → value n.labels m j v ≡ sum_at n.labels j (view_share m v)
 view_sum n r m j (Reporter q) h lt = joined_sum n.labels m j q.joined
 view_sum n r m j (Writer w) h lt = (λ i. combine (j % 6) (list_sum n.labels w.number m j w.list i) (stage_old n w.number r w.list w.stage m j h.0 lt i)) ∙ gather_cap (j % 6) (adds n.labels 0 j) (entries_of m w.list)
 view_sum n r m j Gone h lt = refl
 
-worth_sum : (n : Numbers) (r : Reading) (m j : ℕ) (vs : List View) → ((id : ℕ) (v : View) → get_elem? vs id ≡ some v → Timely n r v) → m < r.interval → worth n.labels m j vs ≡ sum_at n.labels j (share_of m vs)
+worth_sum : (n : Numbers) (r : ReporterView) (m j : ℕ) (vs : List View) → ((id : ℕ) (v : View) → get_elem? vs id ≡ some v → Timely n r v) → m < r.interval → worth n.labels m j vs ≡ sum_at n.labels j (share_of m vs)
 worth_sum n r m j [] h lt = refl
 worth_sum n r m j (v ∷ vs) h lt = (λ i. combine (j % 6) (view_sum n r m j v (h 0 v refl) lt i) (worth_sum n r m j vs (λ id u e. h (suc id) u e) lt i)) ∙ sym (gather_append (j % 6) (adds n.labels 0 j) (view_share m v) (share_of m vs))
 
@@ -176,17 +176,17 @@ pub joined_small : (a m : ℕ) (js : List Joined) → AllTimely a js → AllSmal
 joined_small a m [] h = tt
 joined_small a m (x ∷ xs) h = small_append (entries_of m x.list) (joined_share m xs) (list_small m x.list h.0.2) (joined_small a m xs h.1)
 
-view_small : (n : Numbers) (r : Reading) (m : ℕ) (v : View) → Timely n r v → AllSmallEntries (view_share m v)
+view_small : (n : Numbers) (r : ReporterView) (m : ℕ) (v : View) → Timely n r v → AllSmallEntries (view_share m v)
 view_small n r m (Reporter q) h = joined_small _ m q.joined h
 view_small n r m (Writer w) h = list_small m w.list h.3
 view_small n r m Gone h = tt
 
-share_small : (n : Numbers) (r : Reading) (m : ℕ) (vs : List View) → ((id : ℕ) (v : View) → get_elem? vs id ≡ some v → Timely n r v) → AllSmallEntries (share_of m vs)
+share_small : (n : Numbers) (r : ReporterView) (m : ℕ) (vs : List View) → ((id : ℕ) (v : View) → get_elem? vs id ≡ some v → Timely n r v) → AllSmallEntries (share_of m vs)
 share_small n r m [] h = tt
 share_small n r m (v ∷ vs) h = small_append (view_share m v) (share_of m vs) (view_small n r m v (h 0 v refl)) (share_small n r m vs (λ id u e. h (suc id) u e))
 
 -- what all views contribute to an interval below the closing one is the sum of its share
-pub worth_share : (n : Numbers) (r : Reading) (m : ℕ) (vs : List View) → ((id : ℕ) (v : View) → get_elem? vs id ≡ some v → Timely n r v) → m < r.interval → worth_report n.labels m vs ≡ record { interval = m; rows = sum_of n.labels (share_of m vs) }
+pub worth_share : (n : Numbers) (r : ReporterView) (m : ℕ) (vs : List View) → ((id : ℕ) (v : View) → get_elem? vs id ≡ some v → Timely n r v) → m < r.interval → worth_report n.labels m vs ≡ record { interval = m; rows = sum_of n.labels (share_of m vs) }
 worth_share n r m vs timely lt = report_sums n.labels m (λ j. worth n.labels m j vs) (share_of m vs) (share_small n r m vs timely) (λ j low. worth_sum n r m j vs timely lt)
 
 -- Labels
@@ -303,7 +303,7 @@ report_bounds n report m es is labels small few = subst (λ (q : Report). IsInBo
 
 pub sums_of_lists : (n : Numbers) (ws : List ℕ) (vs : List View) (k : Sound n ws vs) → SumsOfLists n k.phased.reader
 sums_of_lists n ws vs k =
-    let r : Reading = k.phased.reader in
+    let r : ReporterView = k.phased.reader in
     let t = lists_total r.interval vs in let u = share_upto r.interval vs in let b = bound_exact n ws vs k.phased in let closed = k.counted.reports in
     let labels_in : (m : ℕ) → AllLabels n.labels (share_of m vs) = λ m. share_labels n k.phased.made m vs (λ id v e. (id, k.phased.each id v e)) in
     let sum_is : (m : ℕ) → m < length r.closed → get_or r.closed m no_report ≡ record { interval = m; rows = sum_of n.labels (share_of m vs) } = λ m lt. k.counted.sums_are m (omega arith) ∙ worth_share n r m vs k.counted.timely (omega arith) in
@@ -329,7 +329,7 @@ joined_few m [] = omega arith
 joined_few m (x ∷ xs) = let r = joined_few m xs in let t = list_few m x.list in let s = length-append (entries_of m x.list) (joined_share m xs) in omega arith
 
 -- what joined writers recorded in an interval sums to rows in bounds
-pub joined_low : (n : Numbers) (ws : List ℕ) (vs : List View) (k : Sound n ws vs) (id : ℕ) (r : Reading) → get_elem? vs id ≡ some (Reporter r) → (m : ℕ) → IsInBounds (sum_of n.labels (joined_share m r.joined))
+pub joined_low : (n : Numbers) (ws : List ℕ) (vs : List View) (k : Sound n ws vs) (id : ℕ) (r : ReporterView) → get_elem? vs id ≡ some (Reporter r) → (m : ℕ) → IsInBounds (sum_of n.labels (joined_share m r.joined))
 joined_low n ws vs k id r at m =
     let mine : Fits n k.phased.made id (Reporter r) = k.phased.each id (Reporter r) at in
     let few = joined_few m r.joined in

@@ -10,10 +10,10 @@ use Rattle.jm_base.specs.Totals.{one_if}
 use Rattle.phaser_core.specs.declared.view.Numbers.{Numbers}
 use Rattle.phaser_core.specs.declared.view.Stage.{Stage}
 use Rattle.phaser_core.specs.declared.view.Stage.TheVariants.{Out, In, On}
-use Rattle.phaser_core.specs.declared.view.Writing.{Writing}
-use Rattle.phaser_core.specs.declared.view.Closing.{Closing}
-use Rattle.phaser_core.specs.declared.view.Closing.TheVariants.{Idle, Swapped, Cleared, Waiting, Harvest}
-use Rattle.phaser_core.specs.declared.view.Reading.{Reading}
+use Rattle.phaser_core.specs.declared.view.WriterView.{WriterView}
+use Rattle.phaser_core.specs.declared.view.ReporterStage.{ReporterStage}
+use Rattle.phaser_core.specs.declared.view.ReporterStage.TheVariants.{Idle, Swapped, Cleared, Waiting, Harvest}
+use Rattle.phaser_core.specs.declared.view.ReporterView.{ReporterView}
 use Rattle.phaser_core.specs.declared.view.View.{View}
 use Rattle.phaser_core.specs.declared.view.View.TheVariants as view
 use Rattle.phaser_core.specs.declared.view.Event.{Event}
@@ -26,16 +26,16 @@ use Rattle.phaser_core.specs.declared.writer.WriterState.TheVariants.{Live, Gone
 use Rattle.phaser_core.specs.declared.applied.Applied.{Applied}
 use Rattle.phaser_core.specs.declared.applied.Applied.TheVariants.{Old}
 use Rattle.phaser_core.specs.Cells.{is_odd, end_at, place, folded, part, column, sums, table_cells, cell_at, vacant, report_of}
-use Rattle.phaser_core.specs.Moves.{Move, entering, loading, adding, leaving, swapping, clearing, flipping, looking, taking, raising_as_reporter, gathered_if, gathered, settled, stepped_words, taking_in}
+use Rattle.phaser_core.specs.CoreMoves.{Move, entering, loading, adding, leaving, swapping, clearing, flipping, looking, taking, raising_as_reporter, gathered_if, gathered, settled, stepped_words, taking_in}
 use Rattle.phaser_core.specs.Step.{CoreState, given, writer_move, reporter_move, move_at, moved, split_if, split_stage, split_at, join_stage, join_at}
 use Rattle.phaser_core.specs.Plain.{changed, cell_change, step_if, stage_step, writer_step, writer_after, writer_at, step_answer, words_after, writers_after, closing_step, closing_if, Parts, gathered_parts_if, gathered_parts, with_taken, with_closing, looked, look_result, look_parts, take_result, take_words, take_parts, split_if as pair_if, split_of, pair_result, pair_writers, is_idle, is_out, old_if, gone_if}
-use Rattle.phaser_core.specs.Shape.{Shape, kept_of, parts_of, ShowsViews, Shows, found_by, answer_of, Answered}
+use Rattle.phaser_core.specs.CoreShape.{Shape, kept_of, parts_of, ShowsViews, Shows, found_by, answer_of, Answered}
 
 -- the shape of a state
-abbrev pub shape_of : Numbers → List ℕ → Reading → List View → Shape
+abbrev pub shape_of : Numbers → List ℕ → ReporterView → List View → Shape
 shape_of n ws r os = record { numbers = n; words = ws; writers = map kept_of os; reporter = parts_of r }
 
-pub shape_is : (s : Shape) (r : Reading) (os : List View) → ShowsViews s r os → shape_of s.numbers s.words r os ≡ s
+pub shape_is : (s : Shape) (r : ReporterView) (os : List View) → ShowsViews s r os → shape_of s.numbers s.words r os ≡ s
 shape_is s r os h = λ i. record { numbers = s.numbers; words = s.words; writers = h.writers i; reporter = h.reporter i }
 
 -- Writers
@@ -59,7 +59,7 @@ folds_as (suc (suc (suc zero))) e x = refl
 folds_as (suc (suc (suc (suc zero)))) e x = refl
 folds_as (suc (suc (suc (suc (suc c))))) e x = refl
 
-module _ (n : Numbers) (w : Writing) where
+module _ (n : Numbers) (w : WriterView) where
   abbrev kept : Stage → WriterState
   kept g = Live w.number g (length w.list) w.made
 
@@ -97,7 +97,7 @@ kept_at (v ∷ vs) (suc i) = kept_at vs i
 
 -- an event of a writer moves no reporter
 abbrev Quiet : Event → Type 0
-Quiet e = (r : Reading) → reporter_move e r r.closing ≡ None
+Quiet e = (r : ReporterView) → reporter_move e r r.closing ≡ None
 
 found_matches : (n : Numbers) (e : Event) (o : maybe.Option View) → Quiet e → Matches e (kept_or o) (move_at n e o) (writer_step n e (kept_or o))
 found_matches n e none quiet = tt
@@ -115,7 +115,7 @@ map_snoc : (os : List View) (v : View) → map kept_of (os ++ v ∷ []) ≡ map 
 map_snoc [] v = refl
 map_snoc (o ∷ os) v = ap (λ (l : List WriterState). kept_of o ∷ l) (map_snoc os v)
 
-module _ (n : Numbers) (ws : List ℕ) (r : Reading) (os : List View) (named : r.labels ≡ n.labels) where
+module _ (n : Numbers) (ws : List ℕ) (r : ReporterView) (os : List View) (named : r.labels ≡ n.labels) where
   abbrev S : Shape
   S = shape_of n ws r os
 
@@ -152,7 +152,7 @@ module _ (n : Numbers) (ws : List ℕ) (r : Reading) (os : List View) (named : r
   after_reporter words p = record { numbers = n; words = words; writers = map kept_of os; reporter = p }
 
   -- a step of the reporter, from what its move does
-  reporter_moves : (e : Event) (m : Move) (q : Reading) (a : Applied) (words : List ℕ) (p : Parts) → m.after (get_or ws m.word 0) ≡ view.Reporter q → q.labels ≡ r.labels → parts_of q ≡ p → a ≡ answer_of e r.closing (get_or ws m.word 0) → words ≡ stepped_words ws m
+  reporter_moves : (e : Event) (m : Move) (q : ReporterView) (a : Applied) (words : List ℕ) (p : Parts) → m.after (get_or ws m.word 0) ≡ view.Reporter q → q.labels ≡ r.labels → parts_of q ≡ p → a ≡ answer_of e r.closing (get_or ws m.word 0) → words ≡ stepped_words ws m
       → Answered S e (found_by ws (Some m)) (moved ws (view.Reporter r ∷ os) 0 (Some m)) a (after_reporter words p)
   reporter_moves e m q a words p after labels parts answer is =
       (answer, refl, is, subst (λ (v : View). Shows (after_reporter words p) (v ∷ os)) (sym after) (record { labels = labels ∙ named; reporter = parts; writers = refl }))
@@ -164,28 +164,28 @@ module _ (n : Numbers) (ws : List ℕ) (r : Reading) (os : List View) (named : r
   swap_if true = reporter_moves event.SwapActive (swapping r) _ _ _ _ refl refl refl refl refl
   swap_if false = (refl, refl)
 
-  pub swap_answers : (c : Closing) → r.closing ≡ c → ClosingAnswers event.SwapActive (reporter_move event.SwapActive r c) (closing_step r.interval event.SwapActive c)
+  pub swap_answers : (c : ReporterStage) → r.closing ≡ c → ClosingAnswers event.SwapActive (reporter_move event.SwapActive r c) (closing_step r.interval event.SwapActive c)
   swap_answers Idle is = swap_if (ltb r.interval 16777216)
   swap_answers Swapped is = (refl, refl)
   swap_answers Cleared is = (refl, refl)
   swap_answers (Waiting want) is = (refl, refl)
   swap_answers (Harvest j) is = (refl, refl)
 
-  pub clear_answers : (c : Closing) → r.closing ≡ c → ClosingAnswers event.ClearEnd (reporter_move event.ClearEnd r c) (closing_step r.interval event.ClearEnd c)
+  pub clear_answers : (c : ReporterStage) → r.closing ≡ c → ClosingAnswers event.ClearEnd (reporter_move event.ClearEnd r c) (closing_step r.interval event.ClearEnd c)
   clear_answers Swapped is = reporter_moves event.ClearEnd (clearing r) _ _ _ _ refl refl refl refl refl
   clear_answers Idle is = (refl, refl)
   clear_answers Cleared is = (refl, refl)
   clear_answers (Waiting want) is = (refl, refl)
   clear_answers (Harvest j) is = (refl, refl)
 
-  pub flip_answers : (c : Closing) → r.closing ≡ c → ClosingAnswers event.Flip (reporter_move event.Flip r c) (closing_step r.interval event.Flip c)
+  pub flip_answers : (c : ReporterStage) → r.closing ≡ c → ClosingAnswers event.Flip (reporter_move event.Flip r c) (closing_step r.interval event.Flip c)
   flip_answers Cleared is = reporter_moves event.Flip (flipping r) _ _ _ _ refl refl refl refl refl
   flip_answers Idle is = (refl, refl)
   flip_answers Swapped is = (refl, refl)
   flip_answers (Waiting want) is = (refl, refl)
   flip_answers (Harvest j) is = (refl, refl)
 
-  pub stop_answers : (c : Closing) → r.closing ≡ c → ClosingAnswers event.ReporterStop (reporter_move event.ReporterStop r c) (closing_step r.interval event.ReporterStop c)
+  pub stop_answers : (c : ReporterStage) → r.closing ≡ c → ClosingAnswers event.ReporterStop (reporter_move event.ReporterStop r c) (closing_step r.interval event.ReporterStop c)
   stop_answers Idle is = reporter_moves event.ReporterStop (raising_as_reporter r) _ _ _ _ refl refl refl refl refl
   stop_answers Swapped is = (refl, refl)
   stop_answers Cleared is = (refl, refl)
@@ -216,15 +216,15 @@ module _ (n : Numbers) (ws : List ℕ) (r : Reading) (os : List View) (named : r
   abbrev looked_at : ℕ
   looked_at = get_or ws (end_at (is_odd r.interval)) 0
 
-  pub look_answers : (c : Closing) → r.closing ≡ c → Answered S event.Look (found_by ws (reporter_move event.Look r c)) (moved ws (view.Reporter r ∷ os) 0 (reporter_move event.Look r c)) (look_result c looked_at) (after_reporter ws (look_parts c looked_at n.labels (parts_of r)))
+  pub look_answers : (c : ReporterStage) → r.closing ≡ c → Answered S event.Look (found_by ws (reporter_move event.Look r c)) (moved ws (view.Reporter r ∷ os) 0 (reporter_move event.Look r c)) (look_result c looked_at) (after_reporter ws (look_parts c looked_at n.labels (parts_of r)))
   look_answers (Waiting want) is = reporter_moves event.Look (looking r want) (settled r (looked_at == want)) (look_result (Waiting want) looked_at) ws (looked (looked_at == want) n.labels (parts_of r))
-      refl (settled_labels (looked_at == want)) (settled_is (looked_at == want)) (ap (λ (c : Closing). answer_of event.Look c looked_at) (sym is)) (sym (set-get_or ws (end_at (is_odd r.interval)) 0))
+      refl (settled_labels (looked_at == want)) (settled_is (looked_at == want)) (ap (λ (c : ReporterStage). answer_of event.Look c looked_at) (sym is)) (sym (set-get_or ws (end_at (is_odd r.interval)) 0))
   look_answers Idle is = (refl, refl)
   look_answers Swapped is = (refl, refl)
   look_answers Cleared is = (refl, refl)
   look_answers (Harvest j) is = (refl, refl)
 
-  pub take_answers : (c : Closing) → r.closing ≡ c → Answered S event.Take (found_by ws (reporter_move event.Take r c)) (moved ws (view.Reporter r ∷ os) 0 (reporter_move event.Take r c)) (take_result c n.labels ws (parts_of r)) (after_reporter (take_words c n.labels ws (parts_of r)) (take_parts c n.labels ws (parts_of r)))
+  pub take_answers : (c : ReporterStage) → r.closing ≡ c → Answered S event.Take (found_by ws (reporter_move event.Take r c)) (moved ws (view.Reporter r ∷ os) 0 (reporter_move event.Take r c)) (take_result c n.labels ws (parts_of r)) (after_reporter (take_words c n.labels ws (parts_of r)) (take_parts c n.labels ws (parts_of r)))
   take_answers (Harvest j) is =
       let at : (labels : ℕ) → ℕ = λ labels. get_or ws (cell_at labels r.interval j) 0 in
       reporter_moves event.Take (taking r j) (gathered r (r.cells ++ at r.labels ∷ []) (j + 1)) (Old (at n.labels)) (set ws (cell_at n.labels r.interval j) (vacant (j % 6))) (gathered_parts n.labels (j + 1) (with_taken (parts_of r) (r.cells ++ at n.labels ∷ [])))
@@ -241,7 +241,7 @@ module _ (n : Numbers) (ws : List ℕ) (r : Reading) (os : List View) (named : r
   abbrev after_writers : List WriterState → Shape
   after_writers wr = record { numbers = n; words = ws; writers = wr; reporter = parts_of r }
 
-  split_answer_if : (b : Bool) (w : Writing) (rest : List View) → w.stage ≡ Out → let st : Option (WriterState × WriterState) = pair_if b w.number (length w.list) w.made in
+  split_answer_if : (b : Bool) (w : WriterView) (rest : List View) → w.stage ≡ Out → let st : Option (WriterState × WriterState) = pair_if b w.number (length w.list) w.made in
       Answered (shape_of n ws r (view.Writer w ∷ rest)) event.Split (get_or ws 0 0) (split_if b ws (view.Reporter r ∷ view.Writer w ∷ rest) (view.Writer w)) (pair_result st ws) (record { numbers = n; words = ws; writers = pair_writers st (kept_of (view.Writer w) ∷ map kept_of rest); reporter = parts_of r })
   split_answer_if true w rest out = (
     refl,
@@ -255,31 +255,31 @@ module _ (n : Numbers) (ws : List ℕ) (r : Reading) (os : List View) (named : r
   )
   split_answer_if false w rest out = (refl, refl)
 
-  split_stage_answer : (w : Writing) (rest : List View) (g : Stage) → w.stage ≡ g → let st : Option (WriterState × WriterState) = split_of n (Live w.number g (length w.list) w.made) in
+  split_stage_answer : (w : WriterView) (rest : List View) (g : Stage) → w.stage ≡ g → let st : Option (WriterState × WriterState) = split_of n (Live w.number g (length w.list) w.made) in
       Answered (shape_of n ws r (view.Writer w ∷ rest)) event.Split (get_or ws 0 0) (split_stage n ws (view.Reporter r ∷ view.Writer w ∷ rest) w g) (pair_result st ws) (record { numbers = n; words = ws; writers = pair_writers st (kept_of (view.Writer w) ∷ map kept_of rest); reporter = parts_of r })
   split_stage_answer w rest Out is = split_answer_if (ltb w.made n.writers) w rest is
   split_stage_answer w rest (In p) is = (refl, refl)
   split_stage_answer w rest (On p m e d) is = (refl, refl)
 
 -- a further writer
-pub split_answers : (n : Numbers) (ws : List ℕ) (r : Reading) (os : List View) → r.labels ≡ n.labels → let st : Option (WriterState × WriterState) = split_of n (writer_at (map kept_of os) 0) in
+pub split_answers : (n : Numbers) (ws : List ℕ) (r : ReporterView) (os : List View) → r.labels ≡ n.labels → let st : Option (WriterState × WriterState) = split_of n (writer_at (map kept_of os) 0) in
     Answered (shape_of n ws r os) event.Split (get_or ws 0 0) (split_at n ws (view.Reporter r ∷ os) (get_elem? (view.Reporter r ∷ os) 1)) (pair_result st ws) (record { numbers = n; words = ws; writers = pair_writers st (map kept_of os); reporter = parts_of r })
 split_answers n ws r [] named = (refl, refl)
 split_answers n ws r (view.Writer w ∷ rest) named = split_stage_answer n ws r [] named w rest w.stage refl
 split_answers n ws r (view.Reporter q ∷ rest) named = (refl, refl)
 split_answers n ws r (view.Gone ∷ rest) named = (refl, refl)
 
-module _ (n : Numbers) (ws : List ℕ) (r : Reading) (os : List View) (named : r.labels ≡ n.labels) (i : ℕ) where
+module _ (n : Numbers) (ws : List ℕ) (r : ReporterView) (os : List View) (named : r.labels ≡ n.labels) (i : ℕ) where
   abbrev J : Bool → Applied × Shape
   J b = (old_if b ws, record { numbers = n; words = ws; writers = gone_if b i (map kept_of os); reporter = parts_of r })
 
   abbrev JoinAnswered : Option CoreState → Bool → Type 0
   JoinAnswered o b = Answered (shape_of n ws r os) (event.Join i) (get_or ws 0 0) o (J b).0 (J b).1
 
-  join_now : (w : Writing) → JoinAnswered (join_stage ws (view.Reporter r ∷ os) (i + 1) r Idle w Out) true
+  join_now : (w : WriterView) → JoinAnswered (join_stage ws (view.Reporter r ∷ os) (i + 1) r Idle w Out) true
   join_now w = (refl, refl, refl, subst (Shows (J true).1) (sym (set_next (view.Reporter (taking_in r w)) os i view.Gone)) (record { labels = named; reporter = refl; writers = map-set kept_of os i view.Gone }))
 
-  join_stage_answer : (c : Closing) (w : Writing) (g : Stage) → JoinAnswered (join_stage ws (view.Reporter r ∷ os) (i + 1) r c w g) (is_idle c && is_out (Live w.number g (length w.list) w.made))
+  join_stage_answer : (c : ReporterStage) (w : WriterView) (g : Stage) → JoinAnswered (join_stage ws (view.Reporter r ∷ os) (i + 1) r c w g) (is_idle c && is_out (Live w.number g (length w.list) w.made))
   join_stage_answer Idle w Out = join_now w
   join_stage_answer Idle w (In p) = (refl, refl)
   join_stage_answer Idle w (On p m e d) = (refl, refl)
@@ -288,7 +288,7 @@ module _ (n : Numbers) (ws : List ℕ) (r : Reading) (os : List View) (named : r
   join_stage_answer (Waiting want) w g = (refl, refl)
   join_stage_answer (Harvest j) w g = (refl, refl)
 
-  not_out : (c : Closing) → (is_idle c && is_out Gone) ≡ false
+  not_out : (c : ReporterStage) → (is_idle c && is_out Gone) ≡ false
   not_out Idle = refl
   not_out Swapped = refl
   not_out Cleared = refl

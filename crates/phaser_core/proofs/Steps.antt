@@ -6,15 +6,15 @@ use Rattle.jm_base.specs.declared.types.Entry.{Entry}
 use Rattle.interval_tables.specs.Rows.{sum_of, IsInBounds}
 use Rattle.phaser_core.specs.declared.view.Numbers.{Numbers}
 use Rattle.phaser_core.specs.declared.view.Stage.TheVariants.{Out, In, On}
-use Rattle.phaser_core.specs.declared.view.Writing.{Writing}
-use Rattle.phaser_core.specs.declared.view.Closing.TheVariants.{Idle, Swapped, Cleared, Waiting, Harvest}
-use Rattle.phaser_core.specs.declared.view.Reading.{Reading}
+use Rattle.phaser_core.specs.declared.view.WriterView.{WriterView}
+use Rattle.phaser_core.specs.declared.view.ReporterStage.TheVariants.{Idle, Swapped, Cleared, Waiting, Harvest}
+use Rattle.phaser_core.specs.declared.view.ReporterView.{ReporterView}
 use Rattle.phaser_core.specs.declared.view.View.{View}
 use Rattle.phaser_core.specs.declared.view.View.TheVariants.{Reporter, Writer, Gone}
 use Rattle.phaser_core.specs.Cells.{is_odd, end_at, sums, table_cells}
 use Rattle.phaser_core.specs.Views.{IsSized, writer_zero, first_reading, ready_reading, AllJoined, active}
 use Rattle.phaser_core.specs.Shares.{AllUpTo, SumsOfLists, joined_share}
-use Rattle.phaser_core.specs.Moves.{entering, loading, adding, leaving, swapping, clearing, flipping, looking, taking, looking_stop, raising_stop, raising_as_reporter, splitting, split_off, joining, first_words}
+use Rattle.phaser_core.specs.CoreMoves.{entering, loading, adding, leaving, swapping, clearing, flipping, looking, taking, looking_stop, raising_stop, raising_as_reporter, splitting, split_off, joining, first_words}
 use Rattle.phaser_core.specs.Invariant.{RecorderInvariant, Keeps, InTable}
 use Rattle.phaser_core.proofs.Halves.{AllTimely}
 use Rattle.phaser_core.proofs.PhaseSteps.{is_reader, at_front}
@@ -25,7 +25,7 @@ use Rattle.phaser_core.proofs.Whole.{whole, halves, timely}
 
 -- Steps of a writer
 
-module _ (n : Numbers) (ws : List ℕ) (vs : List View) (k : RecorderInvariant n ws vs) (id : ℕ) (w : Writing) (at : get_elem? vs id ≡ some (Writer w)) where
+module _ (n : Numbers) (ws : List ℕ) (vs : List View) (k : RecorderInvariant n ws vs) (id : ℕ) (w : WriterView) (at : get_elem? vs id ≡ some (Writer w)) where
   pub enter_keeps : w.stage ≡ Out → length w.list < n.budget → Keeps n ws vs id (entering w)
   enter_keeps out room = whole n _ _ (enter_sound n ws vs (halves n ws vs k) id w at out room)
 
@@ -57,7 +57,7 @@ module _ (n : Numbers) (ws : List ℕ) (vs : List View) (k : RecorderInvariant n
 
 -- Steps of the reporter
 
-module _ (n : Numbers) (ws : List ℕ) (vs : List View) (k : RecorderInvariant n ws vs) (id : ℕ) (r : Reading) (at : get_elem? vs id ≡ some (Reporter r)) where
+module _ (n : Numbers) (ws : List ℕ) (vs : List View) (k : RecorderInvariant n ws vs) (id : ℕ) (r : ReporterView) (at : get_elem? vs id ≡ some (Reporter r)) where
   pub reporter_port : id ≡ 0
   reporter_port = at_front n ws vs (halves n ws vs k).phased id r at
 
@@ -65,7 +65,7 @@ module _ (n : Numbers) (ws : List ℕ) (vs : List View) (k : RecorderInvariant n
   reader_is = is_reader n ws vs (halves n ws vs k).phased id r at
 
   pub labels_are : r.labels ≡ n.labels
-  labels_are = subst (λ (q : Reading). q.labels ≡ n.labels) reader_is k.accounts.labels
+  labels_are = subst (λ (q : ReporterView). q.labels ≡ n.labels) reader_is k.accounts.labels
 
   pub swap_keeps : r.closing ≡ Idle → r.interval < 16777216 → Keeps n ws vs id (swapping r)
   swap_keeps idle few = whole n _ _ (swap_sound n ws vs (halves n ws vs k) id r at idle few)
@@ -89,12 +89,12 @@ module _ (n : Numbers) (ws : List ℕ) (vs : List View) (k : RecorderInvariant n
   pub split_first_keeps : r.ready ≡ false → RecorderInvariant n ws (set vs id (splitting (Reporter r)) ++ split_off (Reporter r) ∷ [])
   split_first_keeps fresh = whole n _ _ (split_first_sound n ws vs (halves n ws vs k) id r at fresh)
 
-  pub join_keeps : (port : ℕ) (w : Writing) → (port ≡ id → ⊥) → get_elem? (set vs id (joining (Reporter r) (Writer w))) port ≡ some (Writer w) → w.stage ≡ Out → RecorderInvariant n ws (set (set vs id (joining (Reporter r) (Writer w))) port Gone)
+  pub join_keeps : (port : ℕ) (w : WriterView) → (port ≡ id → ⊥) → get_elem? (set vs id (joining (Reporter r) (Writer w))) port ≡ some (Writer w) → w.stage ≡ Out → RecorderInvariant n ws (set (set vs id (joining (Reporter r) (Writer w))) port Gone)
   join_keeps port w apart there out = whole n _ _ (join_sound n ws vs (halves n ws vs k) id r port w at apart there out)
 
   -- while cells are taken, there is one to take
   pub take_knows : (j : ℕ) → r.closing ≡ Harvest j → j < table_cells n.labels
-  take_knows j harvest = subst (InTable (table_cells n.labels)) (ap (λ (q : Reading). q.closing) reader_is ∙ harvest) k.cells.in_table
+  take_knows j harvest = subst (InTable (table_cells n.labels)) (ap (λ (q : ReporterView). q.closing) reader_is ∙ harvest) k.cells.in_table
 
   -- the end word that is looked at is at most what is waited for, and is that where every writer is joined
   pub look_finds : (want : ℕ) → r.closing ≡ Waiting want → (get_or ws (end_at (is_odd r.interval)) 0 ≤ want) × (AllJoined r → get_or ws (end_at (is_odd r.interval)) 0 ≡ want)
@@ -109,7 +109,7 @@ module _ (n : Numbers) (ws : List ℕ) (vs : List View) (k : RecorderInvariant n
   joined_bounds m = joined_low n ws vs (halves n ws vs k) id r at m
 
   pub joined_in_time : AllTimely (active r) r.joined
-  joined_in_time = subst (λ (q : Reading). AllTimely (active q) r.joined) reader_is (timely n ws vs k id (Reporter r) at)
+  joined_in_time = subst (λ (q : ReporterView). AllTimely (active q) r.joined) reader_is (timely n ws vs k id (Reporter r) at)
 
   -- where every writer is joined there is no other view
   pub others_gone : AllJoined r → (port : ℕ) (v : View) → port ≢ 0 → get_elem? vs port ≡ some v → v ≡ Gone

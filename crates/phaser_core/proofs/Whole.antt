@@ -8,9 +8,9 @@ use Rattle.phaser_core.specs.declared.view.Numbers.{Numbers}
 use Rattle.phaser_core.specs.declared.view.Stage.{Stage}
 use Rattle.phaser_core.specs.declared.view.Stage.TheVariants.{Out, In, On}
 use Rattle.phaser_core.specs.declared.view.Joined.{Joined}
-use Rattle.phaser_core.specs.declared.view.Closing.{Closing}
-use Rattle.phaser_core.specs.declared.view.Closing.TheVariants.{Idle, Swapped, Cleared, Waiting, Harvest}
-use Rattle.phaser_core.specs.declared.view.Reading.{Reading}
+use Rattle.phaser_core.specs.declared.view.ReporterStage.{ReporterStage}
+use Rattle.phaser_core.specs.declared.view.ReporterStage.TheVariants.{Idle, Swapped, Cleared, Waiting, Harvest}
+use Rattle.phaser_core.specs.declared.view.ReporterView.{ReporterView}
 use Rattle.phaser_core.specs.declared.view.View.{View}
 use Rattle.phaser_core.specs.declared.view.View.TheVariants.{Reporter, Writer, Gone}
 use Rattle.phaser_core.specs.Cells.{cell_at}
@@ -22,7 +22,7 @@ use Rattle.phaser_core.proofs.Sharing.{worth_share}
 
 -- A view in time
 
-stage_timely : (n : Numbers) (r : Reading) (l : List Pair) (s : Stage) → StageCounts r s → StageRises l s → StageLow n.labels s → TimelyStage n r l s
+stage_timely : (n : Numbers) (r : ReporterView) (l : List Pair) (s : Stage) → StageCounts r s → StageRises l s → StageLow n.labels s → TimelyStage n r l s
 stage_timely n r l Out a b c = tt
 stage_timely n r l (In p) a b c = tt
 stage_timely n r l (On p m e d) a b c = (a, b, c.0, c.1, c.2, c.3)
@@ -31,12 +31,12 @@ joined_timely : (a : ℕ) (js : List Joined) → AllRise a js → AllLow js → 
 joined_timely a [] h k = tt
 joined_timely a (j ∷ js) h k = ((h.0.0, h.0.1, k.0), joined_timely a js h.1 k.1)
 
-view_timely : (n : Numbers) (r : Reading) (v : View) → ViewCounts r v → ViewRises r v → ViewLow n.labels v → Timely n r v
+view_timely : (n : Numbers) (r : ReporterView) (v : View) → ViewCounts r v → ViewRises r v → ViewLow n.labels v → Timely n r v
 view_timely n r (Reporter q) a b c = joined_timely (active r) q.joined b c
 view_timely n r (Writer w) a b c = (stage_timely n r w.list w.stage a b.0 c.0, b.1, b.2, c.1)
 view_timely n r Gone a b c = tt
 
-stage_counts : (n : Numbers) (r : Reading) (l : List Pair) (s : Stage) → TimelyStage n r l s → StageCounts r s × StageRises l s × StageLow n.labels s
+stage_counts : (n : Numbers) (r : ReporterView) (l : List Pair) (s : Stage) → TimelyStage n r l s → StageCounts r s × StageRises l s × StageLow n.labels s
 stage_counts n r l Out h = (tt, tt, tt)
 stage_counts n r l (In p) h = (tt, tt, tt)
 stage_counts n r l (On p m e d) h = (h.0, h.1, (h.2, h.3, h.4, h.5))
@@ -45,14 +45,14 @@ joined_rise : (a : ℕ) (js : List Joined) → AllTimely a js → AllRise a js �
 joined_rise a [] h = (tt, tt)
 joined_rise a (j ∷ js) h = let r = joined_rise a js h.1 in (((h.0.0, h.0.1), r.0), (h.0.2, r.1))
 
-view_counts : (n : Numbers) (r : Reading) (v : View) → Timely n r v → ViewCounts r v × ViewRises r v × ViewLow n.labels v
+view_counts : (n : Numbers) (r : ReporterView) (v : View) → Timely n r v → ViewCounts r v × ViewRises r v × ViewLow n.labels v
 view_counts n r (Reporter q) h = let j = joined_rise (active r) q.joined h in (tt, j.0, j.1)
 view_counts n r (Writer w) h = let s = stage_counts n r w.list w.stage h.0 in (s.0, (s.1, h.1, h.2), (s.2, h.3))
 view_counts n r Gone h = (tt, tt, tt)
 
 -- The live intervals
 
-live_low : (c : Closing) (k i : ℕ) → LiveFrom c k i → (k ≤ i) × (i ≤ k + 1)
+live_low : (c : ReporterStage) (k i : ℕ) → LiveFrom c k i → (k ≤ i) × (i ≤ k + 1)
 live_low Idle k i h = (omega arith, omega arith)
 live_low Swapped k i h = h
 live_low Cleared k i h = h
@@ -60,7 +60,7 @@ live_low (Waiting want) k i h = h
 live_low (Harvest j) k i h = h
 
 -- in Idle the next interval is not live yet
-pub live_from : (c : Closing) (k i : ℕ) → (k ≤ i) × (i ≤ k + 1) → LiveFrom c k i ⊎ ((c ≡ Idle) × (i ≡ k + 1))
+pub live_from : (c : ReporterStage) (k i : ℕ) → (k ≤ i) × (i ≤ k + 1) → LiveFrom c k i ⊎ ((c ≡ Idle) × (i ≡ k + 1))
 live_from Idle k i h = let a = h.0 in let b = h.1 in dite (ℕ_discrete i k) (λ e. inl e) (λ ne. inr (refl, omega arith))
 live_from Swapped k i h = inl h
 live_from Cleared k i h = inl h
@@ -73,10 +73,10 @@ next_above k i p z e = omega arith
 module _ (n : Numbers) (ws : List ℕ) (vs : List View) where
   pub whole : Sound n ws vs → RecorderInvariant n ws vs
   whole k =
-      let p = k.phased in let c = k.counted in let r : Reading = p.reader in
+      let p = k.phased in let c = k.counted in let r : ReporterView = p.reader in
       record {
         reader = r;
-        reporter = p.front;
+        reporter = p.prefix;
         active_word = c.now_active;
         start_parity = p.parity;
         inside_now = p.now;
@@ -116,14 +116,14 @@ module _ (n : Numbers) (ws : List ℕ) (vs : List View) where
 
   abbrev pub halves : RecorderInvariant n ws vs → Sound n ws vs
   halves k =
-      let r : Reading = k.reader in let a = k.accounts in
+      let r : ReporterView = k.reader in let a = k.accounts in
       record {
         phased = record {
           wide = a.wide;
           sizes = a.sizes;
           reader = r;
           labels = a.labels;
-          front = k.reporter;
+          prefix = k.reporter;
           made = a.made;
           ports = a.ports;
           few = a.few;

@@ -8,19 +8,19 @@ use Rattle.phaser_core.specs.declared.view.Numbers.{Numbers}
 use Rattle.phaser_core.specs.declared.view.Stage.{Stage}
 use Rattle.phaser_core.specs.declared.view.Stage.TheVariants.{Out, In, On}
 use Rattle.phaser_core.specs.declared.view.Joined.{Joined}
-use Rattle.phaser_core.specs.declared.view.Closing.{Closing}
-use Rattle.phaser_core.specs.declared.view.Closing.TheVariants.{Idle, Swapped, Cleared, Waiting, Harvest}
-use Rattle.phaser_core.specs.declared.view.Reading.{Reading}
+use Rattle.phaser_core.specs.declared.view.ReporterStage.{ReporterStage}
+use Rattle.phaser_core.specs.declared.view.ReporterStage.TheVariants.{Idle, Swapped, Cleared, Waiting, Harvest}
+use Rattle.phaser_core.specs.declared.view.ReporterView.{ReporterView}
 use Rattle.phaser_core.specs.declared.view.View.{View}
 use Rattle.phaser_core.specs.declared.view.View.TheVariants.{Reporter, Writer, Gone}
 use Rattle.phaser_core.specs.Cells.{end_at, initial, phase, vacant, sums, table_cells, word_count, cell_at, no_report}
 use Rattle.phaser_core.specs.Views.{Pair, IsSized, inside, busy, uses, holders, heads, pending, current, other, active, taken_count, worth}
 use Rattle.phaser_core.specs.Shares.{share_of, AllUpTo, Rising, AllInRange}
-use Rattle.phaser_core.specs.Moves.{stepped_words, stepped_views, Move}
+use Rattle.phaser_core.specs.CoreMoves.{stepped_words, stepped_views, Move}
 
 -- Who is inside with the other parity: x is the number of them, e its end word, i what that begins with, t how many entries there are.
 -- None, but while the reporter waits: then `want` less the end word of them.
-abbrev pub InsideBefore : Closing → ℕ → ℕ → ℕ → ℕ → Type 0
+abbrev pub InsideBefore : ReporterStage → ℕ → ℕ → ℕ → ℕ → Type 0
 InsideBefore Idle x e i t = x ≡ 0
 InsideBefore Swapped x e i t = x ≡ 0
 InsideBefore Cleared x e i t = (x ≡ 0) × (e ≡ i)
@@ -28,25 +28,25 @@ InsideBefore (Waiting want) x e i t = (x + e ≡ want) × (want ≤ i + t)
 InsideBefore (Harvest j) x e i t = x ≡ 0
 
 -- The interval m of a writer inside with the parity p, where k is the interval that closes and c the current parity.
-abbrev pub MayCount : Closing → ℕ → Bool → Bool → ℕ → Type 0
+abbrev pub MayCount : ReporterStage → ℕ → Bool → Bool → ℕ → Type 0
 MayCount Idle k c p m = m ≡ k
 MayCount Swapped k c p m = (k ≤ m) × (m ≤ k + 1)
 MayCount Cleared k c p m = (k ≤ m) × (m ≤ k + 1)
 MayCount (Waiting want) k c p m = (k ≤ m) × (m ≤ k + 1) × (p ≡ c → m ≡ k + 1)
 MayCount (Harvest j) k c p m = m ≡ k + 1
 
-abbrev pub StageCounts : Reading → Stage → Type 0
+abbrev pub StageCounts : ReporterView → Stage → Type 0
 StageCounts r Out = Unit {0}
 StageCounts r (In p) = Unit {0}
 StageCounts r (On p m e d) = MayCount r.closing r.interval (current r) p m
 
-abbrev pub ViewCounts : Reading → View → Type 0
+abbrev pub ViewCounts : ReporterView → View → Type 0
 ViewCounts r (Reporter q) = Unit {0}
 ViewCounts r (Writer w) = StageCounts r w.stage
 ViewCounts r Gone = Unit {0}
 
 -- The live intervals: one in Idle, two while one is being closed.
-abbrev pub LiveFrom : Closing → ℕ → ℕ → Type 0
+abbrev pub LiveFrom : ReporterStage → ℕ → ℕ → Type 0
 LiveFrom Idle k i = i ≡ k
 LiveFrom Swapped k i = (k ≤ i) × (i ≤ k + 1)
 LiveFrom Cleared k i = (k ≤ i) × (i ≤ k + 1)
@@ -54,7 +54,7 @@ LiveFrom (Waiting want) k i = (k ≤ i) × (i ≤ k + 1)
 LiveFrom (Harvest j) k i = (k ≤ i) × (i ≤ k + 1)
 
 -- while cells are taken, there is one to take
-abbrev pub InTable : ℕ → Closing → Type 0
+abbrev pub InTable : ℕ → ReporterStage → Type 0
 InTable cells Idle = Unit {0}
 InTable cells Swapped = Unit {0}
 InTable cells Cleared = Unit {0}
@@ -63,7 +63,7 @@ InTable cells (Harvest j) = j < cells
 
 -- Each cell of a live interval is its initial value folded with exactly the contributions of that interval.
 -- In Idle the other table is at its initial values. While cells are taken, those taken are at their initial values again, and the reporter holds what they were.
-pub record HoldsCells (labels : ℕ) (words : List ℕ) (views : List View) (r : Reading) : Type 0 where
+pub record HoldsCells (labels : ℕ) (words : List ℕ) (views : List View) (r : ReporterView) : Type 0 where
   pub live : (i j : ℕ) → LiveFrom r.closing r.interval i → j < table_cells labels → (i ≡ r.interval → length r.cells ≤ j) → slice_index words (cell_at labels i j) ≡ worth labels i j views
   pub vacant_table : r.closing ≡ Idle → (j : ℕ) → j < table_cells labels → slice_index words (cell_at labels (r.interval + 1) j) ≡ vacant (j % 6)
   pub count : length r.cells ≡ taken_count r.closing
@@ -72,7 +72,7 @@ pub record HoldsCells (labels : ℕ) (words : List ℕ) (views : List View) (r :
   pub taken : (j : ℕ) → j < length r.cells → slice_index r.cells j ≡ worth labels r.interval j views
 
 -- Report m is that of interval m, and sums exactly the entries with that interval.
-pub record ClosesShares (labels : ℕ) (views : List View) (r : Reading) : Type 0 where
+pub record ClosesShares (labels : ℕ) (views : List View) (r : ReporterView) : Type 0 where
   pub count : length r.closed ≡ r.interval
   pub each : (m : ℕ) → m < r.interval → slice_index_or r.closed m no_report ≡ record { interval = m; rows = sum_of labels (share_of m views) }
 
@@ -86,7 +86,7 @@ abbrev pub AllRise : ℕ → List Joined → Type 0
 AllRise a [] = Unit {0}
 AllRise a (j ∷ js) = (Rising j.list × AllUpTo a j.list) × AllRise a js
 
-abbrev pub ViewRises : Reading → View → Type 0
+abbrev pub ViewRises : ReporterView → View → Type 0
 ViewRises r (Reporter q) = AllRise (active r) q.joined
 ViewRises r (Writer w) = StageRises w.list w.stage × Rising w.list × AllUpTo (active r) w.list
 ViewRises r Gone = Unit {0}
@@ -140,7 +140,7 @@ ViewLow labels (Writer w) = StageLow labels w.stage × AllSmall w.list
 ViewLow labels Gone = Unit {0}
 
 -- The numbers made are 0 to made - 1, each in exactly one live view or one joined list; no word comes near its end.
-pub record KeepsAccounts (n : Numbers) (words : List ℕ) (views : List View) (r : Reading) : Type 0 where
+pub record KeepsAccounts (n : Numbers) (words : List ℕ) (views : List View) (r : ReporterView) : Type 0 where
   pub wide : length words ≡ word_count n.labels
   pub sizes : IsSized n
   pub labels : r.labels ≡ n.labels
@@ -157,7 +157,7 @@ pub record KeepsAccounts (n : Numbers) (words : List ℕ) (views : List View) (r
 
 -- The recorder invariant. k, the reporter's interval, is the number of closed reports.
 pub record RecorderInvariant (n : Numbers) (words : List ℕ) (views : List View) : Type 0 where
-  pub reader : Reading
+  pub reader : ReporterView
   pub reporter : get_elem? views 0 ≡ some (Reporter reader)
   -- k in Idle, else k + 1
   pub active_word : slice_index words 0 ≡ active reader

@@ -1,8 +1,8 @@
 pub mod Cells
 pub mod Views
-pub mod Moves
+pub mod CoreMoves
 pub mod Shares
 pub mod Invariant
 pub mod Step
 pub mod Plain
-pub mod Shape
+pub mod CoreShape

@@ -13,8 +13,8 @@ use Rattle.phaser_core.specs.declared.step.Change.TheVariants.{Load, Add, Least,
 use Rattle.phaser_core.specs.declared.step.Step.{Step}
 use Rattle.phaser_core.specs.declared.writer.WriterState.{WriterState}
 use Rattle.phaser_core.specs.declared.writer.WriterState.TheVariants.{Live, Gone}
-use Rattle.phaser_core.specs.declared.view.Closing.{Closing}
-use Rattle.phaser_core.specs.declared.view.Closing.TheVariants.{Idle, Swapped, Cleared, Waiting, Harvest}
+use Rattle.phaser_core.specs.declared.view.ReporterStage.{ReporterStage}
+use Rattle.phaser_core.specs.declared.view.ReporterStage.TheVariants.{Idle, Swapped, Cleared, Waiting, Harvest}
 use Rattle.phaser_core.specs.declared.applied.Applied.{Applied}
 use Rattle.phaser_core.specs.declared.applied.Applied.TheVariants.{Old, Settled, NotYet, NotEnabled}
 use Rattle.phaser_core.specs.Cells.{is_odd, end_at, initial, phase, place, sums, column, table_cells, cell_at, vacant, word_count, report_of}
@@ -138,27 +138,27 @@ writers_after None e i words ws = ws
 writers_after (Some s) e i words ws = slice_set ws i (writer_after e (slice_index words s.word) (writer_at ws i))
 
 -- the reporter's steps but for Look and Take
-abbrev pub closing_step : ℕ → Event → Closing → Option Step
+abbrev pub closing_step : ℕ → Event → ReporterStage → Option Step
 closing_step interval event.SwapActive Idle = step_if (nat_lt interval 16777216) 0 (Swap (interval + 1))
 closing_step interval event.ReporterStop Idle = step_if true 4 (Swap 1)
 closing_step interval event.ClearEnd Swapped = step_if true (end_at (is_odd (interval + 1))) (Swap (initial (is_odd (interval + 1))))
 closing_step interval event.Flip Cleared = step_if true 1 (Swap (initial (is_odd (interval + 1))))
 closing_step interval _ _ = None
 
-abbrev pub closing_after : Event → ℕ → Closing → Closing
+abbrev pub closing_after : Event → ℕ → ReporterStage → ReporterStage
 closing_after event.SwapActive found c = Swapped
 closing_after event.ClearEnd found c = Cleared
 closing_after event.Flip found c = Waiting found
 closing_after _ found c = c
 
-abbrev pub closing_if : Option Step → Event → List ℕ → Closing → Closing
+abbrev pub closing_if : Option Step → Event → List ℕ → ReporterStage → ReporterStage
 closing_if None e words c = c
 closing_if (Some s) e words c = closing_after e (slice_index words s.word) c
 
 -- The reporter's part: the interval that is being closed or that is active, how far it is, the cells taken, the closed reports.
 pub record Parts : Type 0 where
   pub interval : ℕ
-  pub closing : Closing
+  pub closing : ReporterStage
   pub taken : List ℕ
   pub closed : List Report
 
@@ -183,28 +183,28 @@ abbrev pub look_answer : Bool → ℕ → ℕ → Applied
 look_answer true found want = Settled
 look_answer false found want = NotYet found want
 
-abbrev pub look_result : Closing → ℕ → Applied
+abbrev pub look_result : ReporterStage → ℕ → Applied
 look_result (Waiting want) found = look_answer (found == want) found want
 look_result _ found = NotEnabled
 
-abbrev pub look_parts : Closing → ℕ → ℕ → Parts → Parts
+abbrev pub look_parts : ReporterStage → ℕ → ℕ → Parts → Parts
 look_parts (Waiting want) found labels p = looked (found == want) labels p
 look_parts _ found labels p = p
 
-abbrev pub take_result : Closing → ℕ → List ℕ → Parts → Applied
+abbrev pub take_result : ReporterStage → ℕ → List ℕ → Parts → Applied
 take_result (Harvest j) labels words p = Old (slice_index words (cell_at labels p.interval j))
 take_result _ labels words p = NotEnabled
 
-abbrev pub take_words : Closing → ℕ → List ℕ → Parts → List ℕ
+abbrev pub take_words : ReporterStage → ℕ → List ℕ → Parts → List ℕ
 take_words (Harvest j) labels words p = slice_set words (cell_at labels p.interval j) (vacant (j % 6))
 take_words _ labels words p = words
 
-abbrev pub take_parts : Closing → ℕ → List ℕ → Parts → Parts
+abbrev pub take_parts : ReporterStage → ℕ → List ℕ → Parts → Parts
 take_parts (Harvest j) labels words p = gathered_parts labels (j + 1) (with_taken p (p.taken ++ slice_index words (cell_at labels p.interval j) ∷ []))
 take_parts _ labels words p = p
 
 -- the part after a step of its own on another word
-abbrev pub with_closing : Parts → Closing → Parts
+abbrev pub with_closing : Parts → ReporterStage → Parts
 with_closing p c = record { interval = p.interval; closing = c; taken = p.taken; closed = p.closed }
 
 -- The numbers of the part are in their ranges.
@@ -246,7 +246,7 @@ abbrev pub split_writers : Numbers → WriterState → List WriterState → List
 split_writers n w ws = pair_writers (split_of n w) ws
 
 -- a writer that is out is joined by an idle reporter
-abbrev pub is_idle : Closing → Bool
+abbrev pub is_idle : ReporterStage → Bool
 is_idle Idle = true
 is_idle Swapped = false
 is_idle Cleared = false
@@ -267,11 +267,11 @@ abbrev pub gone_if : Bool → ℕ → List WriterState → List WriterState
 gone_if true i ws = slice_set ws i Gone
 gone_if false i ws = ws
 
-abbrev pub can_join : Closing → WriterState → Bool
+abbrev pub can_join : ReporterStage → WriterState → Bool
 can_join c w = is_idle c && is_out w
 
-abbrev pub join_result : Closing → WriterState → List ℕ → Applied
+abbrev pub join_result : ReporterStage → WriterState → List ℕ → Applied
 join_result c w words = old_if (can_join c w) words
 
-abbrev pub join_writers : Closing → WriterState → ℕ → List WriterState → List WriterState
+abbrev pub join_writers : ReporterStage → WriterState → ℕ → List WriterState → List WriterState
 join_writers c w i ws = gone_if (can_join c w) i ws

@@ -6,7 +6,7 @@ use Rattle.jm_base.specs.Totals.{total}
 use Rattle.interval_tables.specs.Rows.{sum_of, AllLabels, IsInBounds}
 use Rattle.phaser_core.specs.declared.view.Numbers.{Numbers}
 use Rattle.phaser_core.specs.declared.view.Joined.{Joined}
-use Rattle.phaser_core.specs.declared.view.Reading.{Reading}
+use Rattle.phaser_core.specs.declared.view.ReporterView.{ReporterView}
 use Rattle.phaser_core.specs.declared.view.View.{View}
 use Rattle.phaser_core.specs.declared.view.View.TheVariants.{Reporter, Writer, Gone}
 use Rattle.phaser_core.specs.Cells.{no_report}
@@ -66,7 +66,7 @@ pub record Partition (labels : ℕ) (lists : List (List Pair)) (reports : List R
   pub sums : (m : ℕ) → m < length reports → slice_index_or reports m no_report ≡ record { interval = m; rows = sum_of labels (entries_in m lists) }
 
 -- Each closed report of the reporter is the sum of some list of entries with labels in range, and these lists have together no more entries than all writers may record. So each is in bounds.
-pub record SumsOfLists (n : Numbers) (r : Reading) : Type 0 where
+pub record SumsOfLists (n : Numbers) (r : ReporterView) : Type 0 where
   pub lists : List (List Entry)
   pub count : length lists ≡ length r.closed
   pub few : total (λ (l : List Entry). length l) lists ≤ n.writers * n.budget

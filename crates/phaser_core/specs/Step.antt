@@ -7,17 +7,17 @@ use Rattle.jm_base.specs.Totals.{one_if}
 use Rattle.phaser_core.specs.declared.view.Numbers.{Numbers}
 use Rattle.phaser_core.specs.declared.view.Stage.{Stage}
 use Rattle.phaser_core.specs.declared.view.Stage.TheVariants.{Out, In, On}
-use Rattle.phaser_core.specs.declared.view.Writing.{Writing}
-use Rattle.phaser_core.specs.declared.view.Closing.{Closing}
-use Rattle.phaser_core.specs.declared.view.Closing.TheVariants.{Idle, Swapped, Cleared, Waiting, Harvest}
-use Rattle.phaser_core.specs.declared.view.Reading.{Reading}
+use Rattle.phaser_core.specs.declared.view.WriterView.{WriterView}
+use Rattle.phaser_core.specs.declared.view.ReporterStage.{ReporterStage}
+use Rattle.phaser_core.specs.declared.view.ReporterStage.TheVariants.{Idle, Swapped, Cleared, Waiting, Harvest}
+use Rattle.phaser_core.specs.declared.view.ReporterView.{ReporterView}
 use Rattle.phaser_core.specs.declared.view.View.{View}
 use Rattle.phaser_core.specs.declared.view.View.TheVariants.{Reporter, Writer, Gone}
 use Rattle.phaser_core.specs.declared.view.Event.{Event}
 use Rattle.phaser_core.specs.declared.view.Event.TheVariants as event
 use Rattle.phaser_core.specs.Cells.{sums}
 use Rattle.phaser_core.specs.Views.{ready_reading, writer_zero}
-use Rattle.phaser_core.specs.Moves.{Move, entering, loading, adding, leaving, swapping, clearing, flipping, looking, taking, looking_stop, raising_stop, raising_as_reporter, stepped_words, stepped_views, splitting, split_off, joining, no_one, first_words}
+use Rattle.phaser_core.specs.CoreMoves.{Move, entering, loading, adding, leaving, swapping, clearing, flipping, looking, taking, looking_stop, raising_stop, raising_as_reporter, stepped_words, stepped_views, splitting, split_off, joining, no_one, first_words}
 
 -- words and views
 abbrev pub CoreState : Type 0
@@ -40,7 +40,7 @@ given true m = Some m
 given false m = None
 
 -- a writer's steps, by its stage
-abbrev pub writer_move : Numbers → Event → Writing → Stage → Option Move
+abbrev pub writer_move : Numbers → Event → WriterView → Stage → Option Move
 writer_move n (event.Enter x) w Out = given (nat_lt (length w.list) n.budget) (entering w)
 writer_move n (event.Load x e) w (In p) = given (nat_lt e.label n.labels) (loading w p e)
 writer_move n (event.Add x) w (On p m e d) = given (nat_lt d (3 + one_if (not e.ok))) (adding n.labels w p m e d)
@@ -52,7 +52,7 @@ writer_move n (event.RaiseStop x) w Out = Some (raising_stop w)
 writer_move n _ w _ = None
 
 -- the reporter's steps, by how far it is
-abbrev pub reporter_move : Event → Reading → Closing → Option Move
+abbrev pub reporter_move : Event → ReporterView → ReporterStage → Option Move
 reporter_move event.SwapActive r Idle = given (nat_lt r.interval 16777216) (swapping r)
 reporter_move event.ClearEnd r Swapped = Some (clearing r)
 reporter_move event.Flip r Cleared = Some (flipping r)
@@ -79,7 +79,7 @@ abbrev pub split_if : Bool → List ℕ → List View → View → Option CoreSt
 split_if true words views v = Some (words, slice_set views 1 (splitting v) ++ split_off v ∷ [])
 split_if false words views v = None
 
-abbrev pub split_stage : Numbers → List ℕ → List View → Writing → Stage → Option CoreState
+abbrev pub split_stage : Numbers → List ℕ → List View → WriterView → Stage → Option CoreState
 split_stage n words views w Out = split_if (nat_lt w.made n.writers) words views (Writer w)
 split_stage n words views w (In p) = None
 split_stage n words views w (On p m e d) = None
@@ -91,7 +91,7 @@ split_at n words views (some Gone) = None
 split_at n words views none = None
 
 -- the reporter, where it is idle, takes in a writer that is out
-abbrev pub join_stage : List ℕ → List View → ℕ → Reading → Closing → Writing → Stage → Option CoreState
+abbrev pub join_stage : List ℕ → List View → ℕ → ReporterView → ReporterStage → WriterView → Stage → Option CoreState
 join_stage words views port r Idle w Out = Some (words, slice_set (slice_set views 0 (joining (Reporter r) (Writer w))) port no_one)
 join_stage words views port r _ w _ = None
 

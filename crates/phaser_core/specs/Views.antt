@@ -5,11 +5,11 @@ use Rattle.jm_base.specs.Totals.{total, one_if}
 use Rattle.phaser_core.specs.declared.view.Numbers.{Numbers}
 use Rattle.phaser_core.specs.declared.view.Stage.{Stage}
 use Rattle.phaser_core.specs.declared.view.Stage.TheVariants.{Out, In, On}
-use Rattle.phaser_core.specs.declared.view.Writing.{Writing}
+use Rattle.phaser_core.specs.declared.view.WriterView.{WriterView}
 use Rattle.phaser_core.specs.declared.view.Joined.{Joined}
-use Rattle.phaser_core.specs.declared.view.Closing.{Closing}
-use Rattle.phaser_core.specs.declared.view.Closing.TheVariants.{Idle, Swapped, Cleared, Waiting, Harvest}
-use Rattle.phaser_core.specs.declared.view.Reading.{Reading}
+use Rattle.phaser_core.specs.declared.view.ReporterStage.{ReporterStage}
+use Rattle.phaser_core.specs.declared.view.ReporterStage.TheVariants.{Idle, Swapped, Cleared, Waiting, Harvest}
+use Rattle.phaser_core.specs.declared.view.ReporterView.{ReporterView}
 use Rattle.phaser_core.specs.declared.view.View.{View}
 use Rattle.phaser_core.specs.declared.view.View.TheVariants.{Reporter, Writer, Gone}
 use Rattle.phaser_core.specs.Cells.{is_odd, same, vacant, combine, gather, pick, adds, done}
@@ -58,7 +58,7 @@ heads (Reporter r) = length r.joined
 heads (Writer w) = 1
 heads Gone = 0
 
-abbrev pub at_stage : Writing → Stage → List Pair → Writing
+abbrev pub at_stage : WriterView → Stage → List Pair → WriterView
 at_stage w s l = record { number = w.number; list = l; stage = s; made = w.made; raised = w.raised; saw = w.saw }
 
 -- writer 0 as it is made, and a further one
@@ -69,20 +69,20 @@ abbrev pub further : ℕ → View
 further number = Writer record { number = number; list = []; stage = Out; made = 0; raised = false; saw = false }
 
 -- what a writer leaves when it is joined
-abbrev pub left_of : Writing → Joined
+abbrev pub left_of : WriterView → Joined
 left_of w = record { number = w.number; list = w.list; made = w.made; raised = w.raised; saw = w.saw }
 
 -- The reporter
 
 -- 1 once the start word is turned, and 1 once the next interval is active
-abbrev pub turned : Closing → ℕ
+abbrev pub turned : ReporterStage → ℕ
 turned Idle = 0
 turned Swapped = 0
 turned Cleared = 0
 turned (Waiting want) = 1
 turned (Harvest j) = 1
 
-abbrev pub pending : Closing → ℕ
+abbrev pub pending : ReporterStage → ℕ
 pending Idle = 0
 pending Swapped = 1
 pending Cleared = 1
@@ -90,32 +90,32 @@ pending (Waiting want) = 1
 pending (Harvest j) = 1
 
 -- the current parity, and the other
-abbrev pub current : Reading → Bool
+abbrev pub current : ReporterView → Bool
 current r = is_odd (r.interval + turned r.closing)
 
-abbrev pub other : Reading → Bool
+abbrev pub other : ReporterView → Bool
 other r = not (current r)
 
 -- the interval that samples enter
-abbrev pub active : Reading → ℕ
+abbrev pub active : ReporterView → ℕ
 active r = r.interval + pending r.closing
 
 -- how many cells were taken
-abbrev pub taken_count : Closing → ℕ
+abbrev pub taken_count : ReporterStage → ℕ
 taken_count (Harvest j) = j
 taken_count Idle = 0
 taken_count Swapped = 0
 taken_count Cleared = 0
 taken_count (Waiting want) = 0
 
-abbrev pub at_closing : Reading → Closing → Reading
+abbrev pub at_closing : ReporterView → ReporterStage → ReporterView
 at_closing r c = record { labels = r.labels; interval = r.interval; closing = c; joined = r.joined; ready = r.ready; cells = r.cells; closed = r.closed; raised = r.raised }
 
 -- the reporter alone, and once writer 0 is made
-abbrev pub first_reading : ℕ → Reading
+abbrev pub first_reading : ℕ → ReporterView
 first_reading labels = record { labels = labels; interval = 0; closing = Idle; joined = []; ready = false; cells = []; closed = []; raised = false }
 
-abbrev pub ready_reading : ℕ → Reading
+abbrev pub ready_reading : ℕ → ReporterView
 ready_reading labels = record { labels = labels; interval = 0; closing = Idle; joined = []; ready = true; cells = []; closed = []; raised = false }
 
 -- how many writers were made, as writer 0 knew when it was joined; 0 before
@@ -123,7 +123,7 @@ abbrev pub made_known : List Joined → ℕ
 made_known js = total (λ (j : Joined). j.made) js
 
 -- writer 0 and every writer that it made are joined
-abbrev pub AllJoined : Reading → Type 0
+abbrev pub AllJoined : ReporterView → Type 0
 AllJoined r = (0 < made_known r.joined) × (length r.joined ≡ made_known r.joined)
 
 -- What the views contribute to the cells

@@ -12,5 +12,5 @@ pub mod writer;
 
 pub use applied::Applied;
 pub use machine::Core;
-pub use view::{Closing, Event, Joined, Numbers, Reading, Stage, View, Writing};
+pub use view::{Event, Joined, Numbers, ReporterStage, ReporterView, Stage, View, WriterView};
 pub use writer::WriterState;

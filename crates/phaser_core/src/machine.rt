@@ -8,16 +8,16 @@ ghost use Rattle.phaser_core.specs.declared.view.Event.{Event};
 ghost use Rattle.phaser_core.specs.Cells.{is_odd, end_at, no_report};
 ghost use Rattle.phaser_core.specs.Views.{IsSized};
 ghost use Rattle.phaser_core.specs.Shares.{share_of, Partition};
-ghost use Rattle.phaser_core.specs.Moves.{first_cells, first_words};
+ghost use Rattle.phaser_core.specs.CoreMoves.{first_cells, first_words};
 ghost use Rattle.phaser_core.specs.Invariant.{RecorderInvariant};
 ghost use Rattle.phaser_core.specs.Step.{first_state, after_all, AllFit};
 ghost use Rattle.phaser_core.specs.Plain.{writer_step, writer_at, step_answer, words_after, writers_after, closing_step, closing_if, with_closing, look_result, look_parts, take_result, take_words, take_parts, split_result, split_writers, can_join, join_result, join_writers};
-ghost use Rattle.phaser_core.specs.Shape.{Shows, Applies, first_shape, all_gone, IsDone, open_report, joined_lists};
+ghost use Rattle.phaser_core.specs.CoreShape.{Shows, Applies, first_shape, all_gone, IsDone, open_report, joined_lists};
 
 use crate::applied::Applied;
 use crate::parts::{join_writer, split_first, step_writer};
 use crate::reporter::Reporter;
-use crate::view::{Closing, Event, Numbers, Stage};
+use crate::view::{Event, Numbers, ReporterStage, Stage};
 use crate::writer::WriterState;
 use interval_tables::Report;
 use jm_base::M;
@@ -34,7 +34,7 @@ pub struct Core {
 }
 
 impl Model for Core {
-    ghost use Rattle.phaser_core.specs.Shape.{Shape};
+    ghost use Rattle.phaser_core.specs.CoreShape.{Shape};
     ghost use Rattle.phaser_core.specs.Plain.{IsCoherent};
 
     ghost Value = { Shape };

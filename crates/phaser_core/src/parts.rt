@@ -7,7 +7,7 @@ ghost use Rattle.phaser_core.specs.Plain.{writer_step, writer_at, step_answer, w
 
 use crate::applied::Applied;
 use crate::step::{Change, Step};
-use crate::view::{Closing, Event, Numbers};
+use crate::view::{Event, Numbers, ReporterStage};
 use crate::writer::WriterState;
 
 // what the start word and the end word of the odd phase begin with
@@ -57,25 +57,25 @@ pub(crate) fn end_word(odd: bool) -> u32
 }
 
 // the reporter's steps but for Look and Take
-fn closing_step(interval: u64, event: &Event, closing: &Closing) -> Option<Step>
+fn closing_step(interval: u64, event: &Event, closing: &ReporterStage) -> Option<Step>
     requires { interval ≤ 16777216 }
     ensures { result ≡ closing_step interval event.now closing.now }
 {
     let next_odd = (interval + 1) % 2 == 1;
     match (event, closing) {
-        (Event::SwapActive, Closing::Idle) if interval < 16_777_216 => Some(Step {
+        (Event::SwapActive, ReporterStage::Idle) if interval < 16_777_216 => Some(Step {
             word: 0,
             change: Change::Swap(interval + 1),
         }),
-        (Event::ReporterStop, Closing::Idle) => Some(Step {
+        (Event::ReporterStop, ReporterStage::Idle) => Some(Step {
             word: 4,
             change: Change::Swap(1),
         }),
-        (Event::ClearEnd, Closing::Swapped) => Some(Step {
+        (Event::ClearEnd, ReporterStage::Swapped) => Some(Step {
             word: end_word(next_odd),
             change: Change::Swap(initial(next_odd)),
         }),
-        (Event::Flip, Closing::Cleared) => Some(Step {
+        (Event::Flip, ReporterStage::Cleared) => Some(Step {
             word: 1,
             change: Change::Swap(initial(next_odd)),
         }),
@@ -84,13 +84,13 @@ fn closing_step(interval: u64, event: &Event, closing: &Closing) -> Option<Step>
 }
 
 // how far the reporter is after such a step
-fn closing_after(event: &Event, found: u64, closing: &Closing) -> Closing
+fn closing_after(event: &Event, found: u64, closing: &ReporterStage) -> ReporterStage
     ensures { result ≡ closing_after event.now found closing.now }
 {
     match event {
-        Event::SwapActive => Closing::Swapped,
-        Event::ClearEnd => Closing::Cleared,
-        Event::Flip => Closing::Waiting { want: found },
+        Event::SwapActive => ReporterStage::Swapped,
+        Event::ClearEnd => ReporterStage::Cleared,
+        Event::Flip => ReporterStage::Waiting { want: found },
         _ => *closing,
     }
 }
@@ -99,7 +99,7 @@ fn closing_after(event: &Event, found: u64, closing: &Closing) -> Closing
 pub(crate) fn step_reporter(
     words: &mut [u64],
     interval: u64,
-    closing: &mut Closing,
+    closing: &mut ReporterStage,
     event: &Event,
 ) -> Applied
     requires wide { 5 ≤ length words.old }

@@ -6,16 +6,18 @@ ghost use Rattle.phaser_core.specs.Plain.{closing_step, closing_if, step_answer,
 
 use crate::applied::Applied;
 use crate::parts::{cell_count, cell_word, end_word, step_reporter, vacant};
-use crate::view::{Closing, Event};
+use crate::view::{Event, ReporterStage};
 use interval_tables::{NO_SAMPLES, Report, Row, Rows};
 use jm_base::M;
 use std::alloc::Global;
 use std::marker::Model;
 
+/// What the reporter keeps of its work: the interval that is active or being closed, how far closing it is, the cells taken of
+/// it, and the closed reports.
 #[derive(Drop)]
 pub struct Reporter {
     pub(crate) interval: u64,
-    pub(crate) closing: Closing,
+    pub(crate) closing: ReporterStage,
     pub(crate) taken: Vec<u64>,
     pub(crate) closed: Vec<Report>,
 }
@@ -78,11 +80,11 @@ fn open_report(alloc: Global, labels: u16, interval: u64, words: &[u64]) -> M<Re
 impl Reporter {
     // a reporter that has closed nothing
     pub(crate) fn new(alloc: Global) -> Reporter
-        ensures { result ≡ record { interval = 0; closing = Closing.Idle; taken = []; closed = [] } }
+        ensures { result ≡ record { interval = 0; closing = ReporterStage.Idle; taken = []; closed = [] } }
     {
         Reporter {
             interval: 0,
-            closing: Closing::Idle,
+            closing: ReporterStage::Idle,
             taken: Vec::new(alloc),
             closed: Vec::new(alloc),
         }
@@ -117,7 +119,7 @@ impl Reporter {
         ensures { result ≡ is_idle self.now.closing }
     {
         match self.closing {
-            Closing::Idle => true,
+            ReporterStage::Idle => true,
             _ => false,
         }
     }
@@ -146,9 +148,9 @@ impl Reporter {
             self.closed.push(closed)?;
             self.taken.clear();
             self.interval += 1;
-            self.closing = Closing::Idle;
+            self.closing = ReporterStage::Idle;
         } else {
-            self.closing = Closing::Harvest { taken };
+            self.closing = ReporterStage::Harvest { taken };
         }
         Ok(())
     }
@@ -162,7 +164,7 @@ impl Reporter {
         ensures after { OnOk result (self.new ≡ look_parts self.old.closing (slice_index words.now (end_at (is_odd self.old.interval))) labels self.old) }
         ensures err { OnErr result (self.new ≡ self.old) }
     {
-        let Closing::Waiting { want } = self.closing else {
+        let ReporterStage::Waiting { want } = self.closing else {
             return Ok(Applied::NotEnabled);
         };
         let seen = words[end_word(self.interval % 2 == 1) as usize];
@@ -184,7 +186,7 @@ impl Reporter {
         ensures same { OnErr result (words.new ≡ words.old) }
         ensures err { OnErr result (self.new ≡ self.old) }
     {
-        let Closing::Harvest { taken } = self.closing else {
+        let ReporterStage::Harvest { taken } = self.closing else {
             return Ok(Applied::NotEnabled);
         };
         let word = cell_word(labels, self.interval, taken) as usize;

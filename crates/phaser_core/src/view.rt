@@ -34,7 +34,7 @@ pub enum Stage {
 }
 
 /// What a writer knows.
-pub struct Writing {
+pub struct WriterView {
     pub number: u16,
     /// Each entry recorded, with its interval, in order.
     pub list: LinkedList<(u64, Entry)>,
@@ -58,7 +58,7 @@ pub struct Joined {
 
 /// How far the reporter is with closing an interval.
 #[derive(Clone, Copy, Debug)]
-pub enum Closing {
+pub enum ReporterStage {
     /// No interval is being closed.
     Idle,
     /// Samples enter the next interval.
@@ -72,12 +72,12 @@ pub enum Closing {
 }
 
 /// What the reporter knows.
-pub struct Reading {
+pub struct ReporterView {
     /// The labels of its recorder.
     pub labels: u16,
     /// How many reports are closed: the interval that is being closed, or that is active in `Idle`.
     pub interval: u64,
-    pub closing: Closing,
+    pub closing: ReporterStage,
     /// The joined writers, in the order in which they were joined.
     pub joined: LinkedList<Joined>,
     /// Whether writer 0 was made.
@@ -92,8 +92,8 @@ pub struct Reading {
 
 /// What an actor knows. Port 0 is the reporter's, port w + 1 writer w's.
 pub enum View {
-    Reporter(Reading),
-    Writer(Writing),
+    Reporter(ReporterView),
+    Writer(WriterView),
     /// A writer that was joined.
     Gone,
 }

@@ -12,15 +12,15 @@ use Rattle.interval_tables.specs.Rows.{sum_of, IsInBounds}
 use Rattle.phaser_core.specs.declared.view.Numbers.{Numbers}
 use Rattle.phaser_core.specs.declared.view.Stage.{Stage}
 use Rattle.phaser_core.specs.declared.view.Stage.TheVariants.{Out, In, On}
-use Rattle.phaser_core.specs.declared.view.Closing.TheVariants.{Idle, Swapped, Cleared, Waiting, Harvest}
-use Rattle.phaser_core.specs.declared.view.Writing.{Writing}
-use Rattle.phaser_core.specs.declared.view.Reading.{Reading}
+use Rattle.phaser_core.specs.declared.view.ReporterStage.TheVariants.{Idle, Swapped, Cleared, Waiting, Harvest}
+use Rattle.phaser_core.specs.declared.view.WriterView.{WriterView}
+use Rattle.phaser_core.specs.declared.view.ReporterView.{ReporterView}
 use Rattle.phaser_core.specs.declared.view.View.{View}
 use Rattle.phaser_core.specs.declared.view.View.TheVariants.{Reporter, Writer, Gone}
 use Rattle.phaser_core.specs.Cells.{is_odd, end_at, sums, column, part, folded, skips, vacant, place, cell_at, table_cells, word_count, row_at, report_from}
 use Rattle.phaser_core.specs.Views.{IsSized, AllJoined, joined_at}
 use Rattle.phaser_core.specs.Shares.{entries_in, Partition}
-use Rattle.phaser_core.specs.Moves.{Move, entering, loading, adding, leaving, swapping, clearing, flipping, looking, taking, looking_stop, raising_stop, raising_as_reporter, splitting, split_off, joining, no_one, first_words, first_cells}
+use Rattle.phaser_core.specs.CoreMoves.{Move, entering, loading, adding, leaving, swapping, clearing, flipping, looking, taking, looking_stop, raising_stop, raising_as_reporter, splitting, split_off, joining, no_one, first_words, first_cells}
 use Rattle.phaser_core.specs.Invariant.{RecorderInvariant, Keeps}
 use Rattle.phaser_core.proofs.Lists.{set_again}
 use Rattle.phaser_core.proofs.PhaseSteps.{end_low}
@@ -28,7 +28,7 @@ use Rattle.phaser_core.proofs.CellSteps.{place_in, place_cell, cell_in, column_l
 use Rattle.phaser_core.proofs.Steps.{enter_keeps, load_keeps, add_keeps, exit_keeps, look_stop_keeps, raise_keeps, split_keeps, load_knows, look_stop_knows, reader_is, labels_are, swap_keeps, clear_keeps, flip_keeps, look_keeps, take_keeps, raise_as_reporter_keeps, split_first_keeps, join_keeps, look_finds, reports_sum, joined_bounds, others_gone, opens_keeps}
 use Rattle.phaser_core.proofs.Ends.{read_knows, partition_of, share_in}
 use Rattle.phaser_words.proofs.Counts.{writers_counted}
-use Rattle.phaser_words.specs.Kinds.{holds_of, first_view, writing_of, reading_of, waited_for, parity_in, taken_in, moved, adds_of, exits_of, enters, loads, adds, exits, swaps, clears, flips, looks, takes, watches, raises, reporter_raises, recalls, reads, CanEnd, Recalled, lists_of}
+use Rattle.phaser_words.specs.RecorderKinds.{holds_of, first_view, writing_of, reading_of, waited_for, parity_in, taken_in, moved, adds_of, exits_of, enters, loads, adds, exits, swaps, clears, flips, looks, takes, watches, raises, reporter_raises, recalls, reads, CanEnd, Recalled, lists_of}
 
 abbrev Sat : Type 0
 Sat = Me (Unit {0}) View
@@ -41,12 +41,12 @@ moves n slots id me v move is kept s k _ at _ =
 
 pub enter_allowed : (n : Numbers) (slots id : ℕ) (me : Sat) → me.0 ≡ Writer (writing_of me.0) → (writing_of me.0).stage ≡ Out → length (writing_of me.0).list < n.budget
     → Allows (holds_of n) slots id me 1 (λ x. (x + 1) % 2 ^ 64) (enters (step slots 1 1 0 none) me)
-enter_allowed n slots id me is out room = let w : Writing = writing_of me.0 in moves n slots id me (Writer w) (entering w) is (λ ws vs k at. enter_keeps n ws vs k id w at out room)
+enter_allowed n slots id me is out room = let w : WriterView = writing_of me.0 in moves n slots id me (Writer w) (entering w) is (λ ws vs k at. enter_keeps n ws vs k id w at out room)
 
 pub load_allowed : (n : Numbers) (slots id : ℕ) (me : Sat) (e : Entry) (p : Bool) → me.0 ≡ Writer (writing_of me.0) → (writing_of me.0).stage ≡ In p → e.label < n.labels → e.elapsed < 4294967296 → e.bytes < 4294967296
     → Allows (holds_of n) slots id me 0 (λ x. x) (loads e (step slots 0 0 0 none) me)
 load_allowed n slots id me e p is inside label small small' s k _ at _ =
-    let w : Writing = writing_of me.0 in
+    let w : WriterView = writing_of me.0 in
     let at_w : get_elem? s.views id ≡ some (Writer w) = subst (λ (u : View). get_elem? s.views id ≡ some u) is at in
     let kept = load_keeps n s.words s.views k id w at_w p e inside label small small' in
     let low = load_knows n s.words s.views k id w at_w in
@@ -55,7 +55,7 @@ load_allowed n slots id me e p is inside label small small' s k _ at _ =
 
 pub add_allowed : (n : Numbers) (slots id : ℕ) (me : Sat) (p : Bool) (m : ℕ) (e : Entry) (d word amount : ℕ) → me.0 ≡ Writer (writing_of me.0) → (writing_of me.0).stage ≡ On p m e d → d < sums e
     → word ≡ place n.labels (m % 2) (writing_of me.0).number e.label (column e d) → amount ≡ part (column e d) e → Allows (holds_of n) slots id me word (λ x. folded (column e d) x amount) (adds (step slots word amount 0 none) me)
-add_allowed n slots id me p m e d word amount is on more at_word is_amount = let w : Writing = writing_of me.0 in
+add_allowed n slots id me p m e d word amount is on more at_word is_amount = let w : WriterView = writing_of me.0 in
     subst (λ (s : Stage). Allows (holds_of n) slots id me word (λ x. folded (column e d) x amount) (moved (adds_of w s) me)) (sym on)
     (subst (λ (z : ℕ × ℕ). Allows (holds_of n) slots id me z.0 (λ x. folded (column e d) x z.1) (moved (adding n.labels w p m e d) me)) (λ i. (sym at_word i, sym is_amount i))
     (moves n slots id me (Writer w) (adding n.labels w p m e d) is (λ ws vs k at. add_keeps n ws vs k id w at p m e d on more)))
@@ -98,46 +98,46 @@ later_column false (suc d) k low h = omega arith
 
 pub exit_allowed : (n : Numbers) (slots id : ℕ) (me : Sat) (p : Bool) (m : ℕ) (e : Entry) (d word : ℕ) → me.0 ≡ Writer (writing_of me.0) → (writing_of me.0).stage ≡ On p m e d → d ≡ sums e → word ≡ end_at p
     → Allows (holds_of n) slots id me word (λ x. (x + 1) % 2 ^ 64) (exits (step slots word 1 0 none) me)
-exit_allowed n slots id me p m e d word is on all at_word = let w : Writing = writing_of me.0 in
+exit_allowed n slots id me p m e d word is on all at_word = let w : WriterView = writing_of me.0 in
     subst (λ (s : Stage). Allows (holds_of n) slots id me word (λ x. (x + 1) % 2 ^ 64) (moved (exits_of w s) me)) (sym on)
     (subst (λ (z : ℕ). Allows (holds_of n) slots id me z (λ x. (x + 1) % 2 ^ 64) (moved (leaving w p m e) me)) (sym at_word)
     (moves n slots id me (Writer w) (leaving w p m e) is (λ ws vs k at. exit_keeps n ws vs k id w at p m e (on ∙ ap (λ (z : ℕ). On p m e z) all))))
 
 pub watch_allowed : (n : Numbers) (slots id : ℕ) (me : Sat) → me.0 ≡ Writer (writing_of me.0) → Allows (holds_of n) slots id me 4 (λ x. x) (watches (step slots 4 0 0 none) me)
 watch_allowed n slots id me is s k _ at _ =
-    let w : Writing = writing_of me.0 in
+    let w : WriterView = writing_of me.0 in
     let at_w : get_elem? s.views id ≡ some (Writer w) = subst (λ (u : View). get_elem? s.views id ≡ some u) is at in
     let knows = look_stop_knows n s.words s.views k id w at_w in
     ((looking_stop w).after (get_or s.words 4 0), keeps, tt, look_stop_keeps n s.words s.views k id w at_w, (refl, knows.0, knows.1, knows.2))
 
 pub raise_allowed : (n : Numbers) (slots id : ℕ) (me : Sat) → me.0 ≡ Writer (writing_of me.0) → Allows (holds_of n) slots id me 4 (λ _. 1) (raises (step slots 4 1 0 none) me)
-raise_allowed n slots id me is = let w : Writing = writing_of me.0 in moves n slots id me (Writer w) (raising_stop w) is (λ ws vs k at. raise_keeps n ws vs k id w at)
+raise_allowed n slots id me is = let w : WriterView = writing_of me.0 in moves n slots id me (Writer w) (raising_stop w) is (λ ws vs k at. raise_keeps n ws vs k id w at)
 
 pub reporter_raise_allowed : (n : Numbers) (slots id : ℕ) (me : Sat) → me.0 ≡ Reporter (reading_of me.0) → Allows (holds_of n) slots id me 4 (λ _. 1) (reporter_raises (step slots 4 1 0 none) me)
-reporter_raise_allowed n slots id me is = let r : Reading = reading_of me.0 in moves n slots id me (Reporter r) (raising_as_reporter r) is (λ ws vs k at. raise_as_reporter_keeps n ws vs k id r at)
+reporter_raise_allowed n slots id me is = let r : ReporterView = reading_of me.0 in moves n slots id me (Reporter r) (raising_as_reporter r) is (λ ws vs k at. raise_as_reporter_keeps n ws vs k id r at)
 
 pub swap_allowed : (n : Numbers) (slots id : ℕ) (me : Sat) (new : ℕ) → me.0 ≡ Reporter (reading_of me.0) → (reading_of me.0).closing ≡ Idle → (reading_of me.0).interval < 16777216
     → new ≡ (reading_of me.0).interval + 1 → Allows (holds_of n) slots id me 0 (λ _. new) (swaps (step slots 0 new 0 none) me)
-swap_allowed n slots id me new is idle few is_new = let r : Reading = reading_of me.0 in
+swap_allowed n slots id me new is idle few is_new = let r : ReporterView = reading_of me.0 in
     subst (λ (z : ℕ). Allows (holds_of n) slots id me 0 (λ _. z) (swaps (step slots 0 z 0 none) me)) (sym is_new)
     (moves n slots id me (Reporter r) (swapping r) is (λ ws vs k at. swap_keeps n ws vs k id r at idle few))
 
 pub clear_allowed : (n : Numbers) (slots id : ℕ) (me : Sat) (word new : ℕ) → me.0 ≡ Reporter (reading_of me.0) → (reading_of me.0).closing ≡ Swapped
     → word ≡ (clearing (reading_of me.0)).word → new ≡ (clearing (reading_of me.0)).change 0 → Allows (holds_of n) slots id me word (λ _. new) (clears (step slots word new 0 none) me)
-clear_allowed n slots id me word new is swapped at_word is_new = let r : Reading = reading_of me.0 in
+clear_allowed n slots id me word new is swapped at_word is_new = let r : ReporterView = reading_of me.0 in
     subst (λ (z : ℕ × ℕ). Allows (holds_of n) slots id me z.0 (λ _. z.1) (clears (step slots z.0 z.1 0 none) me)) (λ i. (sym at_word i, sym is_new i))
     (moves n slots id me (Reporter r) (clearing r) is (λ ws vs k at. clear_keeps n ws vs k id r at swapped))
 
 pub flip_allowed : (n : Numbers) (slots id : ℕ) (me : Sat) (new : ℕ) → me.0 ≡ Reporter (reading_of me.0) → (reading_of me.0).closing ≡ Cleared
     → new ≡ (flipping (reading_of me.0)).change 0 → Allows (holds_of n) slots id me 1 (λ _. new) (flips (step slots 1 new 0 none) me)
-flip_allowed n slots id me new is cleared is_new = let r : Reading = reading_of me.0 in
+flip_allowed n slots id me new is cleared is_new = let r : ReporterView = reading_of me.0 in
     subst (λ (z : ℕ). Allows (holds_of n) slots id me 1 (λ _. z) (flips (step slots 1 z 0 none) me)) (sym is_new)
     (moves n slots id me (Reporter r) (flipping r) is (λ ws vs k at. flip_keeps n ws vs k id r at cleared))
 
 pub look_allowed : (n : Numbers) (slots id : ℕ) (me : Sat) (want word : ℕ) → me.0 ≡ Reporter (reading_of me.0) → (reading_of me.0).closing ≡ Waiting want
     → word ≡ (looking (reading_of me.0) want).word → Allows (holds_of n) slots id me word (λ x. x) (looks (step slots word 0 0 none) me)
 look_allowed n slots id me want word is waiting at_word s k _ at _ =
-    let r : Reading = reading_of me.0 in let m : Move = looking r want in let x : ℕ = get_or s.words m.word 0 in
+    let r : ReporterView = reading_of me.0 in let m : Move = looking r want in let x : ℕ = get_or s.words m.word 0 in
     let at_r : get_elem? s.views id ≡ some (Reporter r) = subst (λ (u : View). get_elem? s.views id ≡ some u) is at in
     let kept : Keeps n s.words s.views id m = look_keeps n s.words s.views k id r at_r want waiting in
     let knows = look_finds n s.words s.views k id r at_r want waiting in
@@ -148,22 +148,22 @@ look_allowed n slots id me want word is waiting at_word s k _ at _ =
 
 pub take_allowed : (n : Numbers) (slots id : ℕ) (me : Sat) (j word new : ℕ) → me.0 ≡ Reporter (reading_of me.0) → (reading_of me.0).closing ≡ Harvest j
     → word ≡ (taking (reading_of me.0) j).word → new ≡ vacant (j % 6) → Allows (holds_of n) slots id me word (λ _. new) (takes (step slots word new 0 none) me)
-take_allowed n slots id me j word new is harvest at_word is_new = let r : Reading = reading_of me.0 in
+take_allowed n slots id me j word new is harvest at_word is_new = let r : ReporterView = reading_of me.0 in
     let same : taken_in r.closing ≡ j = ap taken_in harvest in
     subst (λ (z : ℕ × ℕ × ℕ). Allows (holds_of n) slots id me z.0 (λ _. z.1) (moved (taking r z.2) me)) (λ i. (sym at_word i, sym is_new i, sym same i))
     (moves n slots id me (Reporter r) (taking r j) is (λ ws vs k at. take_keeps n ws vs k id r at j harvest))
 
 -- Seats that are made, and one that is joined
 
-pub makes_first : (n : Numbers) (id : ℕ) (v : View) (r : Reading) → v ≡ Reporter r → r.ready ≡ false → Splits (holds_of n) id v (splitting v) (split_off v)
+pub makes_first : (n : Numbers) (id : ℕ) (v : View) (r : ReporterView) → v ≡ Reporter r → r.ready ≡ false → Splits (holds_of n) id v (splitting v) (split_off v)
 makes_first n id v r is fresh = subst (λ (u : View). Splits (holds_of n) id u (splitting u) (split_off u)) (sym is)
     (λ s k at. split_first_keeps n s.words s.views k id r at fresh)
 
-pub makes_more : (n : Numbers) (id : ℕ) (v : View) (w : Writing) → v ≡ Writer w → 0 < w.made → w.made < n.writers → Splits (holds_of n) id v (splitting v) (split_off v)
+pub makes_more : (n : Numbers) (id : ℕ) (v : View) (w : WriterView) → v ≡ Writer w → 0 < w.made → w.made < n.writers → Splits (holds_of n) id v (splitting v) (split_off v)
 makes_more n id v w is some_made room = subst (λ (u : View). Splits (holds_of n) id u (splitting u) (split_off u)) (sym is)
     (λ s k at. split_keeps n s.words s.views k id w at some_made room)
 
-pub takes_in : (n : Numbers) (id : ℕ) (v : View) (other : ℕ) (u : View) (r : Reading) (w : Writing) → v ≡ Reporter r → u ≡ Writer w → w.stage ≡ Out → Joins (holds_of n) id v other u (joining v u) no_one
+pub takes_in : (n : Numbers) (id : ℕ) (v : View) (other : ℕ) (u : View) (r : ReporterView) (w : WriterView) → v ≡ Reporter r → u ≡ Writer w → w.stage ≡ Out → Joins (holds_of n) id v other u (joining v u) no_one
 takes_in n id v other u r w is is' out = subst (λ (z : View × View). Joins (holds_of n) id z.0 other z.1 (joining z.0 z.1) no_one) (λ i. (sym is i, sym is' i))
     (λ s k at two at'. join_keeps n s.words s.views k id r at other w two at' out)
 
@@ -220,10 +220,10 @@ cells_twice l = (let s : 2 * l ≡ l + l = omega arith in ap first_cells s) ∙ 
 -- The words at the end
 
 -- the reporter's seat has port 0
-front_of : (n : Numbers) (ws : List ℕ) (vs : List View) (id : ℕ) (r : Reading) → RecorderInvariant n ws vs → get_elem? vs id ≡ some (Reporter r) → get_elem? vs 0 ≡ some (Reporter r)
-front_of n ws vs id r k at = k.reporter ∙ ap (λ (q : Reading). some (Reporter q)) (reader_is n ws vs k id r at)
+front_of : (n : Numbers) (ws : List ℕ) (vs : List View) (id : ℕ) (r : ReporterView) → RecorderInvariant n ws vs → get_elem? vs id ≡ some (Reporter r) → get_elem? vs 0 ≡ some (Reporter r)
+front_of n ws vs id r k at = k.reporter ∙ ap (λ (q : ReporterView). some (Reporter q)) (reader_is n ws vs k id r at)
 
-pub closes : (n : Numbers) (id : ℕ) (v : View) (r : Reading) (ws : List ℕ) (xs : List (Unit {0})) → Final (Seen (holds_of n) id v) ws xs → v ≡ Reporter r → AllJoined r
+pub closes : (n : Numbers) (id : ℕ) (v : View) (r : ReporterView) (ws : List ℕ) (xs : List (Unit {0})) → Final (Seen (holds_of n) id v) ws xs → v ≡ Reporter r → AllJoined r
     → (views : List View) × RecorderInvariant n ws views × (get_elem? views 0 ≡ some (Reporter r)) × ((port : ℕ) (u : View) → port ≢ 0 → get_elem? views port ≡ some u → u ≡ Gone)
 closes n id v r ws xs f is all =
     let k : RecorderInvariant n ws f.0.views = subst (λ (z : List ℕ). RecorderInvariant n z f.0.views) f.2 f.1.0 in
@@ -235,19 +235,19 @@ closes n id v r ws xs f is all =
 unmoved : (n : Numbers) (ws : List ℕ) (vs : List View) (word id : ℕ) (v : View) → RecorderInvariant n ws vs → get_elem? vs id ≡ some v → RecorderInvariant n (set ws word (get_or ws word 0)) (set vs id v)
 unmoved n ws vs word id v k at = subst (λ (z : List ℕ × List View). RecorderInvariant n z.0 z.1) (λ i. (sym (set-get_or ws word 0) i, sym (set_again vs id v at) i)) k
 
-parted : (n : Numbers) (ws : List ℕ) (vs : List View) (id : ℕ) (r : Reading) → RecorderInvariant n ws vs → get_elem? vs id ≡ some (Reporter r) → r.closing ≡ Idle → AllJoined r → CanEnd r
+parted : (n : Numbers) (ws : List ℕ) (vs : List View) (id : ℕ) (r : ReporterView) → RecorderInvariant n ws vs → get_elem? vs id ≡ some (Reporter r) → r.closing ≡ Idle → AllJoined r → CanEnd r
 parted n ws vs id r k at idle all f cells =
     let e = read_knows n ws vs k r (front_of n ws vs id r k at) idle (others_gone n ws vs k id r at all) in
     let labels = labels_are n ws vs k id r at in
     subst (λ (l : ℕ). Partition l (lists_of r.joined) (r.closed ++ report_from l r.interval f ∷ [])) (sym labels)
     (partition_of n.labels r f e.0 e.1 (subst (λ (l : ℕ). (j : ℕ) → j < table_cells l → f j ≡ joined_at l r.interval j r.joined) labels cells) e.3)
 
-in_bounds : (n : Numbers) (ws : List ℕ) (vs : List View) (id : ℕ) (r : Reading) → RecorderInvariant n ws vs → get_elem? vs id ≡ some (Reporter r) → (m : ℕ) → IsInBounds (sum_of n.labels (entries_in m (lists_of r.joined)))
+in_bounds : (n : Numbers) (ws : List ℕ) (vs : List View) (id : ℕ) (r : ReporterView) → RecorderInvariant n ws vs → get_elem? vs id ≡ some (Reporter r) → (m : ℕ) → IsInBounds (sum_of n.labels (entries_in m (lists_of r.joined)))
 in_bounds n ws vs id r k at m = subst (λ (es : List Entry). IsInBounds (sum_of n.labels es)) (share_in m r.joined) (joined_bounds n ws vs k id r at m)
 
 pub recall_allowed : (n : Numbers) (m : Numbers) (slots id : ℕ) (me : Sat) → m ≡ n → me.0 ≡ Reporter (reading_of me.0) → Allows (holds_of n) slots id me 0 (λ x. x) (recalls m (step slots 0 0 0 none) me)
 recall_allowed n m slots id me same is s k _ at _ =
-    let r : Reading = reading_of me.0 in
+    let r : ReporterView = reading_of me.0 in
     let at_r : get_elem? s.views id ≡ some (Reporter r) = subst (λ (u : View). get_elem? s.views id ≡ some u) is at in
     let knows : Recalled n r = record { sums = reports_sum n s.words s.views k id r at_r; counts = writers_counted n s.words s.views k id r at_r; bounds = in_bounds n s.words s.views id r k at_r; ends = parted n s.words s.views id r k at_r } in
     (me.0, keeps, tt, unmoved n s.words s.views 0 id me.0 k at, (refl, subst (λ (z : Numbers). Recalled z r) (sym same) knows))
@@ -255,7 +255,7 @@ recall_allowed n m slots id me same is s k _ at _ =
 pub read_allowed : (n : Numbers) (slots id : ℕ) (me : Sat) (j p word : ℕ) → p ≡ j → me.0 ≡ Reporter (reading_of me.0) → (reading_of me.0).closing ≡ Idle → AllJoined (reading_of me.0) → j < table_cells n.labels
     → (reading_of me.0).labels ≡ n.labels → word ≡ cell_at n.labels (reading_of me.0).interval j → Allows (holds_of n) slots id me word (λ x. x) (reads p (step slots word 0 0 none) me)
 read_allowed n slots id me j p word same is idle all low labels at_word s k _ at _ =
-    let r : Reading = reading_of me.0 in
+    let r : ReporterView = reading_of me.0 in
     let at_r : get_elem? s.views id ≡ some (Reporter r) = subst (λ (u : View). get_elem? s.views id ≡ some u) is at in
     let e = (read_knows n s.words s.views k r (front_of n s.words s.views id r k at_r) idle (others_gone n s.words s.views k id r at_r all)).2 j low in (
       me.0,

@@ -7,13 +7,13 @@ use lib.ListN.{get_elem?}
 use Rattle.jm_base.specs.Totals.{total, one_if}
 use Rattle.phaser_core.specs.declared.view.Numbers.{Numbers}
 use Rattle.phaser_core.specs.declared.view.Joined.{Joined}
-use Rattle.phaser_core.specs.declared.view.Reading.{Reading}
+use Rattle.phaser_core.specs.declared.view.ReporterView.{ReporterView}
 use Rattle.phaser_core.specs.declared.view.View.{View}
 use Rattle.phaser_core.specs.declared.view.View.TheVariants.{Reporter}
 use Rattle.phaser_core.specs.Views.{holders, heads, made_known}
 use Rattle.phaser_core.specs.Invariant.{AllKept, RecorderInvariant}
 use Rattle.jm_base.proofs.Totals.{total_at}
-use Rattle.phaser_words.specs.Kinds.{CountsWriters}
+use Rattle.phaser_words.specs.RecorderKinds.{CountsWriters}
 
 low_test : (b : Bool) → one_if b ≤ 1
 low_test true = omega arith
@@ -33,7 +33,7 @@ all_known n made (j ∷ js) kept once known = dite (ℕ_discrete j.made 0)
     (λ e. let rest = all_known n made js kept.4 (omega arith) (omega arith) in omega arith)
     (λ ne. let f = kept.2 (omega arith) in let one : one_if (j.number == 0) ≡ 1 = ap one_if (eq-eqb j.number 0 f.0) in let is = f.1 in let none = none_known n made js kept.4 (omega arith) in omega arith)
 
-pub writers_counted : (n : Numbers) (ws : List ℕ) (vs : List View) (k : RecorderInvariant n ws vs) (id : ℕ) (r : Reading) → get_elem? vs id ≡ some (Reporter r) → CountsWriters n r
+pub writers_counted : (n : Numbers) (ws : List ℕ) (vs : List View) (k : RecorderInvariant n ws vs) (id : ℕ) (r : ReporterView) → get_elem? vs id ≡ some (Reporter r) → CountsWriters n r
 writers_counted n ws vs k id r at =
     let a = k.accounts in let mine = a.each id (Reporter r) at in
     let people = a.people in let few = a.few in let sizes = a.sizes in

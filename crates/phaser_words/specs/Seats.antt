@@ -4,13 +4,13 @@ use Rattle.std.specs.Slots.{slots_items}
 use mathlib.Core.Option.{some}
 use lib.ListN.{get_elem?}
 use Rattle.phaser_core.specs.declared.view.Numbers.{Numbers}
-use Rattle.phaser_core.specs.declared.view.Writing.{Writing}
-use Rattle.phaser_core.specs.declared.view.Reading.{Reading}
-use Rattle.phaser_core.specs.declared.view.Closing.TheVariants.{Waiting}
+use Rattle.phaser_core.specs.declared.view.WriterView.{WriterView}
+use Rattle.phaser_core.specs.declared.view.ReporterView.{ReporterView}
+use Rattle.phaser_core.specs.declared.view.ReporterStage.TheVariants.{Waiting}
 use Rattle.phaser_core.specs.declared.view.View.{View}
 use Rattle.phaser_core.specs.declared.view.View.TheVariants.{Reporter, Gone}
 use Rattle.phaser_core.specs.Views.{AllJoined}
-use Rattle.phaser_core.specs.Moves.{settled}
+use Rattle.phaser_core.specs.CoreMoves.{settled}
 use Rattle.phaser_core.specs.Invariant.{RecorderInvariant}
 use Rattle.phaser_words.specs.declared.places.Words.{Words}
 use Rattle.phaser_words.specs.declared.places.WriterWordSeat.{WriterWordSeat}
@@ -18,13 +18,13 @@ use Rattle.phaser_words.specs.declared.places.ReporterWordSeat.{ReporterWordSeat
 use Rattle.phaser_words.specs.declared.places.LastWords.{LastWords}
 use Rattle.phaser_core.specs.declared.applied.Applied.{Applied}
 use Rattle.phaser_core.specs.declared.applied.Applied.TheVariants.{Old, Settled, NotYet, NotEnabled}
-use Rattle.phaser_words.specs.Kinds.{writing_of, reading_of}
+use Rattle.phaser_words.specs.RecorderKinds.{writing_of, reading_of}
 
 -- what the writer, and the reporter, of a seat knows
-abbrev pub writing : WriterWordSeat → Writing
+abbrev pub writing : WriterWordSeat → WriterView
 writing s = writing_of s.seat.me.0
 
-abbrev pub reading : ReporterWordSeat → Reading
+abbrev pub reading : ReporterWordSeat → ReporterView
 reading s = reading_of s.seat.me.0
 
 -- what the words were made with
@@ -42,14 +42,14 @@ abbrev pub last_words : LastWords → List ℕ
 last_words l = slots_items l.closed.words
 
 -- the words are those of a state of the recorder in which the reporter has this view, and every writer was joined
-abbrev pub Ends : Numbers → List ℕ → Reading → Type 0
+abbrev pub Ends : Numbers → List ℕ → ReporterView → Type 0
 Ends n words r =
     (views : List View) × RecorderInvariant n words views × (get_elem? views 0 ≡ some (Reporter r))
     × ((port : ℕ) (v : View) → port ≢ 0 → get_elem? views port ≡ some v → v ≡ Gone)
 
 -- A look that settled goes on to take cells, or has closed a report that has none.
 -- One that did not found less than is waited for, changed nothing, and some writer is not joined.
-abbrev pub IsLook : Reading → Applied → Reading → Type 0
+abbrev pub IsLook : ReporterView → Applied → ReporterView → Type 0
 IsLook r (Old found) s = ⊥
 IsLook r NotEnabled s = ⊥
 IsLook r Settled s = s ≡ settled r true

@@ -1,7 +1,7 @@
 //! Where a word stands, and what it begins with.
 ghost use Rattle.std.specs.Prelude.{◌≡◌, ◌+◌, ◌*◌, ◌/◌, ◌%◌, ◌<◌, ◌++◌, [], IfOk};
 ghost use Rattle.phaser_core.specs.Cells.{sums, column, part, vacant, end_at, initial as parity_start};
-ghost use Rattle.phaser_core.specs.Moves.{first_words};
+ghost use Rattle.phaser_core.specs.CoreMoves.{first_words};
 
 use jm_base::{Entry, M};
 use std::alloc::Global;

@@ -4,11 +4,11 @@ ghost use Rattle.std.specs.Slots.{slots_len, IsFull};
 ghost use Rattle.phaser_core.specs.Cells.{word_count};
 ghost use Rattle.phaser_core.specs.Views.{pending, IsSized};
 ghost use Rattle.phaser_core.specs.declared.view.View.TheVariants.{Reporter, Writer};
-ghost use Rattle.phaser_words.specs.Kinds.{writing_of, reading_of};
+ghost use Rattle.phaser_words.specs.RecorderKinds.{writing_of, reading_of};
 
 use crate::rule::RecorderRule;
 use atomic_table::{Closed, Seat, Table};
-use phaser_core::{Closing, Numbers, Stage, View};
+use phaser_core::{Numbers, ReporterStage, Stage, View};
 use std::alloc::Global;
 
 /// The words of a recorder, which its writers and its reporter share.
@@ -41,7 +41,7 @@ pub struct WriterWordSeat {
 pub struct ReporterWordSeat {
     pub(crate) seat: Seat<(), View>,
     pub(crate) interval: u64,
-    pub(crate) closing: Closing,
+    pub(crate) closing: ReporterStage,
     ghost bare: { seat.me.1 ≡ [] },
     ghost reads: { seat.me.0 ≡ Reporter (reading_of seat.me.0) },
     ghost low: { interval + pending closing ≤ 16777216 },

@@ -2,14 +2,14 @@
 ghost use Rattle.std.specs.Prelude.{◌≡◌, ◌+◌, ◌*◌, ◌<◌, ◌∷◌, ◌++◌, [], length};
 ghost use Rattle.phaser_core.specs.Cells.{table_cells, cell_at};
 ghost use Rattle.phaser_core.specs.Views.{at_closing, joined_at, AllJoined};
-ghost use Rattle.phaser_core.specs.Moves.{gathered, reporter_raised};
-ghost use Rattle.phaser_words.specs.Kinds.{IsWaiting, HasCell, taken_in, Recalled};
+ghost use Rattle.phaser_core.specs.CoreMoves.{gathered, reporter_raised};
+ghost use Rattle.phaser_words.specs.RecorderKinds.{IsWaiting, HasCell, taken_in, Recalled};
 ghost use Rattle.phaser_words.specs.Seats.{reading, numbers, IsReporterOf, IsLook};
 
 use crate::cells::{ACTIVE, START, STOP, end_word, initial, vacant_cell};
 use crate::places::{ReporterWordSeat, Words};
 use crate::rule::{Clears, Flips, Handing, Looks, Reads, Recalls, ReporterRaises, Swaps, Takes};
-use phaser_core::{Applied, Closing};
+use phaser_core::{Applied, ReporterStage};
 use std::marker::Brand;
 
 impl ReporterWordSeat {
@@ -25,7 +25,7 @@ impl Words {
     /// Raises the stop word as the reporter, and gives it as it was.
     pub fn reporter_stop(&self, seat: &mut ReporterWordSeat) -> u64
         requires seat { IsReporterOf self.now seat.old }
-        requires idle { (reading seat.old).closing ≡ Closing.Idle }
+        requires idle { (reading seat.old).closing ≡ ReporterStage.Idle }
         ensures seat { IsReporterOf self.now seat.new }
         ensures raised { reading seat.new ≡ reporter_raised (reading seat.old) }
     {
@@ -37,49 +37,49 @@ impl Words {
     /// Begins to close the interval: samples enter the next one from now on. Gives the active word as it was.
     pub fn swap_active(&self, seat: &mut ReporterWordSeat) -> u64
         requires seat { IsReporterOf self.now seat.old }
-        requires idle { (reading seat.old).closing ≡ Closing.Idle }
+        requires idle { (reading seat.old).closing ≡ ReporterStage.Idle }
         requires few { (reading seat.old).interval < 16777216 }
         ensures seat { IsReporterOf self.now seat.new }
-        ensures swapped { reading seat.new ≡ at_closing (reading seat.old) Closing.Swapped }
+        ensures swapped { reading seat.new ≡ at_closing (reading seat.old) ReporterStage.Swapped }
     {
         let next = seat.interval + 1;
         let found = self
             .table
             .shared
             .swap::<Swaps>(&mut seat.seat, ACTIVE, next);
-        seat.closing = Closing::Swapped;
+        seat.closing = ReporterStage::Swapped;
         found
     }
 
     /// Makes the end word of the next phase what that phase begins with. Gives the word as it was.
     pub fn clear_end(&self, seat: &mut ReporterWordSeat) -> u64
         requires seat { IsReporterOf self.now seat.old }
-        requires swapped { (reading seat.old).closing ≡ Closing.Swapped }
+        requires swapped { (reading seat.old).closing ≡ ReporterStage.Swapped }
         ensures seat { IsReporterOf self.now seat.new }
-        ensures cleared { reading seat.new ≡ at_closing (reading seat.old) Closing.Cleared }
+        ensures cleared { reading seat.new ≡ at_closing (reading seat.old) ReporterStage.Cleared }
     {
         let odd = seat.interval % 2 == 0;
         let found = self
             .table
             .shared
             .swap::<Clears>(&mut seat.seat, end_word(odd), initial(odd));
-        seat.closing = Closing::Cleared;
+        seat.closing = ReporterStage::Cleared;
         found
     }
 
     /// Turns the phase. The start word as it was is what the end word of the old phase is to show.
     pub fn flip(&self, seat: &mut ReporterWordSeat) -> u64
         requires seat { IsReporterOf self.now seat.old }
-        requires cleared { (reading seat.old).closing ≡ Closing.Cleared }
+        requires cleared { (reading seat.old).closing ≡ ReporterStage.Cleared }
         ensures seat { IsReporterOf self.now seat.new }
-        ensures waiting { reading seat.new ≡ at_closing (reading seat.old) (Closing.Waiting result) }
+        ensures waiting { reading seat.new ≡ at_closing (reading seat.old) (ReporterStage.Waiting result) }
     {
         let odd = seat.interval % 2 == 0;
         let found = self
             .table
             .shared
             .swap::<Flips>(&mut seat.seat, START, initial(odd));
-        seat.closing = Closing::Waiting { want: found };
+        seat.closing = ReporterStage::Waiting { want: found };
         found
     }
 
@@ -92,7 +92,7 @@ impl Words {
         ensures seat { IsReporterOf self.now seat.new }
         ensures told { IsLook (reading seat.old) result (reading seat.new) }
     {
-        let Closing::Waiting { want } = seat.closing else {
+        let ReporterStage::Waiting { want } = seat.closing else {
             unreachable!()
         };
         let odd = seat.interval % 2 == 1;
@@ -104,10 +104,10 @@ impl Words {
             return Applied::NotYet { seen, want };
         }
         if self.labels == 0 {
-            seat.closing = Closing::Idle;
+            seat.closing = ReporterStage::Idle;
             seat.interval += 1;
         } else {
-            seat.closing = Closing::Harvest { taken: 0 };
+            seat.closing = ReporterStage::Harvest { taken: 0 };
         }
         Applied::Settled
     }
@@ -120,7 +120,7 @@ impl Words {
         ensures seat { IsReporterOf self.now seat.new }
         ensures taken { reading seat.new ≡ gathered (reading seat.old) ((reading seat.old).cells ++ result ∷ []) (taken_in (reading seat.old).closing + 1) }
     {
-        let Closing::Harvest { taken } = seat.closing else {
+        let ReporterStage::Harvest { taken } = seat.closing else {
             unreachable!()
         };
         let word = self.cell_of(seat.interval, taken);
@@ -129,10 +129,10 @@ impl Words {
             .shared
             .swap::<Takes>(&mut seat.seat, word, vacant_cell(taken));
         if taken + 1 == 6 * self.labels as u32 {
-            seat.closing = Closing::Idle;
+            seat.closing = ReporterStage::Idle;
             seat.interval += 1;
         } else {
-            seat.closing = Closing::Harvest { taken: taken + 1 };
+            seat.closing = ReporterStage::Harvest { taken: taken + 1 };
         }
         found
     }
@@ -171,7 +171,7 @@ impl Words {
     // The same as `read`, for a cell that the proof names.
     fn read_with<J: Handing>(&self, seat: &mut ReporterWordSeat, cell: u32) -> u64
         requires seat { IsReporterOf self.now seat.old }
-        requires idle { (reading seat.old).closing ≡ Closing.Idle }
+        requires idle { (reading seat.old).closing ≡ ReporterStage.Idle }
         requires joined { AllJoined (reading seat.old) }
         requires cell { cell < table_cells (numbers self.now).labels }
         requires handed { J.cell ≡ cell }
@@ -186,7 +186,7 @@ impl Words {
     /// Loads a cell of the open interval, once every writer was joined: it holds what their lists contribute to it.
     pub fn read(&self, seat: &mut ReporterWordSeat, cell: u32) -> u64
         requires seat { IsReporterOf self.now seat.old }
-        requires idle { (reading seat.old).closing ≡ Closing.Idle }
+        requires idle { (reading seat.old).closing ≡ ReporterStage.Idle }
         requires joined { AllJoined (reading seat.old) }
         requires cell { cell < table_cells (numbers self.now).labels }
         ensures seat { IsReporterOf self.now seat.new }

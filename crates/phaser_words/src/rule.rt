@@ -7,7 +7,7 @@ use std::marker::{Brand, PhantomData};
 pub struct RecorderRule;
 
 impl TableRule<(), View, Numbers> for RecorderRule {
-    ghost use Rattle.phaser_words.specs.Kinds.{holds_of, first_view};
+    ghost use Rattle.phaser_words.specs.RecorderKinds.{holds_of, first_view};
 
     ghost holds = { holds_of };
 
@@ -28,7 +28,7 @@ pub trait Handing {
 }
 
 impl Handing for Brand {
-    ghost use Rattle.phaser_words.specs.Kinds.{no_entry, no_numbers};
+    ghost use Rattle.phaser_words.specs.RecorderKinds.{no_entry, no_numbers};
 
     ghost entry = { no_entry };
 
@@ -41,7 +41,7 @@ impl Handing for Brand {
 pub struct Enters;
 
 impl Play<(), View> for Enters {
-    ghost use Rattle.phaser_words.specs.Kinds.{enters};
+    ghost use Rattle.phaser_words.specs.RecorderKinds.{enters};
 
     ghost then = { enters };
 }
@@ -52,7 +52,7 @@ pub struct Loads<J: Handing> {
 }
 
 impl<J: Handing> Play<(), View> for Loads<J> {
-    ghost use Rattle.phaser_words.specs.Kinds.{loads};
+    ghost use Rattle.phaser_words.specs.RecorderKinds.{loads};
 
     ghost then = { loads J.entry };
 }
@@ -61,7 +61,7 @@ impl<J: Handing> Play<(), View> for Loads<J> {
 pub struct Adds;
 
 impl Play<(), View> for Adds {
-    ghost use Rattle.phaser_words.specs.Kinds.{adds};
+    ghost use Rattle.phaser_words.specs.RecorderKinds.{adds};
 
     ghost then = { adds };
 }
@@ -70,7 +70,7 @@ impl Play<(), View> for Adds {
 pub struct Exits;
 
 impl Play<(), View> for Exits {
-    ghost use Rattle.phaser_words.specs.Kinds.{exits};
+    ghost use Rattle.phaser_words.specs.RecorderKinds.{exits};
 
     ghost then = { exits };
 }
@@ -79,7 +79,7 @@ impl Play<(), View> for Exits {
 pub struct Watches;
 
 impl Play<(), View> for Watches {
-    ghost use Rattle.phaser_words.specs.Kinds.{watches};
+    ghost use Rattle.phaser_words.specs.RecorderKinds.{watches};
 
     ghost then = { watches };
 }
@@ -88,7 +88,7 @@ impl Play<(), View> for Watches {
 pub struct Raises;
 
 impl Play<(), View> for Raises {
-    ghost use Rattle.phaser_words.specs.Kinds.{raises};
+    ghost use Rattle.phaser_words.specs.RecorderKinds.{raises};
 
     ghost then = { raises };
 }
@@ -97,7 +97,7 @@ impl Play<(), View> for Raises {
 pub struct ReporterRaises;
 
 impl Play<(), View> for ReporterRaises {
-    ghost use Rattle.phaser_words.specs.Kinds.{reporter_raises};
+    ghost use Rattle.phaser_words.specs.RecorderKinds.{reporter_raises};
 
     ghost then = { reporter_raises };
 }
@@ -106,7 +106,7 @@ impl Play<(), View> for ReporterRaises {
 pub struct Swaps;
 
 impl Play<(), View> for Swaps {
-    ghost use Rattle.phaser_words.specs.Kinds.{swaps};
+    ghost use Rattle.phaser_words.specs.RecorderKinds.{swaps};
 
     ghost then = { swaps };
 }
@@ -115,7 +115,7 @@ impl Play<(), View> for Swaps {
 pub struct Clears;
 
 impl Play<(), View> for Clears {
-    ghost use Rattle.phaser_words.specs.Kinds.{clears};
+    ghost use Rattle.phaser_words.specs.RecorderKinds.{clears};
 
     ghost then = { clears };
 }
@@ -124,7 +124,7 @@ impl Play<(), View> for Clears {
 pub struct Flips;
 
 impl Play<(), View> for Flips {
-    ghost use Rattle.phaser_words.specs.Kinds.{flips};
+    ghost use Rattle.phaser_words.specs.RecorderKinds.{flips};
 
     ghost then = { flips };
 }
@@ -133,7 +133,7 @@ impl Play<(), View> for Flips {
 pub struct Looks;
 
 impl Play<(), View> for Looks {
-    ghost use Rattle.phaser_words.specs.Kinds.{looks};
+    ghost use Rattle.phaser_words.specs.RecorderKinds.{looks};
 
     ghost then = { looks };
 }
@@ -142,7 +142,7 @@ impl Play<(), View> for Looks {
 pub struct Takes;
 
 impl Play<(), View> for Takes {
-    ghost use Rattle.phaser_words.specs.Kinds.{takes};
+    ghost use Rattle.phaser_words.specs.RecorderKinds.{takes};
 
     ghost then = { takes };
 }
@@ -153,7 +153,7 @@ pub struct Recalls<J: Handing> {
 }
 
 impl<J: Handing> Play<(), View> for Recalls<J> {
-    ghost use Rattle.phaser_words.specs.Kinds.{recalls};
+    ghost use Rattle.phaser_words.specs.RecorderKinds.{recalls};
 
     ghost then = { recalls J.numbers };
 }
@@ -164,7 +164,7 @@ pub struct Reads<J: Handing> {
 }
 
 impl<J: Handing> Play<(), View> for Reads<J> {
-    ghost use Rattle.phaser_words.specs.Kinds.{reads};
+    ghost use Rattle.phaser_words.specs.RecorderKinds.{reads};
 
     ghost then = { reads J.cell };
 }
@@ -173,7 +173,7 @@ impl<J: Handing> Play<(), View> for Reads<J> {
 pub struct Makes;
 
 impl Split<View> for Makes {
-    ghost use Rattle.phaser_core.specs.Moves.{splitting, split_off};
+    ghost use Rattle.phaser_core.specs.CoreMoves.{splitting, split_off};
 
     ghost left = { splitting };
 
@@ -184,7 +184,7 @@ impl Split<View> for Makes {
 pub struct TakesIn;
 
 impl Join<View> for TakesIn {
-    ghost use Rattle.phaser_core.specs.Moves.{joining, no_one};
+    ghost use Rattle.phaser_core.specs.CoreMoves.{joining, no_one};
 
     ghost both = { joining };
 

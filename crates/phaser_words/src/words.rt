@@ -1,7 +1,7 @@
 //! The words of a new recorder, its seats, and the words at the end.
 ghost use Rattle.std.specs.Prelude.{◌≡◌, ◌<◌, ◌++◌, ◌∷◌, IfOk};
 ghost use Rattle.phaser_core.specs.Views.{IsSized, ready_reading, writer_zero, AllJoined, further};
-ghost use Rattle.phaser_core.specs.Moves.{splitting, taking_in};
+ghost use Rattle.phaser_core.specs.CoreMoves.{splitting, taking_in};
 ghost use Rattle.phaser_core.specs.declared.view.View.TheVariants.{Writer};
 ghost use Rattle.phaser_words.specs.Seats.{writing, reading, numbers, IsWriterOf, IsReporterOf, last_words, Ends};
 
@@ -10,7 +10,7 @@ use crate::places::{LastWords, ReporterWordSeat, Words, WriterWordSeat};
 use crate::rule::{Makes, TakesIn};
 use atomic_table::Table;
 use jm_base::M;
-use phaser_core::{Closing, Numbers, Stage};
+use phaser_core::{Numbers, ReporterStage, Stage};
 use std::alloc::Global;
 
 impl Words {
@@ -41,7 +41,7 @@ impl Words {
             ReporterWordSeat {
                 seat,
                 interval: 0,
-                closing: Closing::Idle,
+                closing: ReporterStage::Idle,
             },
             WriterWordSeat {
                 seat: first,
@@ -83,7 +83,7 @@ impl Words {
     /// The reporter takes in a writer that is out, with its list and its marks.
     pub fn join(&self, into: &mut ReporterWordSeat, gone: WriterWordSeat)
         requires seats { IsReporterOf self.now into.old × IsWriterOf self.now gone }
-        requires idle { (reading into.old).closing ≡ Closing.Idle }
+        requires idle { (reading into.old).closing ≡ ReporterStage.Idle }
         requires out { (writing gone).stage ≡ Stage.Out }
         ensures seat { IsReporterOf self.now into.new }
         ensures taken { reading into.new ≡ taking_in (reading into.old) (writing gone) }
@@ -101,7 +101,7 @@ impl Words {
     pub fn close(self, seat: ReporterWordSeat) -> LastWords
         requires seat { IsReporterOf self seat }
         requires joined { AllJoined (reading seat) }
-        requires idle { (reading seat).closing ≡ Closing.Idle }
+        requires idle { (reading seat).closing ≡ ReporterStage.Idle }
         ensures { Ends (numbers self) (last_words result) (reading seat) }
     {
         let ReporterWordSeat {

@@ -3,8 +3,8 @@ ghost use Rattle.std.specs.Prelude.{◌≡◌, ◌+◌, ◌*◌, ◌%◌, ◌<�
 ghost use Rattle.phaser_core.specs.Cells.{phase, sums, column, part, place as cell_place};
 ghost use Rattle.phaser_core.specs.Views.{at_stage};
 ghost use Rattle.phaser_core.specs.Shares.{AllUpTo};
-ghost use Rattle.phaser_core.specs.Moves.{marked, or};
-ghost use Rattle.phaser_words.specs.Kinds.{IsIn, HasSum, HasLeast, HasGreatest, HasAll, one_further, parity_in, interval_in, entry_in};
+ghost use Rattle.phaser_core.specs.CoreMoves.{marked, or};
+ghost use Rattle.phaser_words.specs.RecorderKinds.{IsIn, HasSum, HasLeast, HasGreatest, HasAll, one_further, parity_in, interval_in, entry_in};
 ghost use Rattle.phaser_words.specs.Seats.{writing, numbers, IsWriterOf};
 
 use crate::cells::{ACTIVE, HALF, START, STOP, column_of, end_word, part_of};

@@ -74,12 +74,12 @@ kind-other here below number e round s k a b c d f g h l m n p t = refl
 
 -- ---- children
 
-front : (cs : List ℕ) (i : ℕ) → i < length cs → drop i cs ≡ get_or cs i 0 ∷ drop (i + 1) cs
-front cs i within = rw (add-one i) (drop-cons cs i 0 within)
+prefix : (cs : List ℕ) (i : ℕ) → i < length cs → drop i cs ≡ get_or cs i 0 ∷ drop (i + 1) cs
+prefix cs i within = rw (add-one i) (drop-cons cs i 0 within)
 
 pub next-child : (below : Below) (round : ℕ) (cs : List ℕ) (i : ℕ) (s : State) → i < length cs
     → in_order below round (drop i cs) s ≡ and_then (below (get_or cs i 0) round s) (in_order below round (drop (i + 1) cs))
-next-child below round cs i s within = ap (λ l. in_order below round l s) (front cs i within)
+next-child below round cs i s within = ap (λ l. in_order below round l s) (prefix cs i within)
 
 -- no child is left
 pub children-over : {a b : Account} {p0 p : Progress} (below : Below) (round : ℕ) (cs : List ℕ) (i : ℕ) → OnWay a p0 (in_order below round cs) (in_order below round (drop i cs)) p b
@@ -96,7 +96,7 @@ where_true below round attempt c cs x s = if is_true x then and_then (below c ro
 
 pub next-condition : (below : Below) (round : ℕ) (attempt : Try (List ℕ)) (cs : List ℕ) (i : ℕ) (s : State) → i < length cs
     → if_each below round (drop i cs) attempt s ≡ tried attempt s (where_true below round attempt (get_or cs i 0) (drop (i + 1) cs))
-next-condition below round attempt cs i s within = ap (λ l. if_each below round l attempt s) (front cs i within)
+next-condition below round attempt cs i s within = ap (λ l. if_each below round l attempt s) (prefix cs i within)
 
 -- a test that came out so
 pub if-so : {A : Type 0} (test : Bool) (x y : A) → test ≡ true → (if test then x else y) ≡ x

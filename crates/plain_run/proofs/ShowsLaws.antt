@@ -7,7 +7,7 @@ use Rattle.jm_base.specs.Outside.{Account, Goes}
 use Rattle.jm_base.proofs.RunLaws.{goes-append, goes-bind, goes-give, goes-nothing}
 use Rattle.jm_meaning.specs.declared.item.Item.{Item}
 use Rattle.jm_meaning.specs.declared.item.Item.TheVariants.{Paused}
-use Rattle.jm_meaning.specs.Meaning.{behind_pause}
+use Rattle.jm_meaning.specs.Meaning.{after_pause}
 use Rattle.jm_meaning.specs.Shown.{shown, Shows}
 
 unfoldable pub shows-append : {A : Type 0} {a b c : Account} {xs ys zs : List Item} {r s t : Run A} → Shows a xs r s ys b → Shows b ys s t zs c → Shows a xs r t zs c
@@ -32,10 +32,10 @@ shows-give a xs e r = record { events = e ∷ []; goes = goes-give a e r; items 
 
 -- a pause, and then the run
 pub paused_shows : (a b : Account) (xs ys : List Item) (ms : ℕ) → (ms ≡ 0 → ⊥) → Goes {A = Unit {0}} a (wait ms (over tt)) [] (over tt) b → ys ≡ xs ++ Paused ms ∷ []
-    → (run : Run (Unit {0})) → Shows a xs (behind_pause ms run) run ys b
+    → (run : Run (Unit {0})) → Shows a xs (after_pause ms run) run ys b
 paused_shows a b xs ys zero some g items run = absurd (some refl)
 paused_shows a b xs ys (suc ms) some g items run =
     rw items (shows-append (shows-quiet xs (goes-bind (λ u. give (Waited (suc ms)) run) g)) (shows-give b xs (Waited (suc ms)) run))
 
-pub no_pause : (a : Account) (xs : List Item) (ms : ℕ) → ms ≡ 0 → (run : Run (Unit {0})) → Shows a xs (behind_pause ms run) run xs a
+pub no_pause : (a : Account) (xs : List Item) (ms : ℕ) → ms ≡ 0 → (run : Run (Unit {0})) → Shows a xs (after_pause ms run) run xs a
 no_pause a xs ms none run = rw none (shows-nothing a xs run)

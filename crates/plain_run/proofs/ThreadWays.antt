@@ -18,7 +18,7 @@ use Rattle.jm_meaning.specs.State.{State, Part, normal}
 use Rattle.jm_meaning.specs.Beginning.{Options, max_rounds, first_of, set_first}
 use Rattle.jm_meaning.specs.Rounds.{rounds, group_turns, caught, round_of_group}
 use Rattle.jm_meaning.specs.Children.{in_order, children_of}
-use Rattle.jm_meaning.specs.Meaning.{meaning, group_part, group_meaning, here_at, failure_in, failure_of, signal_of, thread_part, events, end_of, and_end, behind_pause}
+use Rattle.jm_meaning.specs.Meaning.{meaning, group_part, group_meaning, here_at, failure_in, failure_of, signal_of, thread_part, events, end_of, and_end, after_pause}
 use Rattle.jm_meaning.specs.RampUp.{pause_of}
 use Rattle.jm_meaning.specs.Shown.{Shows}
 use Rattle.plain_run.specs.declared.progress.Progress.{Progress}
@@ -83,16 +83,16 @@ thread-stops {a} {p = p} plan group plays other =
 -- after its pause, its first variables and the rounds of its group the thread ends
 pub thread-shows : (plan : Tree) (thread group ms : ℕ) (options : Options) (a b d : Account) (xs : List Item) (p q : Progress) (signal : Signal) (end : End)
     → xs ≡ [] → group ≡ group_of plan thread → ms ≡ pause_of plan thread → state_in p ≡ first_of plan thread options
-    → ((run : Run (Unit {0})) → Shows a xs (behind_pause ms run) run p.items.items b)
+    → ((run : Run (Unit {0})) → Shows a xs (after_pause ms run) run p.items.items b)
     → Plays b p (thread_part plan group) signal q d → end ≡ end_of signal
     → Shows a [] (events plan thread options) (over tt) (q.items.items ++ EndedItem end ∷ []) d
 unfolding events
 thread-shows plan thread group ms options a b d xs p q signal end none is pause begun waited plays ends =
     let run : Run (Unit {0}) = and_end (thread_part plan (group_of plan thread) (first_of plan thread options)) in
-    let first : Shows a [] (behind_pause (pause_of plan thread) run) run p.items.items b =
-    subst (λ m. Shows a [] (behind_pause m run) run p.items.items b) pause (subst (λ l. Shows a l (behind_pause ms run) run p.items.items b) none (waited run)) in
+    let first : Shows a [] (after_pause (pause_of plan thread) run) run p.items.items b =
+    subst (λ m. Shows a [] (after_pause m run) run p.items.items b) pause (subst (λ l. Shows a l (after_pause ms run) run p.items.items b) none (waited run)) in
     let there : Shows b p.items.items (thread_part plan (group_of plan thread) (first_of plan thread options)) (over (ended q signal)) q.items.items d =
     subst (λ g. Shows b p.items.items (thread_part plan g (first_of plan thread options)) (over (ended q signal)) q.items.items d) is
     (subst (λ s. Shows b p.items.items (thread_part plan group s) (over (ended q signal)) q.items.items d) begun plays.tells.shows) in
-    subst (λ x. Shows a [] (behind_pause (pause_of plan thread) run) (over tt) (q.items.items ++ EndedItem x ∷ []) d) (sym ends)
+    subst (λ x. Shows a [] (after_pause (pause_of plan thread) run) (over tt) (q.items.items ++ EndedItem x ∷ []) d) (sym ends)
     (shows-append first (shows-append (shows-bind (λ e. give (Ended (end_of e.signal)) (over tt)) there) (shows-give d q.items.items (Ended (end_of signal)) (over tt))))

@@ -12,7 +12,7 @@ ghost use Rattle.std.specs.Prelude.{length, ◌<◌, ◌≡◌, [], ℕ, IfOk, O
 ghost use Rattle.jm_base.specs.Run.{Run, over};
 ghost use Rattle.element_tree.specs.Tree.{threads_of};
 ghost use Rattle.jm_meaning.specs.Beginning.{first_of};
-ghost use Rattle.jm_meaning.specs.Meaning.{events, end_of, behind_pause};
+ghost use Rattle.jm_meaning.specs.Meaning.{events, end_of, after_pause};
 ghost use Rattle.jm_meaning.specs.Shown.{Shows};
 
 use crate::group::run_thread;
@@ -73,7 +73,7 @@ fn first_user(alloc: Global, plan: &Plan, thread: u16, seed: u64, props: &Props)
 // A pause of that many milliseconds, where there is one.
 fn pause<O: Outside>(ms: u32, outside: &mut O, items: &mut Vec<Item>) -> M<()>
     ensures { OnOk result ((run : Run Unit) → Shows (O.account outside.old) items.old.items
-        (behind_pause ms run) run items.new.items (O.account outside.new)) }
+        (after_pause ms run) run items.new.items (O.account outside.new)) }
 {
     if ms > 0 {
         outside.pause(ms)?;

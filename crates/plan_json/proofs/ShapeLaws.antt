@@ -139,24 +139,24 @@ abbrev pub before_these : List Raw → Result Raws TreeError → Result Raws Tre
 before_these [] r = r
 before_these (x ∷ xs) r = before_these xs r >>= (λ rs. Ok (raw_then x rs))
 
-pub before_one : (front : List Raw) (here : List ℕ) (n : ℕ) (d : Data) (ds : Items) (x : Raw) → shape (here ++ n ∷ []) d ≡ Ok x
-    → before_these front (shapes here n (item d ds)) ≡ before_these (front ++ x ∷ []) (shapes here (n + 1) ds)
+pub before_one : (prefix : List Raw) (here : List ℕ) (n : ℕ) (d : Data) (ds : Items) (x : Raw) → shape (here ++ n ∷ []) d ≡ Ok x
+    → before_these prefix (shapes here n (item d ds)) ≡ before_these (prefix ++ x ∷ []) (shapes here (n + 1) ds)
 unfolding shape
 before_one [] here n d ds x e = rw e refl
-before_one (y ∷ front) here n d ds x e = ap (λ r. r >>= (λ rs. Ok (raw_then y rs))) (before_one front here n d ds x e)
+before_one (y ∷ prefix) here n d ds x e = ap (λ r. r >>= (λ rs. Ok (raw_then y rs))) (before_one prefix here n d ds x e)
 
-pub before_end : (front : List Raw) (here : List ℕ) (n : ℕ) → before_these front (shapes here n no_items) ≡ Ok (raws_of front)
+pub before_end : (prefix : List Raw) (here : List ℕ) (n : ℕ) → before_these prefix (shapes here n no_items) ≡ Ok (raws_of prefix)
 unfolding shape
 before_end [] here n = refl
-before_end (y ∷ front) here n = rw (before_end front here n) refl
+before_end (y ∷ prefix) here n = rw (before_end prefix here n) refl
 
-before_err : (front : List Raw) (r : Result Raws TreeError) (f : TreeError) → r ≡ Err f → before_these front r ≡ Err f
+before_err : (prefix : List Raw) (r : Result Raws TreeError) (f : TreeError) → r ≡ Err f → before_these prefix r ≡ Err f
 before_err [] r f e = e
-before_err (y ∷ front) r f e = rw (before_err front r f e) refl
+before_err (y ∷ prefix) r f e = rw (before_err prefix r f e) refl
 
-pub fault_in_list : (front : List Raw) (here : List ℕ) (n : ℕ) (d : Data) (ds : Items) (f : TreeError) → shape (here ++ n ∷ []) d ≡ Err f → before_these front (shapes here n (item d ds)) ≡ Err f
+pub fault_in_list : (prefix : List Raw) (here : List ℕ) (n : ℕ) (d : Data) (ds : Items) (f : TreeError) → shape (here ++ n ∷ []) d ≡ Err f → before_these prefix (shapes here n (item d ds)) ≡ Err f
 unfolding shape
-fault_in_list front here n d ds f e = before_err front _ f (rw e refl)
+fault_in_list prefix here n d ds f e = before_err prefix _ f (rw e refl)
 
 pub fails_along : {A B : Type 0} (e : TreeError) (r : Result A TreeError) (s : Result B TreeError) → Fails e r → ((f : TreeError) → r ≡ Err f → s ≡ Err f) → Fails e s
 fails_along errors.NoMemory r s h k = tt
@@ -170,25 +170,25 @@ fails_along (errors.UnknownKey path) r s h k = k _ h
 items_step : (vs : List Value) (i : ℕ) (v : Value) → i < length vs → v ≡ get_or vs i v → items_view (drop i vs) ≡ item (view v) (items_view (drop (i + 1) vs))
 items_step vs i v h is = rw add-one (ap items_view (drop-cons vs i v h) ∙ ap (λ w. item (view w) (items_view (drop (suc i) vs))) (sym is))
 
-module _ (here now : List ℕ) (vs : List Value) (i : ℕ) (v : Value) (front : List Raw) (h : i < length vs) (is : v ≡ get_or vs i v) (places : now ≡ here ++ i ∷ [])
-    (kept : before_these front (shapes here i (items_view (drop i vs))) ≡ shapes here 0 (items_view vs)) where
-  pub child_done : (x : Raw) → shape now (view v) ≡ Ok x → before_these (front ++ x ∷ []) (shapes here (i + 1) (items_view (drop (i + 1) vs))) ≡ shapes here 0 (items_view vs)
-  child_done x e = sym (before_one front here i (view v) _ x (ap (λ p. shape p (view v)) (sym places) ∙ e)) ∙ ap (λ ds. before_these front (shapes here i ds)) (sym (items_step vs i v h is)) ∙ kept
+module _ (here now : List ℕ) (vs : List Value) (i : ℕ) (v : Value) (prefix : List Raw) (h : i < length vs) (is : v ≡ get_or vs i v) (places : now ≡ here ++ i ∷ [])
+    (kept : before_these prefix (shapes here i (items_view (drop i vs))) ≡ shapes here 0 (items_view vs)) where
+  pub child_done : (x : Raw) → shape now (view v) ≡ Ok x → before_these (prefix ++ x ∷ []) (shapes here (i + 1) (items_view (drop (i + 1) vs))) ≡ shapes here 0 (items_view vs)
+  child_done x e = sym (before_one prefix here i (view v) _ x (ap (λ p. shape p (view v)) (sym places) ∙ e)) ∙ ap (λ ds. before_these prefix (shapes here i ds)) (sym (items_step vs i v h is)) ∙ kept
 
   pub child_fault : (d : Data) (f : TreeError) → option_map_or is_element (as_object d) false ≡ true → has_other_key (members_in d) ≡ false → items_view vs ≡ children_in (members_in d)
       → shape now (view v) ≡ Err f → shape here d ≡ Err f
   child_fault d f good known all e =
       let below : shapes here 0 (children_in (members_in d)) ≡ Err f =
-      ap (shapes here 0) (sym all) ∙ sym kept ∙ ap (λ ds. before_these front (shapes here i ds)) (items_step vs i v h is)
-      ∙ fault_in_list front here i (view v) _ f (ap (λ p. shape p (view v)) (sym places) ∙ e) in
+      ap (shapes here 0) (sym all) ∙ sym kept ∙ ap (λ ds. before_these prefix (shapes here i ds)) (items_step vs i v h is)
+      ∙ fault_in_list prefix here i (view v) _ f (ap (λ p. shape p (view v)) (sym places) ∙ e) in
       shape_good here d good known ∙ ap (λ r. r >>= (λ cs. Ok (element_of (members_in d) cs))) below
 
-pub all_done : (here : List ℕ) (vs : List Value) (i : ℕ) (front : List Raw) (d : Data) → length vs ≤ i → before_these front (shapes here i (items_view (drop i vs))) ≡ shapes here 0 (items_view vs)
+pub all_done : (here : List ℕ) (vs : List Value) (i : ℕ) (prefix : List Raw) (d : Data) → length vs ≤ i → before_these prefix (shapes here i (items_view (drop i vs))) ≡ shapes here 0 (items_view vs)
     → option_map_or is_element (as_object d) false ≡ true → has_other_key (members_in d) ≡ false → items_view vs ≡ children_in (members_in d)
-    → shape here d ≡ Ok (element_of (members_in d) (raws_of front))
-all_done here vs i front d h kept good known all =
-    let below : shapes here 0 (children_in (members_in d)) ≡ Ok (raws_of front) =
-    ap (shapes here 0) (sym all) ∙ sym kept ∙ ap (λ (ws : List Value). before_these front (shapes here i (items_view ws))) (drop_all i vs h) ∙ before_end front here i in
+    → shape here d ≡ Ok (element_of (members_in d) (raws_of prefix))
+all_done here vs i prefix d h kept good known all =
+    let below : shapes here 0 (children_in (members_in d)) ≡ Ok (raws_of prefix) =
+    ap (shapes here 0) (sym all) ∙ sym kept ∙ ap (λ (ws : List Value). before_these prefix (shapes here i (items_view ws))) (drop_all i vs h) ∙ before_end prefix here i in
     shape_good here d good known ∙ ap (λ r. r >>= (λ cs. Ok (element_of (members_in d) cs))) below
 
 pub own_gives : (r : Result RawElement TreeError) (here : List ℕ) (d : Data) (cs : List RawElement) → IsElement r (members_in d) cs → shape here d ≡ Ok (element_of (members_in d) (raws_of (map raw_view cs))) → Gives raw_view r (shape here d)
@@ -202,8 +202,8 @@ on_ok_same (Err e) p = tt
 sub_last : (n : ℕ) → n + 1 - 1 ≡ n
 sub_last n = omega arith
 
-pub popped : (all front : List ℕ) (y n : ℕ) → n ≡ length all → all ≡ front ++ y ∷ [] → take (n - 1) all ≡ front
-popped all front y n m e = rw (m, e) (rw (length-append front (y ∷ []), sub_last (length front)) (take-append_seam front (y ∷ [])))
+pub popped : (all prefix : List ℕ) (y n : ℕ) → n ≡ length all → all ≡ prefix ++ y ∷ [] → take (n - 1) all ≡ prefix
+popped all prefix y n m e = rw (m, e) (rw (length-append prefix (y ∷ []), sub_last (length prefix)) (take-append_seam prefix (y ∷ [])))
 
 -- ---- properties that are kept as objects
 

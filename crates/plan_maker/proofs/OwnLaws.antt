@@ -5,7 +5,7 @@ use Rattle.plan_json.specs.Place.{Place}
 use Rattle.plan_json.specs.Shape.{Raws, no_raws}
 use Rattle.template_text.specs.Pieces.{text, no_more}
 use Rattle.template_text.specs.Scan.{reading, pieces_from}
-use Rattle.element_props.specs.Rows.{template, replies}
+use Rattle.element_props.specs.FormRows.{template, replies}
 use Rattle.element_props.specs.Forms.{given}
 use Rattle.element_props.specs.Props.{prop_at, property, properties, own_properties}
 use Rattle.element_props.specs.Reads.{over}

@@ -1,7 +1,7 @@
 // Forms by their names in cases, and the rows of tables.
 
 ghost use Rattle.std.specs.Prelude.{◌≡◌, map, true};
-ghost use Rattle.element_props.specs.Rows.{are_short};
+ghost use Rattle.element_props.specs.FormRows.{are_short};
 ghost use Rattle.element_props.specs.Seen.{row_seen};
 
 use element_props::{Form, Presence, Row, Words};

@@ -126,7 +126,7 @@ fn tests_shown(
     )?)
 }
 
-/// A value behind the name of its kind.
+/// A value after the name of its kind.
 fn named(alloc: Global, kind: &str, value: String) -> anyhow::Result<String> {
     Ok(format!(in alloc; "{kind} {}", value.as_str())?)
 }

@@ -79,7 +79,7 @@ fn record(recorder: &Recorder, seat: &mut WriterSeat, count: u32)
     record_all::<Brand>(recorder, seat, count, Blank::new(1));
 }
 
-/// A writer's seat, with room behind it, so that two threads write to no common cache line.
+/// A writer's seat, with room after it, so that two threads write to no common cache line.
 #[derive(Drop)]
 struct Lane {
     seat: WriterSeat,

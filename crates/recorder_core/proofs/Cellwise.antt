@@ -5,11 +5,11 @@ use native.Mathlib.Decide.{ℕ_discrete}
 use Rattle.std.proofs.lemmas.List.{take_more_set, get_or_append_left, get_or-append-add}
 use Rattle.interval_tables.specs.declared.row.Row.{Row}
 use Rattle.interval_tables.specs.Rows.{no_samples}
-use Rattle.phaser_core.specs.declared.view.Closing.TheVariants.{Harvest}
-use Rattle.phaser_core.specs.declared.view.Reading.{Reading}
+use Rattle.phaser_core.specs.declared.view.ReporterStage.TheVariants.{Harvest}
+use Rattle.phaser_core.specs.declared.view.ReporterView.{ReporterView}
 use Rattle.phaser_core.specs.Cells.{row_from, rows_from, table_cells}
-use Rattle.phaser_core.specs.Moves.{gathered, gathered_if, holding}
-use Rattle.phaser_words.specs.Kinds.{HasCell, taken_in}
+use Rattle.phaser_core.specs.CoreMoves.{gathered, gathered_if, holding}
+use Rattle.phaser_words.specs.RecorderKinds.{HasCell, taken_in}
 use Rattle.recorder_core.specs.Stands.{closed_as}
 
 -- Rows
@@ -42,38 +42,38 @@ rows_taken rows l row cells more low long six before is =
 
 -- The reporter while it takes
 
-pub holding_is : (r : Reading) (l : List ℕ) (j : ℕ) → j < table_cells r.labels → gathered r l j ≡ holding r l j
+pub holding_is : (r : ReporterView) (l : List ℕ) (j : ℕ) → j < table_cells r.labels → gathered r l j ≡ holding r l j
 holding_is r l j low = ap (λ (b : Bool). gathered_if b r l j) (ne_eqb j (table_cells r.labels) (λ e. omega arith))
 
 -- before the next cell is taken nothing has changed
-pub gathered_none : (r : Reading) (j : ℕ) (l : List ℕ) → r.closing ≡ Harvest j → l ≡ r.cells → j < table_cells r.labels → gathered r l j ≡ r
+pub gathered_none : (r : ReporterView) (j : ℕ) (l : List ℕ) → r.closing ≡ Harvest j → l ≡ r.cells → j < table_cells r.labels → gathered r l j ≡ r
 gathered_none r j l is cells low =
     holding_is r l j low ∙ (λ i. record { labels = r.labels; interval = r.interval; closing = sym is i; joined = r.joined; ready = r.ready; cells = cells i; closed = r.closed; raised = r.raised })
 
-regather_if : (b : Bool) (r : Reading) (l : List ℕ) (j : ℕ) (l' : List ℕ) (j' : ℕ) → gathered_if b (holding r l j) l' j' ≡ gathered_if b r l' j'
+regather_if : (b : Bool) (r : ReporterView) (l : List ℕ) (j : ℕ) (l' : List ℕ) (j' : ℕ) → gathered_if b (holding r l j) l' j' ≡ gathered_if b r l' j'
 regather_if true r l j l' j' = refl
 regather_if false r l j l' j' = refl
 
 -- what is taken later is taken
-pub regather : (r : Reading) (l : List ℕ) (j : ℕ) (l' : List ℕ) (j' : ℕ) → gathered (holding r l j) l' j' ≡ gathered r l' j'
+pub regather : (r : ReporterView) (l : List ℕ) (j : ℕ) (l' : List ℕ) (j' : ℕ) → gathered (holding r l j) l' j' ≡ gathered r l' j'
 regather r l j l' j' = regather_if (j' == table_cells r.labels) r l j l' j'
 
 -- the next cell
-pub gathered_next : (r q : Reading) (l : List ℕ) (j x : ℕ) → q ≡ gathered r l j → j < table_cells r.labels → gathered q (q.cells ++ x ∷ []) (taken_in q.closing + 1) ≡ gathered r (l ++ x ∷ []) (j + 1)
-gathered_next r q l j x is low = ap (λ (z : Reading). gathered z (z.cells ++ x ∷ []) (taken_in z.closing + 1)) (is ∙ holding_is r l j low) ∙ regather r l j (l ++ x ∷ []) (j + 1)
+pub gathered_next : (r q : ReporterView) (l : List ℕ) (j x : ℕ) → q ≡ gathered r l j → j < table_cells r.labels → gathered q (q.cells ++ x ∷ []) (taken_in q.closing + 1) ≡ gathered r (l ++ x ∷ []) (j + 1)
+gathered_next r q l j x is low = ap (λ (z : ReporterView). gathered z (z.cells ++ x ∷ []) (taken_in z.closing + 1)) (is ∙ holding_is r l j low) ∙ regather r l j (l ++ x ∷ []) (j + 1)
 
 -- the next row
-pub gathered_row : (r q : Reading) (l more : List ℕ) (j : ℕ) → q ≡ gathered r l j → j < table_cells r.labels → gathered q (q.cells ++ more) (j + 6) ≡ gathered r (l ++ more) (j + 6)
-gathered_row r q l more j is low = ap (λ (z : Reading). gathered z (z.cells ++ more) (j + 6)) (is ∙ holding_is r l j low) ∙ regather r l j (l ++ more) (j + 6)
+pub gathered_row : (r q : ReporterView) (l more : List ℕ) (j : ℕ) → q ≡ gathered r l j → j < table_cells r.labels → gathered q (q.cells ++ more) (j + 6) ≡ gathered r (l ++ more) (j + 6)
+gathered_row r q l more j is low = ap (λ (z : ReporterView). gathered z (z.cells ++ more) (j + 6)) (is ∙ holding_is r l j low) ∙ regather r l j (l ++ more) (j + 6)
 
-pub harvests_at : (r q : Reading) (l : List ℕ) (j : ℕ) → q ≡ gathered r l j → j < table_cells r.labels → q.closing ≡ Harvest j
-harvests_at r q l j is low = ap (λ (z : Reading). z.closing) (is ∙ holding_is r l j low)
+pub harvests_at : (r q : ReporterView) (l : List ℕ) (j : ℕ) → q ≡ gathered r l j → j < table_cells r.labels → q.closing ≡ Harvest j
+harvests_at r q l j is low = ap (λ (z : ReporterView). z.closing) (is ∙ holding_is r l j low)
 
-pub cell_left : (labels j : ℕ) (q : Reading) → q.closing ≡ Harvest j → j < table_cells labels → HasCell labels q.closing
+pub cell_left : (labels j : ℕ) (q : ReporterView) → q.closing ≡ Harvest j → j < table_cells labels → HasCell labels q.closing
 cell_left labels j q is low = subst (HasCell labels) (sym is) low
 
 -- all cells of all rows
-pub gathered_all : (r q : Reading) (l : List ℕ) (rows : List Row) (j : ℕ) → q ≡ gathered r l j → j ≡ table_cells r.labels → rows ≡ rows_from r.labels (λ i. get_or l i 0) → q ≡ closed_as r (record { interval = r.interval; rows = rows })
+pub gathered_all : (r q : ReporterView) (l : List ℕ) (rows : List Row) (j : ℕ) → q ≡ gathered r l j → j ≡ table_cells r.labels → rows ≡ rows_from r.labels (λ i. get_or l i 0) → q ≡ closed_as r (record { interval = r.interval; rows = rows })
 gathered_all r q l rows j is all are =
     is ∙ ap (λ (b : Bool). gathered_if b r l j) (eq-eqb j (table_cells r.labels) all)
     ∙ ap (λ (x : List Row). closed_as r (record { interval = r.interval; rows = x })) (sym are)

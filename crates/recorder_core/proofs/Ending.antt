@@ -5,31 +5,31 @@ use Rattle.interval_tables.specs.declared.row.Row.{Row}
 use Rattle.interval_tables.specs.Rows.{sum_of, IsInBounds}
 use Rattle.interval_tables.proofs.Sums.{length-sum_of}
 use Rattle.phaser_core.specs.declared.view.Numbers.{Numbers}
-use Rattle.phaser_core.specs.declared.view.Reading.{Reading}
-use Rattle.phaser_core.specs.declared.view.Closing.TheVariants.{Idle}
+use Rattle.phaser_core.specs.declared.view.ReporterView.{ReporterView}
+use Rattle.phaser_core.specs.declared.view.ReporterStage.TheVariants.{Idle}
 use Rattle.phaser_core.specs.Cells.{rows_from, no_report}
 use Rattle.phaser_core.specs.Views.{joined_at, AllJoined}
 use Rattle.phaser_core.specs.Shares.{entries_in, Partition, SumsOfLists}
 use Rattle.phaser_core.proofs.CellSteps.{last_is}
-use Rattle.phaser_words.specs.Kinds.{lists_of, Recalled}
+use Rattle.phaser_words.specs.RecorderKinds.{lists_of, Recalled}
 use Rattle.recorder_core.specs.Stands.{closed_as}
 use Rattle.recorder_core.specs.Seats.{last_report, EndsWith}
 
 -- the last of the closed reports is in bounds, as each is
-pub harvested_bounds : (n : Numbers) (r s : Reading) (report : Report) → SumsOfLists n s → s ≡ closed_as r report → IsInBounds report.rows
+pub harvested_bounds : (n : Numbers) (r s : ReporterView) (report : Report) → SumsOfLists n s → s ≡ closed_as r report → IsInBounds report.rows
 harvested_bounds n r s report sums is =
     let told = subst (SumsOfLists n) is sums in
     let more : length (r.closed ++ report ∷ []) ≡ length r.closed + 1 = length-append r.closed (report ∷ []) in
     subst (λ (q : Report). IsInBounds q.rows) (last_is r.closed report no_report (length r.closed) refl) (told.bounds (length r.closed) (omega arith))
 
 -- the last report of a partition is that of the interval after those that are closed
-last_of_parts : (labels : ℕ) (r : Reading) (last : Report) → Partition labels (lists_of r.joined) (r.closed ++ last ∷ []) → last ≡ record { interval = length r.closed; rows = sum_of labels (entries_in (length r.closed) (lists_of r.joined)) }
+last_of_parts : (labels : ℕ) (r : ReporterView) (last : Report) → Partition labels (lists_of r.joined) (r.closed ++ last ∷ []) → last ≡ record { interval = length r.closed; rows = sum_of labels (entries_in (length r.closed) (lists_of r.joined)) }
 last_of_parts labels r last parted =
     let more : length (r.closed ++ last ∷ []) ≡ length r.closed + 1 = length-append r.closed (last ∷ []) in
     sym (last_is r.closed last no_report (length r.closed) refl) ∙ parted.sums (length r.closed) (omega arith)
 
 -- what all cells of the open interval make is its report
-pub ends_with : (n : Numbers) (r s : Reading) (last : Report) (rows : List Row) → r.labels ≡ n.labels → r.closing ≡ Idle → AllJoined r → s ≡ r → Recalled n s → rows ≡ rows_from n.labels (λ j. joined_at r.labels r.interval j r.joined)
+pub ends_with : (n : Numbers) (r s : ReporterView) (last : Report) (rows : List Row) → r.labels ≡ n.labels → r.closing ≡ Idle → AllJoined r → s ≡ r → Recalled n s → rows ≡ rows_from n.labels (λ j. joined_at r.labels r.interval j r.joined)
     → last ≡ record { interval = r.interval; rows = rows } → EndsWith n r last
 ends_with n r s last rows labels idle all same recalled are handed =
     let knows : Recalled n r = subst (Recalled n) same recalled in
@@ -51,14 +51,14 @@ ends_with n r s last rows labels idle all same recalled are handed =
     }
 
 -- the books show the report that is handed out as the last
-pub all_shown : (r s : Reading) (last : Report) → s ≡ r → last ≡ last_report r → s.closed ++ last_report s ∷ [] ≡ r.closed ++ last ∷ []
-all_shown r s last same is = ap (λ (q : Reading). q.closed ++ last_report q ∷ []) same ∙ ap (λ (q : Report). r.closed ++ q ∷ []) (sym is)
+pub all_shown : (r s : ReporterView) (last : Report) → s ≡ r → last ≡ last_report r → s.closed ++ last_report s ∷ [] ≡ r.closed ++ last ∷ []
+all_shown r s last same is = ap (λ (q : ReporterView). q.closed ++ last_report q ∷ []) same ∙ ap (λ (q : Report). r.closed ++ q ∷ []) (sym is)
 
-pub all_parted : (n : Numbers) (r s : Reading) (last : Report) → s ≡ r → EndsWith n r last → Partition n.labels (lists_of s.joined) (s.closed ++ last_report s ∷ [])
+pub all_parted : (n : Numbers) (r s : ReporterView) (last : Report) → s ≡ r → EndsWith n r last → Partition n.labels (lists_of s.joined) (s.closed ++ last_report s ∷ [])
 all_parted n r s last same ends =
-    subst (λ (q : Reading). Partition n.labels (lists_of q.joined) (s.closed ++ last_report s ∷ [])) (sym same)
+    subst (λ (q : ReporterView). Partition n.labels (lists_of q.joined) (s.closed ++ last_report s ∷ [])) (sym same)
     (subst (λ (all : List Report). Partition n.labels (lists_of r.joined) all) (sym (all_shown r s last same ends.is)) ends.parted)
 
-pub all_counted : (n : Numbers) (r s : Reading) (last : Report) (interval : ℕ) → s ≡ r → EndsWith n r last → interval ≡ s.interval → interval + 1 ≡ length (s.closed ++ last_report s ∷ [])
+pub all_counted : (n : Numbers) (r s : ReporterView) (last : Report) (interval : ℕ) → s ≡ r → EndsWith n r last → interval ≡ s.interval → interval + 1 ≡ length (s.closed ++ last_report s ∷ [])
 all_counted n r s last interval same ends opened =
-    ap (λ (k : ℕ). k + 1) (opened ∙ ap (λ (q : Reading). q.interval) same) ∙ sym ends.count ∙ ap (λ (all : List Report). length all) (sym (all_shown r s last same ends.is))
+    ap (λ (k : ℕ). k + 1) (opened ∙ ap (λ (q : ReporterView). q.interval) same) ∙ sym ends.count ∙ ap (λ (all : List Report). length all) (sym (all_shown r s last same ends.is))

@@ -3,12 +3,12 @@ use Rattle.std.specs.Prelude.{◌≡◌, ◌+◌, ◌<◌, Bool, true, false, Li
 use Rattle.interval_tables.specs.declared.report.Report.{Report}
 use Rattle.interval_tables.specs.Rows.{sum_of, IsInBounds}
 use Rattle.phaser_core.specs.declared.view.Numbers.{Numbers}
-use Rattle.phaser_core.specs.declared.view.Writing.{Writing}
-use Rattle.phaser_core.specs.declared.view.Reading.{Reading}
-use Rattle.phaser_core.specs.declared.view.Closing.TheVariants.{Waiting}
+use Rattle.phaser_core.specs.declared.view.WriterView.{WriterView}
+use Rattle.phaser_core.specs.declared.view.ReporterView.{ReporterView}
+use Rattle.phaser_core.specs.declared.view.ReporterStage.TheVariants.{Waiting}
 use Rattle.phaser_core.specs.Views.{AllJoined}
 use Rattle.phaser_core.specs.Shares.{entries_in, Partition}
-use Rattle.phaser_words.specs.Kinds.{lists_of}
+use Rattle.phaser_words.specs.RecorderKinds.{lists_of}
 use Rattle.phaser_words.specs.Seats.{writing, reading, numbers, IsWriterOf, IsReporterOf}
 use Rattle.recorder_core.specs.declared.places.Recorder.{Recorder}
 use Rattle.recorder_core.specs.declared.places.WriterSeat.{WriterSeat}
@@ -20,13 +20,13 @@ use Rattle.recorder_core.specs.declared.recorder.Poll.TheVariants.{Settled, NotY
 use Rattle.recorder_core.specs.Stands.{before}
 
 -- what a writer knows, what the reporter knows, and what it knew when it began to close the interval
-abbrev pub writes : WriterSeat → Writing
+abbrev pub writes : WriterSeat → WriterView
 writes s = writing s.words
 
-abbrev pub reports : ReporterSeat → Reading
+abbrev pub reports : ReporterSeat → ReporterView
 reports s = reading s.words
 
-abbrev pub closes : Closing → Reading
+abbrev pub closes : Closing → ReporterView
 closes c = before c.settled (reading c.words)
 
 abbrev pub is_settled : Closing → Bool
@@ -47,16 +47,16 @@ abbrev pub IsClosing : Recorder → Closing → Type 0
 IsClosing r c = IsReporterOf r.words c.words
 
 -- A poll that settled says so from then on. One that did not found less than it waits for, changed nothing, and some writer is not joined.
-abbrev pub IsPoll : Reading → Poll → Reading → Bool → Type 0
+abbrev pub IsPoll : ReporterView → Poll → ReporterView → Bool → Type 0
 IsPoll r Settled s settled = settled ≡ true
 IsPoll r (NotYet seen want) s settled = (settled ≡ false) × (s ≡ r) × (r.closing ≡ Waiting want) × (seen < want) × ¬ (AllJoined r)
 
 -- what the reporter knew at the end: every writer's list and marks, its own mark, and every report but the last
-abbrev pub books_of : Books → Reading
+abbrev pub books_of : Books → ReporterView
 books_of b = reading b.seat
 
 -- the report of the interval that is open: it sums what joined writers recorded in it
-abbrev pub last_report : Reading → Report
+abbrev pub last_report : ReporterView → Report
 last_report r = record { interval = r.interval; rows = sum_of r.labels (entries_in r.interval (lists_of r.joined)) }
 
 -- every report, with that of the interval that was open at the end as the last
@@ -64,7 +64,7 @@ abbrev pub all_reports_of : Books → List Report
 all_reports_of b = (books_of b).closed ++ last_report (books_of b) ∷ []
 
 -- The report is that of the open interval, and with it the closed ones count each entry of the joined lists in exactly one report.
-pub record EndsWith (n : Numbers) (r : Reading) (last : Report) : Type 0 where
+pub record EndsWith (n : Numbers) (r : ReporterView) (last : Report) : Type 0 where
   pub is : last ≡ last_report r
   pub parted : Partition n.labels (lists_of r.joined) (r.closed ++ last ∷ [])
   pub count : length (r.closed ++ last ∷ []) ≡ r.interval + 1

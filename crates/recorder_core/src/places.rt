@@ -1,6 +1,6 @@
 //! The recorder and its seats, each with what is always true of it.
 ghost use Rattle.std.specs.Prelude.{◌≡◌, ◌<◌, ◌≤◌, length, true};
-ghost use Rattle.phaser_core.specs.declared.view.Closing.TheVariants.{Idle};
+ghost use Rattle.phaser_core.specs.declared.view.ReporterStage.TheVariants.{Idle};
 ghost use Rattle.phaser_core.specs.declared.view.Stage.TheVariants.{Out};
 ghost use Rattle.phaser_core.specs.Views.{made_known};
 ghost use Rattle.phaser_words.specs.Seats.{writing, reading};

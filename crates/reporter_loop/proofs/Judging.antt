@@ -5,12 +5,12 @@ use Rattle.std.specs.Io.KnownBytes.{Appends}
 use Rattle.std.proofs.KnownBytes.{Appends-nil}
 use Rattle.interval_tables.specs.declared.report.Report.{Report}
 use Rattle.interval_tables.specs.Rows.{IsInBounds}
-use Rattle.phaser_core.specs.declared.view.Reading.{Reading}
-use Rattle.phaser_core.specs.Moves.{or}
+use Rattle.phaser_core.specs.declared.view.ReporterView.{ReporterView}
+use Rattle.phaser_core.specs.CoreMoves.{or}
 use Rattle.recorder_core.specs.Stands.{closed_as}
 use Rattle.interval_reporter.specs.Judged.{errors_of}
 use Rattle.reporter_loop.specs.Reported.{raised_if, judged, any_over, AllInBounds, Reported}
-use Rattle.reporter_loop.specs.Written.{texts_of, AreNumbered, AppendsPrefix, WritesPrefix}
+use Rattle.reporter_loop.specs.ReportsWritten.{texts_of, AreNumbered, AppendsPrefix, WritesPrefix}
 use Rattle.reporter_loop.proofs.Numbers.{numbers_more}
 use Rattle.reporter_loop.proofs.Texts.{written_more, prefix_more}
 
@@ -44,7 +44,7 @@ pub quiet : (limit : ℕ) (xs : List Report) → limit ≡ 2 ^ 64 - 1 → AllInB
 quiet limit [] most all = refl
 quiet limit (x ∷ xs) most all = ap (λ b. or b (any_over limit xs)) (not_over (nat_lt limit (errors_of x)) limit (errors_of x) refl all.0.errors most) ∙ quiet limit xs most all.1
 
-module _ (text : Report → List ℕ) (limit : ℕ) (r : Reading) (x : Report) (old new after : Option (List ℕ)) (h : Reported text limit r old new) (number : x.interval ≡ r.interval) where
+module _ (text : Report → List ℕ) (limit : ℕ) (r : ReporterView) (x : Report) (old new after : Option (List ℕ)) (h : Reported text limit r old new) (number : x.interval ≡ r.interval) where
   count_more : length (r.closed ++ x ∷ []) ≡ r.interval + 1
   count_more = let l : length (r.closed ++ x ∷ []) ≡ length r.closed + 1 = length-append r.closed (x ∷ []) in let c : length r.closed ≡ r.interval = h.count in omega arith
 
@@ -74,17 +74,17 @@ module _ (text : Report → List ℕ) (limit : ℕ) (r : Reading) (x : Report) (
       raised = h.raised ∙ sym (any_snoc limit r.closed x ∙ or_comm (any_over limit r.closed) (nat_lt limit (errors_of x)) ∙ ap (λ b. or b (any_over limit r.closed)) is);
     }
 
-    pub reported_more : (s : Reading) → s ≡ judged limit r x → Reported text limit s old after
-    reported_more s is = subst (λ (q : Reading). Reported text limit q old after) (sym is) (more_if (nat_lt limit (errors_of x)) refl)
+    pub reported_more : (s : ReporterView) → s ≡ judged limit r x → Reported text limit s old after
+    reported_more s is = subst (λ (q : ReporterView). Reported text limit q old after) (sym is) (more_if (nat_lt limit (errors_of x)) refl)
 
-interval_if : (b : Bool) (r : Reading) (x : Report) → (raised_if b (closed_as r x)).interval ≡ r.interval + 1
+interval_if : (b : Bool) (r : ReporterView) (x : Report) → (raised_if b (closed_as r x)).interval ≡ r.interval + 1
 interval_if true r x = refl
 interval_if false r x = refl
 
-pub interval_more : (limit : ℕ) (r s : Reading) (x : Report) → s ≡ judged limit r x → s.interval ≡ r.interval + 1
-interval_more limit r s x is = ap (λ (q : Reading). q.interval) is ∙ interval_if (nat_lt limit (errors_of x)) r x
+pub interval_more : (limit : ℕ) (r s : ReporterView) (x : Report) → s ≡ judged limit r x → s.interval ≡ r.interval + 1
+interval_more limit r s x is = ap (λ (q : ReporterView). q.interval) is ∙ interval_if (nat_lt limit (errors_of x)) r x
 
-pub reported_none : (text : Report → List ℕ) (limit : ℕ) (r : Reading) (old : Option (List ℕ)) → r.closed ≡ [] → r.interval ≡ 0 → r.raised ≡ false → Reported text limit r old old
+pub reported_none : (text : Report → List ℕ) (limit : ℕ) (r : ReporterView) (old : Option (List ℕ)) → r.closed ≡ [] → r.interval ≡ 0 → r.raised ≡ false → Reported text limit r old old
 reported_none text limit r old none first unraised = record {
   written = subst (λ (l : List Report). Appends old old (texts_of text l)) (sym none) (Appends-nil old);
   numbered = subst AreNumbered (sym none) refl;
@@ -102,7 +102,7 @@ pub not_over_is : (limit errors : ℕ) → (limit < errors → ⊥) → nat_lt l
 not_over_is limit errors low = grind (arith, nat_tests)
 
 -- the same reports, interval and mark
-pub reported_same : (text : Report → List ℕ) (limit : ℕ) (r s : Reading) (old new : Option (List ℕ)) → s.interval ≡ r.interval → s.closed ≡ r.closed → s.raised ≡ r.raised → Reported text limit r old new → Reported text limit s old new
+pub reported_same : (text : Report → List ℕ) (limit : ℕ) (r s : ReporterView) (old new : Option (List ℕ)) → s.interval ≡ r.interval → s.closed ≡ r.closed → s.raised ≡ r.raised → Reported text limit r old new → Reported text limit s old new
 reported_same text limit r s old new interval closed raised h = record {
   written = subst (λ (rs : List Report). Appends old new (texts_of text rs)) (sym closed) h.written;
   numbered = subst AreNumbered (sym closed) h.numbered;

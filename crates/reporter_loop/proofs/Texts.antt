@@ -5,7 +5,7 @@ use Rattle.std.proofs.Math.Seq.{take-append-add}
 use Rattle.std.proofs.lemmas.List.{append-nil}
 use Rattle.std.proofs.KnownBytes.{Appends-nil, Appends-trans}
 use Rattle.interval_tables.specs.declared.report.Report.{Report}
-use Rattle.reporter_loop.specs.Written.{texts_of, AreNumbered, AppendsPrefix, WritesPrefix}
+use Rattle.reporter_loop.specs.ReportsWritten.{texts_of, AreNumbered, AppendsPrefix, WritesPrefix}
 use Rattle.reporter_loop.proofs.Numbers.{numbers_more}
 
 pub texts_snoc : (text : Report → List ℕ) (xs : List Report) (x : Report) → texts_of text (xs ++ x ∷ []) ≡ texts_of text xs ++ text x

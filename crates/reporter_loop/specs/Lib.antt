@@ -1,4 +1,4 @@
 pub mod Failing
 pub mod Reported
 pub mod Ticked
-pub mod Written
+pub mod ReportsWritten

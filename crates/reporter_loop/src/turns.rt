@@ -8,13 +8,13 @@ ghost use Rattle.interval_tables.specs.Rows.{IsInBounds};
 ghost use Rattle.output_lines.specs.Reports.{report_text};
 ghost use Rattle.jm_base.specs.Totals.{one_if};
 ghost use Rattle.outside_world.specs.Tickers.{answered};
-ghost use Rattle.phaser_core.specs.declared.view.Reading.{Reading};
+ghost use Rattle.phaser_core.specs.declared.view.ReporterView.{ReporterView};
 ghost use Rattle.recorder_core.specs.Seats.{reports, numbers_of, IsReporter};
 ghost use Rattle.interval_reporter.specs.Judged.{Keeps, errors_of};
 ghost use Rattle.reporter_loop.specs.Failing.{IsCause};
 ghost use Rattle.reporter_loop.specs.Reported.{Reported, judged, raised_if};
 ghost use Rattle.reporter_loop.specs.Ticked.{HasTickedWhere};
-ghost use Rattle.reporter_loop.specs.Written.{AppendsPrefix, WritesPrefix};
+ghost use Rattle.reporter_loop.specs.ReportsWritten.{AppendsPrefix, WritesPrefix};
 
 use crate::error::RunError;
 use crate::rules::Rules;

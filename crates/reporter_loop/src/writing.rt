@@ -5,7 +5,7 @@ ghost use Rattle.std.specs.Io.KnownBytes.{Appends};
 ghost use Rattle.element_tree.specs.Names.{labels_of};
 ghost use Rattle.interval_tables.specs.Rows.{IsInBounds};
 ghost use Rattle.output_lines.specs.Reports.{report_text};
-ghost use Rattle.reporter_loop.specs.Written.{AppendsPrefix};
+ghost use Rattle.reporter_loop.specs.ReportsWritten.{AppendsPrefix};
 ghost use Rattle.reporter_loop.specs.Failing.{IsCause};
 
 use crate::error::RunError;

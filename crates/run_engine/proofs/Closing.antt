@@ -5,8 +5,8 @@ use Rattle.element_tree.specs.Tree.{Tree}
 use Rattle.jm_meaning.specs.Beginning.{Options}
 use Rattle.thread_machine.specs.declared.trace.TraceItem.{TraceItem}
 use Rattle.phaser_core.specs.declared.view.Joined.{Joined}
-use Rattle.phaser_core.specs.declared.view.Reading.{Reading}
-use Rattle.phaser_words.specs.Kinds.{lists_of}
+use Rattle.phaser_core.specs.declared.view.ReporterView.{ReporterView}
+use Rattle.phaser_words.specs.RecorderKinds.{lists_of}
 use Rattle.recorder_core.specs.declared.places.Recorder.{Recorder}
 use Rattle.recorder_core.specs.Seats.{numbers_of}
 use Rattle.run_engine.specs.declared.job.Job.{Job}
@@ -17,7 +17,7 @@ use Rattle.run_engine.specs.Paired.{pairs_of}
 use Rattle.run_engine.proofs.Joining.{lists_are, len_map, keep_done, ends_done, marks_done}
 
 module _ {O : Type 0} (js : List (Job O)) (traces : List (List TraceItem)) (traces_are : traces ≡ map trace_of js) where
-  pub lists_so : (s : Reading) → s.joined ≡ map joined_of js → lists_of s.joined ≡ pairs_of traces
+  pub lists_so : (s : ReporterView) → s.joined ≡ map joined_of js → lists_of s.joined ≡ pairs_of traces
   lists_so s is = ap lists_of is ∙ lists_are js ∙ ap pairs_of (sym traces_are)
 
   module _ (account : O → Account) (r : Recorder) (plan : Tree) (options : Options) (identity : ℕ) (tells : Bool) (count : ℕ)
@@ -25,7 +25,7 @@ module _ {O : Type 0} (js : List (Job O)) (traces : List (List TraceItem)) (trac
     pub keep_so : AllKeep (numbers_of r).labels (numbers_of r).budget (pairs_of traces)
     keep_so = subst (λ (ts : List (List TraceItem)). AllKeep (numbers_of r).labels (numbers_of r).budget (pairs_of ts)) (sym traces_are) (keep_done account r plan options identity tells count js all len)
 
-    pub marks_so : (s : Reading) → s.joined ≡ map joined_of js → AllMarked s.joined traces
+    pub marks_so : (s : ReporterView) → s.joined ≡ map joined_of js → AllMarked s.joined traces
     marks_so s is =
         subst (λ (ts : List (List TraceItem)). AllMarked s.joined ts) (sym traces_are)
         (subst (λ (gone : List Joined). AllMarked gone (map trace_of js)) (sym is) (marks_done account r plan options identity tells count js all len))

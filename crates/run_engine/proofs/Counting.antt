@@ -21,7 +21,7 @@ use Rattle.run_engine.proofs.Traces.{pairs_snoc}
 abbrev entries : List Pair → List Entry
 entries l = map (λ (x : Pair). x.1) l
 
--- ---- fronts of what is counted
+-- ---- prefixes of what is counted
 
 all_snoc : (ls : List (List Pair)) (l : List Pair) → all_entries (ls ++ l ∷ []) ≡ all_entries ls ++ entries l
 all_snoc [] l = append-nil (entries l)
@@ -63,10 +63,10 @@ one_item traces place items i item low is =
     ∙ ap (λ es. counted traces place ++ es) (map-append (λ (x : Pair). x.1) (pairs (take i items)) (pairs_in item))
     ∙ sym (append_assoc (counted traces place) (entries (pairs (take i items))) (entries (pairs_in item)))
 
--- it is a front of all
-record Front (front all : List Entry) : Type 0 where
+-- it is a prefix of all
+record Front (prefix all : List Entry) : Type 0 where
   rest : List Entry
-  is : all ≡ front ++ rest
+  is : all ≡ prefix ++ rest
 
 front_traces : (traces : List (List TraceItem)) (place : ℕ) → Front (counted traces place) (all_entries (pairs_of traces))
 front_traces traces place = record {
@@ -101,11 +101,11 @@ small_front : (l m : List Entry) → AllSmallEntries (l ++ m) → AllSmallEntrie
 small_front [] m h = tt
 small_front (x ∷ xs) m h = (h.0, h.1, small_front xs m h.2)
 
-counts_front : (labels most : ℕ) (front all : List Entry) → Front front all → CanCount labels most all → CanCount labels most front
-counts_front labels most front all f c =
+counts_front : (labels most : ℕ) (prefix all : List Entry) → Front prefix all → CanCount labels most all → CanCount labels most prefix
+counts_front labels most prefix all f c =
     let d = subst (CanCount labels most) f.is c in
-    let few : length (front ++ f.rest) ≤ most = d.few in let long : length (front ++ f.rest) ≡ length front + length f.rest = length-append front f.rest in
-    record { labelled = labels_front labels front f.rest d.labelled; small = small_front front f.rest d.small; few = omega arith }
+    let few : length (prefix ++ f.rest) ≤ most = d.few in let long : length (prefix ++ f.rest) ≡ length prefix + length f.rest = length-append prefix f.rest in
+    record { labelled = labels_front labels prefix f.rest d.labelled; small = small_front prefix f.rest d.small; few = omega arith }
 
 -- ---- from item to item
 

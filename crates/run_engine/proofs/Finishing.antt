@@ -11,7 +11,7 @@ use Rattle.thread_machine.specs.Follows.{Follows, HasRun}
 use Rattle.recorder_core.specs.declared.places.Recorder.{Recorder}
 use Rattle.run_engine.specs.declared.job.Job.{Job}
 use Rattle.run_engine.specs.Followed.{EndsWith, FollowsWhere}
-use Rattle.run_engine.specs.Ran.{SameOutside, RunsToEnd, JobRan, AllRan}
+use Rattle.run_engine.specs.JobsRan.{SameOutside, RunsToEnd, JobRan, AllRan}
 use Rattle.run_engine.specs.Made.{IsFresh, AllFresh}
 use Rattle.run_engine.specs.Joins.{IsDone, AllDone}
 

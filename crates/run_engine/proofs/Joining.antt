@@ -5,9 +5,9 @@ use Rattle.jm_base.specs.Outside.{Account}
 use Rattle.element_tree.specs.Tree.{Tree}
 use Rattle.jm_meaning.specs.Beginning.{Options}
 use Rattle.thread_machine.specs.declared.trace.TraceItem.{TraceItem}
-use Rattle.phaser_core.specs.declared.view.Reading.{Reading}
+use Rattle.phaser_core.specs.declared.view.ReporterView.{ReporterView}
 use Rattle.phaser_core.specs.Views.{made_known, AllJoined}
-use Rattle.phaser_words.specs.Kinds.{lists_of}
+use Rattle.phaser_words.specs.RecorderKinds.{lists_of}
 use Rattle.recorder_core.specs.declared.places.Recorder.{Recorder}
 use Rattle.recorder_core.specs.Seats.{writes, numbers_of}
 use Rattle.run_engine.specs.declared.job.Job.{Job}
@@ -62,7 +62,7 @@ module _ {O : Type 0} where
 
   module _ (account : O → Account) (r : Recorder) (plan : Tree) (options : Options) (identity : ℕ) (tells : Bool) (count : ℕ) (js : List (Job O))
       (all : AllDone account r plan options identity tells count js) (len : length js ≡ count) where
-    pub all_joined : (s : Reading) → 0 < count → s.joined ≡ map joined_of js → AllJoined s
+    pub all_joined : (s : ReporterView) → 0 < count → s.joined ≡ map joined_of js → AllJoined s
     all_joined s some is =
         let made : made_known s.joined ≡ count = ap made_known is ∙ some_made js count (omega arith) (λ i d low. (all i d low).made) in
         let many : length s.joined ≡ length js = ap length is ∙ len_map joined_of js in (omega arith, omega arith)

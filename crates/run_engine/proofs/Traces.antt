@@ -20,7 +20,7 @@ use Rattle.thread_machine.proofs.Labels.{label_within}
 use Rattle.run_engine.specs.Followed.{EndsWith}
 use Rattle.run_engine.specs.Marks.{is_stopped}
 use Rattle.run_engine.specs.Paired.{pairs_in, pairs}
-use Rattle.run_engine.specs.Ran.{SameOutside}
+use Rattle.run_engine.specs.JobsRan.{SameOutside}
 
 -- ---- the outside
 

@@ -6,7 +6,7 @@ use Rattle.jm_meaning.specs.Beginning.{Options}
 use Rattle.thread_machine.specs.declared.trace.TraceItem.{TraceItem}
 use Rattle.thread_machine.specs.Bare.{IsLabelled}
 use Rattle.phaser_core.specs.declared.view.Joined.{Joined}
-use Rattle.phaser_core.specs.declared.view.Reading.{Reading}
+use Rattle.phaser_core.specs.declared.view.ReporterView.{ReporterView}
 use Rattle.phaser_core.specs.Views.{Pair, left_of}
 use Rattle.recorder_core.specs.declared.places.Recorder.{Recorder}
 use Rattle.recorder_core.specs.Seats.{writes, numbers_of, IsWriter}
@@ -27,7 +27,7 @@ abbrev pub number_of : {O : Type 0} → Job O → ℕ
 number_of j = j.number
 
 -- the reporter is as before but for the joined writers
-pub record OnlyJoined (r s : Reading) : Type 0 where
+pub record OnlyJoined (r s : ReporterView) : Type 0 where
   pub interval : s.interval ≡ r.interval
   pub closed : s.closed ≡ r.closed
   pub raised : s.raised ≡ r.raised

@@ -5,5 +5,5 @@ pub mod Keeps
 pub mod Made
 pub mod Marks
 pub mod Paired
-pub mod Ran
+pub mod JobsRan
 pub mod Served

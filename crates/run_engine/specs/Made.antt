@@ -9,7 +9,7 @@ use Rattle.recorder_core.specs.declared.places.Recorder.{Recorder}
 use Rattle.recorder_core.specs.declared.places.WriterSeat.{WriterSeat}
 use Rattle.recorder_core.specs.Seats.{writes, IsWriter}
 use Rattle.run_engine.specs.declared.job.Job.{Job}
-use Rattle.run_engine.specs.Ran.{CanRun}
+use Rattle.run_engine.specs.JobsRan.{CanRun}
 
 -- how many writers were made, as the one of this number knows it
 abbrev pub made_at : ℕ → ℕ → ℕ

@@ -8,8 +8,8 @@ ghost use Rattle.interval_reporter.specs.Judged.{Keeps};
 ghost use Rattle.reporter_loop.specs.Failing.{IsCause};
 ghost use Rattle.reporter_loop.specs.Reported.{Reported};
 ghost use Rattle.reporter_loop.specs.Ticked.{HasTickedWhere};
-ghost use Rattle.reporter_loop.specs.Written.{WritesPrefix};
-ghost use Rattle.run_engine.specs.Ran.{CanRun, AllRan};
+ghost use Rattle.reporter_loop.specs.ReportsWritten.{WritesPrefix};
+ghost use Rattle.run_engine.specs.JobsRan.{CanRun, AllRan};
 ghost use denote.Param.Send.{IsSync, IsSend};
 
 use crate::job::Job;

@@ -7,11 +7,11 @@ ghost use Rattle.interval_tables.specs.Rows.{sum_of, IsInBounds};
 ghost use Rattle.output_lines.specs.Reports.{report_text};
 ghost use Rattle.phaser_core.specs.Shares.{Partition};
 ghost use Rattle.phaser_core.specs.Views.{AllJoined};
-ghost use Rattle.phaser_words.specs.Kinds.{lists_of};
+ghost use Rattle.phaser_words.specs.RecorderKinds.{lists_of};
 ghost use Rattle.recorder_core.specs.Seats.{reports, numbers_of, books_of, all_reports_of, IsReporter};
 ghost use Rattle.reporter_loop.specs.Failing.{IsCause};
 ghost use Rattle.reporter_loop.specs.Reported.{Reported};
-ghost use Rattle.reporter_loop.specs.Written.{texts_of, WritesPrefix};
+ghost use Rattle.reporter_loop.specs.ReportsWritten.{texts_of, WritesPrefix};
 ghost use Rattle.run_engine.specs.Keeps.{AllKeep, all_entries};
 ghost use Rattle.run_engine.specs.Paired.{pairs_of};
 

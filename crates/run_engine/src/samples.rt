@@ -12,7 +12,7 @@ ghost use Rattle.run_engine.specs.Keeps.{KeepsTo};
 ghost use Rattle.run_engine.specs.Paired.{pairs};
 ghost use Rattle.run_engine.specs.Followed.{EndsWith};
 ghost use Rattle.run_engine.specs.Marks.{SameMarks, is_stopped};
-ghost use Rattle.run_engine.specs.Ran.{SameOutside, RunsToEnd};
+ghost use Rattle.run_engine.specs.JobsRan.{SameOutside, RunsToEnd};
 
 use jm_base::{End, Entry, Outside};
 use recorder_core::{Recorder, Steps, WriterSeat};

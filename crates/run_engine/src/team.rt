@@ -3,7 +3,7 @@
 ghost use Rattle.std.specs.Prelude.{All, ◌≡◌, ◌<◌, ℕ, false, length, slice_index_or};
 ghost use Rattle.recorder_core.specs.Seats.{writes, IsWriter};
 ghost use Rattle.run_engine.specs.Marks.{is_stop_test};
-ghost use Rattle.run_engine.specs.Ran.{CanRun, JobRan};
+ghost use Rattle.run_engine.specs.JobsRan.{CanRun, JobRan};
 
 use crate::job::Job;
 use crate::samples::run_samples;

@@ -217,11 +217,11 @@ unfolding first_of
 first_named n u x h e =
     let inner : List ℕ = n ++ x ∷ u in
     let long : name_length inner ≡ length n = name_length-append n u x h e in
-    let front : take (name_length inner) inner ≡ n = ap (λ k. take k inner) long ∙ take-append_seam n (x ∷ u) in
+    let prefix : take (name_length inner) inner ≡ n = ap (λ k. take k inner) long ∙ take-append_seam n (x ∷ u) in
     let back : drop (name_length inner) inner ≡ x ∷ u = ap (λ k. drop k inner) long ∙ drop-append_seam n (x ∷ u) in
     let places : drop (name_length inner) (drop 1 (table (123 ∷ inner))) ≡ table (x ∷ u) =
     ap (drop (name_length inner)) (table_drop 1 (123 ∷ inner)) ∙ (table_drop (name_length inner) inner ∙ ap table back) in
-    ap (λ w. named w (drop (name_length inner) inner) (drop (name_length inner) (drop 1 (table (123 ∷ inner))))) front
+    ap (λ w. named w (drop (name_length inner) inner) (drop (name_length inner) (drop 1 (table (123 ∷ inner))))) prefix
     ∙ (ap (λ w. named n w (drop (name_length inner) (drop 1 (table (123 ∷ inner))))) back ∙ ap (named n (x ∷ u)) places)
 
 complete_variable : (n u : List ℕ) → IsName is_name_byte n → first_at (36 ∷ 123 ∷ (n ++ 125 ∷ u)) ≡ Some (variable n)

@@ -22,7 +22,7 @@ use Rattle.thread_machine.specs.Bare.{bare}
 use Rattle.thread_machine.specs.Standing.{Standing, rest, IsAtStart, owed_items, Stands}
 use Rattle.thread_machine.specs.declared.step.Step.{Step}
 use Rattle.thread_machine.specs.declared.step.Step.TheVariants.{Sampled as StepSampled, Null as StepNull, Enter as StepEnter, Leave as StepLeave, Ended as StepEnded}
-use Rattle.thread_machine.specs.SoFar.{StandsBehind, ShowsAFront}
+use Rattle.thread_machine.specs.SoFar.{StandsAfter, ShowsAPrefix}
 use Rattle.thread_machine.specs.Stepped.{HasPaused, Begins, Gives, Steps, GivesSample, GivesNone, IsOver, Ends}
 use Rattle.thread_machine.specs.Follows.{FollowsWhole, Follows, HasRun}
 
@@ -50,10 +50,10 @@ module _ (start now : Account) (run : Run (Unit {0})) (items : List Item) (ran :
       let m' : MatchOption (Some v) (now.value ≡ None) (λ v. (w : Scripts) × (now.value ≡ Some w) × Replays script_form v ran.goes.heard w) = rw is at m in
       (m'.0, path-value script_form ran.goes.path v m'.0 m'.2)
 
-follows : (start now : Account) (plan : Tree) (thread : ℕ) (options : Options) (trace front : List TraceItem) (end : End) → trace ≡ front ++ TracedEnd end ∷ []
+follows : (start now : Account) (plan : Tree) (thread : ℕ) (options : Options) (trace prefix : List TraceItem) (end : End) → trace ≡ prefix ++ TracedEnd end ∷ []
     → Ran start now (events plan thread options) (bare trace) → Follows start now plan thread options trace end
-follows start now plan thread options trace front end last ran = record {
-  last = (front, last);
+follows start now plan thread options trace prefix end last ran = record {
+  last = (prefix, last);
   told = λ nothing. (ran.goes.heard, told_all nothing, over_list);
   scripted = λ v is. record {
     items = ap (λ g. map shown g.events) (given_scripts start now _ _ ran v is).1 ∙ shown_all start now _ _ ran;
@@ -166,8 +166,8 @@ pub noted_is : (interval : ℕ) (old new : Standing) (sample : Sample) → old.o
 noted_is interval old new sample owed h = rw owed at h
 
 -- until it has ended, what a thread shows is a prefix of its events over what was told
-pub shows_a_front : ShowsAFront
-shows_a_front start now options w stands nothing =
+pub shows_a_prefix : ShowsAPrefix
+shows_a_prefix start now options w stands nothing =
     let run : Run (Unit {0}) = events w.plan w.thread options in
     let heard = stands.goes.heard in
     let tail : List Event = (over_value list_form (rest w) []).events in
@@ -215,7 +215,7 @@ stands_begun start now later options w new none h stands = elim h [
 
 -- a step, whatever it answers
 gives_behind : (start now later : Account) (options : Options) (w new : Standing) (step : Step) → w.owed ≡ None → Gives now later (rest w) w new step
-    → Stands start now options w → StandsBehind start later options w new step
+    → Stands start now options w → StandsAfter start later options w new step
 gives_behind start now later options w new (StepSampled entry) none s stands = stands_sample start now later options w new stands none entry s
 gives_behind start now later options w new StepNull none s stands = stands_none start now later options w new stands none s
 gives_behind start now later options w new (StepEnter lock) none s stands = absurd s
@@ -223,16 +223,16 @@ gives_behind start now later options w new (StepLeave lock) none s stands = absu
 gives_behind start now later options w new (StepEnded end) none s stands = has_run start now later options w new stands none end s
 
 -- the answer speaks of the thread alone
-behind_same : (start later : Account) (options : Options) (w between new : Standing) (step : Step) → BegunOn w between → StandsBehind start later options between new step → StandsBehind start later options w new step
+behind_same : (start later : Account) (options : Options) (w between new : Standing) (step : Step) → BegunOn w between → StandsAfter start later options between new step → StandsAfter start later options w new step
 behind_same start later options w between new (StepSampled entry) on h = h
 behind_same start later options w between new StepNull on h = h
 behind_same start later options w between new (StepEnter lock) on h = h
 behind_same start later options w between new (StepLeave lock) on h = h
 behind_same start later options w between new (StepEnded end) on h = rw (← on.plan, ← on.thread) h
 
-pub stands_behind : (start now later : Account) (options : Options) (w new : Standing) (step : Step) → w.owed ≡ None → Steps now later w new step
-    → Stands start now options w → StandsBehind start later options w new step
-stands_behind start now later options w new step none s stands =
+pub stands_after : (start now later : Account) (options : Options) (w new : Standing) (step : Step) → w.owed ≡ None → Steps now later w new step
+    → Stands start now options w → StandsAfter start later options w new step
+stands_after start now later options w new step none s stands =
     let on = begun_on now s.begun w s.between s.begins in
     behind_same start later options w s.between new step on
     (gives_behind start s.begun later options s.between new step (on.owed ∙ none) s.gives (stands_begun start now s.begun options w s.between none s.begins stands))

@@ -27,7 +27,7 @@ use Rattle.control_machine.specs.declared.moves.Move.TheVariants.{RunSampler}
 use Rattle.control_machine.specs.Moves.{past}
 use Rattle.control_machine.specs.Opened.{Opened}
 use Rattle.control_machine.specs.Hearing.{told}
-use Rattle.control_machine.specs.Left.{here_in, left_in, left_behind, left_of, moved, kind_part, sampler_part, IsScript, IsSampler}
+use Rattle.control_machine.specs.Left.{here_in, left_in, left_after, left_of, moved, kind_part, sampler_part, IsScript, IsSampler}
 use Rattle.thread_machine.specs.declared.trace.TraceItem.TheVariants.{Null as NullItem, Ended as EndedItem}
 use Rattle.thread_machine.specs.declared.runner.Runner.{Runner}
 use Rattle.thread_machine.specs.declared.step.Step.{Step}
@@ -69,15 +69,15 @@ abbrev stack_behind : Machine → Option Sample → Opened
 stack_behind m None = m.stack
 stack_behind m (Some sample) = (told sample m).stack
 
-abbrev signal_behind : Signal → Option Sample → Signal
-signal_behind failure None = Normal
-signal_behind failure (Some sample) = after_sample sample.ok failure
+abbrev signal_after : Signal → Option Sample → Signal
+signal_after failure None = Normal
+signal_after failure (Some sample) = after_sample sample.ok failure
 
 abbrev machine_behind : Machine → Option Sample → Machine
-machine_behind m o = record m { stack = stack_behind m o; signal = signal_behind m.at_failure o }
+machine_behind m o = record m { stack = stack_behind m o; signal = signal_after m.at_failure o }
 
 given : (a : Account) (plan : Tree) (m : Machine) (number : ℕ) (s : State) (o : Option Sample)
-    → Goes a (left_behind plan m (given_sample number m.at_failure o s)) (event_of number o ∷ []) (left_of plan (machine_behind m o) s) a
+    → Goes a (left_after plan m (given_sample number m.at_failure o s)) (event_of number o ∷ []) (left_of plan (machine_behind m o) s) a
 given a plan m number s None =
     goes_left_by (here_in plan m) (Nothing number) (λ t. refl) m.group m.stack.frames (goes-give a (Nothing number) (over (normal s)))
 given a plan m number s (Some sample) =
@@ -131,7 +131,7 @@ module _ (w : Runner) (number : ℕ) (r : IsSampler w.plan.now.elements number) 
 
     -- and the sampler has run
     ran : (res : Result (Option Sample) VarError) → CameTo a (pipeline l number q w.user) b (λ sample. over (fine sample user)) (over (past_limit user)) res
-        → CameTo a sampler_run b (λ sample. left_behind w.plan.now w.machine (given_sample number w.machine.at_failure sample (state_of user own))) (past (state_of user own)) res
+        → CameTo a sampler_run b (λ sample. left_after w.plan.now w.machine (given_sample number w.machine.at_failure sample (state_of user own))) (past (state_of user own)) res
     ran res came =
         let at_label : CameTo a (pipeline label number q w.user) b (λ sample. over (fine sample user)) (over (past_limit user)) res =
         subst (λ n. CameTo a (pipeline n number q w.user) b (λ sample. over (fine sample user)) (over (past_limit user)) res) label_is came in
@@ -148,7 +148,7 @@ module _ (w : Runner) (number : ℕ) (r : IsSampler w.plan.now.elements number) 
     gave o new paused begun goes new_is =
         let m : Machine = machine_behind w.machine o in
         let at : Runner = record w { user = user; units = w.units - 1; machine = m; owed = new.owed; trace = new.trace } in
-        let one : Goes a sampler_run [] (left_behind w.plan.now w.machine (given_sample number w.machine.at_failure o (state_of user own))) b = ran (Ok o) goes in
+        let one : Goes a sampler_run [] (left_after w.plan.now w.machine (given_sample number w.machine.at_failure o (state_of user own))) b = ran (Ok o) goes in
         let two : Goes a sampler_run (event_of number o ∷ []) (left_of w.plan.now m (state_of user own)) b =
         goes-append one (given b w.plan.now w.machine number (state_of user own) o) in
         let three : Goes a (and_end sampler_run) (event_of number o ∷ []) (and_end (left_of w.plan.now m (state_of user own))) b = goes-bind (λ e. give (Ended (end_of e.signal)) (over tt)) two in

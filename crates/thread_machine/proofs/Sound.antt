@@ -18,7 +18,7 @@ use Rattle.thread_machine.specs.Standing.{Standing, rest}
 use Rattle.thread_machine.specs.Stepped.{IsGiver, Begins, IsOver, Ends, Gives, Steps}
 use Rattle.thread_machine.specs.Recorded.{Recorded}
 use Rattle.thread_machine.specs.Inside.{standing_of, IsSound}
-use Rattle.thread_machine.specs.Ran.{is_end, IsCutBehind, GoesOnBehind}
+use Rattle.thread_machine.specs.Ran.{is_end, IsCutAfter, GoesOnAfter}
 use Rattle.thread_machine.proofs.Labels.{label_within}
 use Rattle.thread_machine.proofs.Ends.{begun_on}
 
@@ -55,7 +55,7 @@ module _ (a b : Account) (run : Run (Unit {0})) (s : Standing) (new : Runner) (n
   by_end ValueLimit over nothing = behind_end ValueLimit over nothing
   by_end NoMemory cut nothing = ended NoMemory (ap (λ s. s.plan) cut.new_is) (ap (λ s. s.trace) cut.new_is) nothing
 
-  gives_sound : (step : Step) → Gives a b run s (standing_of new (is_end step)) step → GoesOnBehind new step → IsSound new (is_end step)
+  gives_sound : (step : Step) → Gives a b run s (standing_of new (is_end step)) step → GoesOnAfter new step → IsSound new (is_end step)
   gives_sound (Sampled entry) g on = record {
     going = λ h. on;
     settled = λ h. absurd (cc);
@@ -82,13 +82,13 @@ begun_labels a b old new h all = elim h [
 ]
 
 pub sound_behind : (a b : Account) (w new : Runner) → IsSound w false → w.owed ≡ None → (step : Step) → Steps a b (standing_of w false) (standing_of new (is_end step)) step
-    → GoesOnBehind new step → IsSound new (is_end step)
+    → GoesOnAfter new step → IsSound new (is_end step)
 sound_behind a b w new sound none step s on =
     gives_sound s.begun b (rest s.between) s.between new ((begun_on a s.begun (standing_of w false) s.between s.begins).owed ∙ none)
     (begun_labels a s.begun (standing_of w false) s.between s.begins sound.labels) step s.gives on
 
 -- a thread that was cut has ended
-pub sound_cut : (a b : Account) (w new : Runner) (t : Recorded) → IsSound w false → w.owed ≡ None → IsCutBehind a b w new → t.items ≡ new.trace.items ++ EndedItem NoMemory ∷ []
+pub sound_cut : (a b : Account) (w new : Runner) (t : Recorded) → IsSound w false → w.owed ≡ None → IsCutAfter a b w new → t.items ≡ new.trace.items ++ EndedItem NoMemory ∷ []
     → IsSound (record new { trace = t }) true
 sound_cut a b w new t sound none cut items =
     let on = begun_on a cut.begun (standing_of w false) (standing_of cut.between false) cut.begins in

@@ -20,7 +20,7 @@ use Rattle.element_tree.specs.Tree.{Tree, threads_of, group_of}
 use Rattle.jm_meaning.specs.State.{State, Own, Ending, state_of, normal, stopped, on_normal, and_then}
 use Rattle.jm_meaning.specs.Beginning.{Options, max_rounds, first_places, first_of, set_first}
 use Rattle.jm_meaning.specs.RampUp.{pause_of}
-use Rattle.jm_meaning.specs.Meaning.{and_end, behind_pause, end_of, events, thread_part, group_part, here_at}
+use Rattle.jm_meaning.specs.Meaning.{and_end, after_pause, end_of, events, thread_part, group_part, here_at}
 use Rattle.control_machine.specs.declared.machine.Machine.{Machine}
 use Rattle.control_machine.specs.declared.moves.Move.{Move}
 use Rattle.control_machine.specs.declared.moves.Move.TheVariants.{Iteration, RunSampler, EnterSection, LeaveSection, TransactionSample, Finished}
@@ -34,12 +34,12 @@ use Rattle.thread_machine.specs.Recorded.{Recorded}
 use Rattle.thread_machine.specs.Standing.{Standing, state_in, rest, IsAtStart}
 use Rattle.thread_machine.specs.Stepped.{HasPaused, IsOver, Ends, Gives, Steps}
 use Rattle.thread_machine.specs.Inside.{standing_of}
-use Rattle.thread_machine.specs.Ran.{is_end, left_to, IsTaken, IsSameThread, IsRefusedAt, IsBegun, IsCutAt, IsCutBehind}
+use Rattle.thread_machine.specs.Ran.{is_end, left_to, IsTaken, IsSameThread, IsRefusedAt, IsBegun, IsCutAt, IsCutAfter}
 use Rattle.thread_machine.proofs.FirstLaws.{first_alike}
 
 -- after the pause, and after the first variables
 pub rest_on : (w : Runner) → w.pause ≡ 0 → rest (standing_of w false) ≡ and_end (left_to w)
-rest_on w paused = ap (λ n. behind_pause n (and_end (left_to w))) paused
+rest_on w paused = ap (λ n. after_pause n (and_end (left_to w))) paused
 
 pub left_on : (w : Runner) → w.begun ≡ true → left_to w ≡ left_of w.plan.now w.machine (state_in (standing_of w false))
 left_on w begun =
@@ -249,7 +249,7 @@ cut_there a b w mid error paused is r =
 -- ---- the pause before the first variables
 
 pause_goes : (a b : Account) (run : Run (Unit {0})) (ms : ℕ) → (ms ≡ 0 → ⊥) → Goes {A = Unit {0}} a (wait ms (over tt)) [] (over tt) b
-    → Goes a (behind_pause ms run) (Waited ms ∷ []) run b
+    → Goes a (after_pause ms run) (Waited ms ∷ []) run b
 pause_goes a b run zero some g = absurd (some refl)
 pause_goes a b run (suc ms) some g = goes-append (goes-bind (λ u. give (Waited (suc ms)) run) g) (goes-give b (Waited (suc ms)) run)
 
@@ -261,7 +261,7 @@ has_begun a b w new some g kept items = record {
   kept = kept;
 }
 
-pub cut_before : (a b : Account) (w new : Runner) → TellsNothing a b → IsSameThread w new → new.trace.items ≡ w.trace.items → IsCutBehind a b w new
+pub cut_before : (a b : Account) (w new : Runner) → TellsNothing a b → IsSameThread w new → new.trace.items ≡ w.trace.items → IsCutAfter a b w new
 cut_before a b w new still same items = record {
   begun = a;
   between = w;
@@ -269,7 +269,7 @@ cut_before a b w new still same items = record {
   cut = record { left = rest (standing_of w false); goes = goes-tells_nothing (goes-nothing a (rest (standing_of w false))) still; same = same; items = items };
 }
 
-pub cut_at_once : (a : Account) (w new : Runner) → IsSameThread w new → new.trace.items ≡ w.trace.items → IsCutBehind a a w new
+pub cut_at_once : (a : Account) (w new : Runner) → IsSameThread w new → new.trace.items ≡ w.trace.items → IsCutAfter a a w new
 cut_at_once a w new same items = record {
   begun = a;
   between = w;
@@ -278,7 +278,7 @@ cut_at_once a w new same items = record {
 }
 
 -- a thread that was cut has ended out of memory
-pub cut_ended : (a b : Account) (w new : Runner) (t : Recorded) → IsCutBehind a b w new → t.items ≡ new.trace.items ++ EndedItem EndNoMemory ∷ []
+pub cut_ended : (a b : Account) (w new : Runner) (t : Recorded) → IsCutAfter a b w new → t.items ≡ new.trace.items ++ EndedItem EndNoMemory ∷ []
     → Steps a b (standing_of w false) (standing_of (record new { trace = t }) true) (EndedStep EndNoMemory)
 cut_ended a b w new t h items = record {
   begun = h.begun;
@@ -323,7 +323,7 @@ module _ (w : Runner) (options : Options) (pause : w.pause ≡ pause_of w.plan.n
 
   whole_is : rest (standing_of w false) ≡ events w.plan.now w.thread options
   unfolding events
-  whole_is = ap (λ n. behind_pause n (and_end (left_to w))) pause ∙ ap (λ r. behind_pause (pause_of w.plan.now w.thread) (and_end r)) part_is
+  whole_is = ap (λ n. after_pause n (and_end (left_to w))) pause ∙ ap (λ r. after_pause (pause_of w.plan.now w.thread) (and_end r)) part_is
 
   pub starts : w.owed ≡ None → w.trace.items ≡ [] → IsAtStart w.plan.now w.thread options (standing_of w false)
   starts owed items = record {

@@ -16,7 +16,7 @@ use Rattle.jm_meaning.specs.Transactions.{sample_by}
 use Rattle.jm_meaning.specs.Meaning.{and_end, end_of}
 use Rattle.jm_meaning.proofs.PartLaws.{no-units, one-unit}
 use Rattle.control_machine.specs.declared.moves.Move.TheVariants.{TransactionSample}
-use Rattle.control_machine.specs.Left.{here_in, left_behind, left_of, moved, label_at, IsTransaction}
+use Rattle.control_machine.specs.Left.{here_in, left_after, left_of, moved, label_at, IsTransaction}
 use Rattle.control_machine.proofs.StackLaws.{stop_through}
 use Rattle.control_machine.proofs.HearingLaws.{goes_left_by}
 use Rattle.thread_machine.specs.declared.trace.TraceItem.TheVariants.{Ended as EndedItem}
@@ -47,7 +47,7 @@ module _ (w : Runner) (number : ℕ) (tally : Tally) (r : IsTransaction w.plan.n
       → step ≡ EndedStep SampleLimit → Gives a a (and_end sum_run) (standing_of w false) (standing_of new (is_end step)) step
   no_unit a new step none new_is items step_is =
       let all : sum_run ≡ over (stopped SampleLimit before) =
-      ap (left_behind w.plan.now w.machine) (no-units before (λ s. give (Sampled Transaction (sample_by label tally)) (over (record { state = s; signal = w.machine.signal }))) none)
+      ap (left_after w.plan.now w.machine) (no-units before (λ s. give (Sampled Transaction (sample_by label tally)) (over (record { state = s; signal = w.machine.signal }))) none)
       ∙ stop_through (here_in w.plan.now w.machine) w.machine.group w.machine.stack.frames SampleLimit before refl in
       let goes : Goes a sum_run [] (over (stopped SampleLimit before)) a = subst (λ k. Goes a sum_run [] k a) all (goes-nothing a sum_run) in
       subst (λ k. Gives a a (and_end sum_run) (standing_of w false) (standing_of new (is_end k)) k) (sym step_is)
@@ -63,7 +63,7 @@ module _ (w : Runner) (number : ℕ) (tally : Tally) (r : IsTransaction w.plan.n
 
     gave : Goes a sum_run (Sampled Transaction (sample_by label tally) ∷ []) (left_of w.plan.now w.machine (state_of w.user own)) a
     gave =
-        subst (λ k. Goes a (left_behind w.plan.now w.machine k) (Sampled Transaction (sample_by label tally) ∷ []) (left_of w.plan.now w.machine (state_of w.user own)) a)
+        subst (λ k. Goes a (left_after w.plan.now w.machine k) (Sampled Transaction (sample_by label tally) ∷ []) (left_of w.plan.now w.machine (state_of w.user own)) a)
         (sym (one-unit before (λ s. give (Sampled Transaction (sample_by label tally)) (over (record { state = s; signal = w.machine.signal }))) (w.units - 1) some_units))
         (goes_left_by (here_in w.plan.now w.machine) (Sampled Transaction (sample_by label tally)) (λ t. refl) w.machine.group w.machine.stack.frames
         (goes-give a (Sampled Transaction (sample_by label tally)) (over (record { state = state_of w.user own; signal = w.machine.signal }))))

@@ -26,7 +26,7 @@ pub record IsScripted (plan : Tree) (thread : ℕ) (options : Options) (v : Scri
 
 -- The trace follows what the outside was told since the thread began, and its replies, where it has them.
 pub record Follows (start now : Account) (plan : Tree) (thread : ℕ) (options : Options) (trace : List TraceItem) (end : End) : Type 0 where
-  pub last : (front : List TraceItem) × (trace ≡ front ++ EndedItem end ∷ [])
+  pub last : (prefix : List TraceItem) × (trace ≡ prefix ++ EndedItem end ∷ [])
   pub told : start.told ≡ Some [] → (told : List Heard) × (now.told ≡ Some told) × FollowsWhole plan thread options told trace
   pub scripted : (v : Scripts) → start.value ≡ Some v → IsScripted plan thread options v trace
 
@@ -39,4 +39,4 @@ HasRun start now plan thread options trace Stopped = ⊥
 HasRun start now plan thread options trace SampleLimit = Follows start now plan thread options trace SampleLimit
 HasRun start now plan thread options trace RoundLimit = Follows start now plan thread options trace RoundLimit
 HasRun start now plan thread options trace ValueLimit = Follows start now plan thread options trace ValueLimit
-HasRun start now plan thread options trace NoMemory = (front : List TraceItem) × (trace ≡ front ++ EndedItem NoMemory ∷ [])
+HasRun start now plan thread options trace NoMemory = (prefix : List TraceItem) × (trace ≡ prefix ++ EndedItem NoMemory ∷ [])

@@ -72,16 +72,16 @@ pub record IsBegun (before after : Account) (old new : Runner) : Type 0 where
   pub kept : new ≡ record old { pause = 0; trace = new.trace }
 
 -- the run was cut before the pause or after it
-pub record IsCutBehind (before after : Account) (old new : Runner) : Type 0 where
+pub record IsCutAfter (before after : Account) (old new : Runner) : Type 0 where
   pub begun : Account
   pub between : Runner
   pub begins : Begins before begun (standing_of old false) (standing_of between false)
   pub cut : IsCutAt begun after between new
 
 -- where the thread has not ended it goes on
-abbrev pub GoesOnBehind : Runner → Step → Type 0
-GoesOnBehind r (Sampled entry) = GoesOn r
-GoesOnBehind r Null = GoesOn r
-GoesOnBehind r (Enter lock) = ⊥
-GoesOnBehind r (Leave lock) = ⊥
-GoesOnBehind r (Ended end) = r.owed ≡ None
+abbrev pub GoesOnAfter : Runner → Step → Type 0
+GoesOnAfter r (Sampled entry) = GoesOn r
+GoesOnAfter r Null = GoesOn r
+GoesOnAfter r (Enter lock) = ⊥
+GoesOnAfter r (Leave lock) = ⊥
+GoesOnAfter r (Ended end) = r.owed ≡ None

@@ -14,19 +14,19 @@ use Rattle.thread_machine.specs.Standing.{Standing, owed_items, Stands}
 use Rattle.thread_machine.specs.Follows.{HasRun}
 
 -- until the thread has ended it stands as before; then its trace is that of a thread that has run
-abbrev pub StandsBehind : Account → Account → Options → Standing → Standing → Step → Type 0
-StandsBehind start now options old new (Sampled entry) = Stands start now options new
-StandsBehind start now options old new Null = Stands start now options new
-StandsBehind start now options old new (Enter lock) = ⊥
-StandsBehind start now options old new (Leave lock) = ⊥
-StandsBehind start now options old new (Ended end) = HasRun start now old.plan old.thread options new.trace end
+abbrev pub StandsAfter : Account → Account → Options → Standing → Standing → Step → Type 0
+StandsAfter start now options old new (Sampled entry) = Stands start now options new
+StandsAfter start now options old new Null = Stands start now options new
+StandsAfter start now options old new (Enter lock) = ⊥
+StandsAfter start now options old new (Leave lock) = ⊥
+StandsAfter start now options old new (Ended end) = HasRun start now old.plan old.thread options new.trace end
 
 -- Over what the outside was told since the thread began, the events begin with the bare trace and the sample that is owed.
-pub record IsFront (told : List Heard) (options : Options) (w : Standing) : Type 0 where
+pub record IsPrefix (told : List Heard) (options : Options) (w : Standing) : Type 0 where
   pub more : List Item
   pub items : map shown (over_value list_form (events w.plan w.thread options) told).events ≡ (bare w.trace ++ owed_items w.owed) ++ more
 
 -- A thread that stands shows a prefix of its events over what was told.
-abbrev pub ShowsAFront : Type 0
-ShowsAFront = (start now : Account) (options : Options) (w : Standing) → Stands start now options w → start.told ≡ Some []
-    → (told : List Heard) × (now.told ≡ Some told) × IsFront told options w
+abbrev pub ShowsAPrefix : Type 0
+ShowsAPrefix = (start now : Account) (options : Options) (w : Standing) → Stands start now options w → start.told ≡ Some []
+    → (told : List Heard) × (now.told ≡ Some told) × IsPrefix told options w

@@ -9,7 +9,7 @@ use Rattle.jm_meaning.specs.declared.item.Item.{Item}
 use Rattle.jm_meaning.specs.declared.item.Item.TheVariants.{Sampled}
 use Rattle.jm_meaning.specs.State.{State, Ending, and_then}
 use Rattle.jm_meaning.specs.Beginning.{Options, set_first}
-use Rattle.jm_meaning.specs.Meaning.{events, and_end, behind_pause}
+use Rattle.jm_meaning.specs.Meaning.{events, and_end, after_pause}
 use Rattle.jm_meaning.specs.Shown.{shown}
 use Rattle.control_machine.specs.declared.machine.Machine.{Machine}
 use Rattle.control_machine.specs.Left.{left_of}
@@ -43,7 +43,7 @@ part_left w =
 
 -- what is left of the thread's run
 abbrev pub rest : Standing → Run (Unit {0})
-rest w = if w.ended then over tt else behind_pause w.pause (and_end (part_left w))
+rest w = if w.ended then over tt else after_pause w.pause (and_end (part_left w))
 
 -- before its first step the whole of the thread's run is left
 pub record IsAtStart (plan : Tree) (thread : ℕ) (options : Options) (w : Standing) : Type 0 where

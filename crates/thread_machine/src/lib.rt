@@ -7,7 +7,7 @@ pub mod step;
 pub mod trace;
 pub mod worker;
 
-pub use solo::{Solo, run_alone};
+pub use solo::{FinishedThread, run_alone};
 pub use step::Step;
 pub use trace::TraceItem;
-pub use worker::{Worker, a_trace_is_a_front};
+pub use worker::{Worker, a_trace_is_a_prefix};

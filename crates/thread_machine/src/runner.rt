@@ -12,7 +12,7 @@ ghost use Rattle.control_machine.specs.Turns.{IsNormalAt};
 ghost use Rattle.thread_machine.specs.Inside.{standing_of, GoesOn};
 ghost use Rattle.thread_machine.specs.Standing.{IsAtStart, rest, state_in};
 ghost use Rattle.thread_machine.specs.Stepped.{entry_of, Gives, Steps};
-ghost use Rattle.thread_machine.specs.Ran.{left_to, IsTaken, IsRequest, IsRefusedAt, IsBegun, IsCutAt, IsCutBehind, GoesOnBehind, is_end};
+ghost use Rattle.thread_machine.specs.Ran.{left_to, IsTaken, IsRequest, IsRefusedAt, IsBegun, IsCutAt, IsCutAfter, GoesOnAfter, is_end};
 
 use crate::step::Step;
 use crate::trace::{Trace, TraceItem};
@@ -80,8 +80,8 @@ impl<'p> Runner<'p> {
         requires on { GoesOn self.old }
         ensures steps { IfOk result (λ step. Steps (O.account outside.old) (O.account outside.new)
             (standing_of self.old false) (standing_of self.new (is_end step)) step) }
-        ensures on { IfOk result (GoesOnBehind self.new) }
-        ensures cut { OnErr result (IsCutBehind (O.account outside.old) (O.account outside.new) self.old self.new) }
+        ensures on { IfOk result (GoesOnAfter self.new) }
+        ensures cut { OnErr result (IsCutAfter (O.account outside.old) (O.account outside.new) self.old self.new) }
         ensures room { OnErr result (1 ≤ self.new.trace.room) }
     {
         self.trace.make_room()?;
@@ -114,7 +114,7 @@ impl<'p> Runner<'p> {
         requires room { 2 ≤ self.old.trace.room }
         ensures gives { IfOk result (λ step. Gives (O.account outside.old) (O.account outside.new) (rest (standing_of self.old false))
             (standing_of self.old false) (standing_of self.new (is_end step)) step) }
-        ensures on { IfOk result (GoesOnBehind self.new) }
+        ensures on { IfOk result (GoesOnAfter self.new) }
         ensures cut { OnErr result (IsCutAt (O.account outside.old) (O.account outside.new) self.old self.new) }
         ensures room { OnErr result (1 ≤ self.new.trace.room) }
     {
@@ -144,7 +144,7 @@ impl<'p> Runner<'p> {
         requires room { 2 ≤ self.old.trace.room }
         ensures gives { IfOk result (λ step. Gives (O.account outside.old) (O.account outside.new) (and_end (left_to self.old))
             (standing_of self.old false) (standing_of self.new (is_end step)) step) }
-        ensures on { IfOk result (GoesOnBehind self.new) }
+        ensures on { IfOk result (GoesOnAfter self.new) }
         ensures refused { IfErr result (IsRefusedAt (O.account outside.old) (left_to self.old) (O.account outside.new) self.old self.new) }
     {
         match self.next_move(outside) {
@@ -212,7 +212,7 @@ impl<'p> Runner<'p> {
         ensures gives { IfOk result (λ step. Gives (O.account outside.old) (O.account outside.new)
             (and_end (moved self.old.plan.now self.old.machine (state_in (standing_of self.old false)) (Move.RunSampler number)))
             (standing_of self.old false) (standing_of self.new (is_end step)) step) }
-        ensures on { IfOk result (GoesOnBehind self.new) }
+        ensures on { IfOk result (GoesOnAfter self.new) }
         ensures refused { IfErr result (IsRefusedAt (O.account outside.old)
             (moved self.old.plan.now self.old.machine (state_in (standing_of self.old false)) (Move.RunSampler number))
             (O.account outside.new) self.old self.new) }
@@ -264,7 +264,7 @@ impl<'p> Runner<'p> {
         ensures gives { (a : Account) → IfOk result (λ step. Gives a a
             (and_end (moved self.old.plan.now self.old.machine (state_in (standing_of self.old false)) (Move.TransactionSample element tally)))
             (standing_of self.old false) (standing_of self.new (is_end step)) step) }
-        ensures on { IfOk result (GoesOnBehind self.new) }
+        ensures on { IfOk result (GoesOnAfter self.new) }
         ensures refused { (a : Account) → IfErr result (IsRefusedAt a
             (moved self.old.plan.now self.old.machine (state_in (standing_of self.old false)) (Move.TransactionSample element tally))
             a self.old self.new) }

@@ -20,7 +20,7 @@ use var_functions::Props;
 
 /// The whole trace of a thread, and how the thread ended.
 #[derive(Drop)]
-pub struct Solo {
+pub struct FinishedThread {
     pub trace: Vec<TraceItem>,
     pub end: End,
 }
@@ -35,7 +35,7 @@ pub fn run_alone<O: Outside>(
     props: &Props,
     budget: u32,
     outside: &mut O,
-) -> M<Solo>
+) -> M<FinishedThread>
     requires { thread < length (threads_of plan.now) }
     ensures has_run { IfOk result (λ solo. HasRun (O.account outside.old) (O.account outside.new)
         plan.now thread (record { seed = seed; props = props.now; budget = budget }) solo.trace.items solo.end) }
@@ -45,7 +45,7 @@ pub fn run_alone<O: Outside>(
 {
     let mut worker = Worker::new(alloc, plan, thread, seed, props, budget)?;
     let end = run_to_end(&mut worker, outside);
-    Ok(Solo {
+    Ok(FinishedThread {
         trace: worker.into_trace(),
         end,
     })

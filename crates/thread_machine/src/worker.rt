@@ -7,7 +7,7 @@ ghost use Rattle.thread_machine.specs.Bare.{IsLabelled};
 ghost use Rattle.jm_base.specs.Outside.{Account};
 ghost use Rattle.jm_meaning.specs.Beginning.{Options};
 ghost use Rattle.thread_machine.specs.Standing.{IsAtStart, Stands};
-ghost use Rattle.thread_machine.specs.SoFar.{StandsBehind, ShowsAFront};
+ghost use Rattle.thread_machine.specs.SoFar.{StandsAfter, ShowsAPrefix};
 ghost use Rattle.thread_machine.specs.Stepped.{Steps};
 ghost use Rattle.thread_machine.specs.Ran.{is_end};
 
@@ -77,7 +77,7 @@ impl<'p> Worker<'p> {
         requires going { self.old.ended ≡ false }
         ensures steps { Steps (O.account outside.old) (O.account outside.new) self.old self.new result }
         ensures stands { (start : Account) (options : Options) → Stands start (O.account outside.old) options self.old
-            → StandsBehind start (O.account outside.new) options self.old self.new result }
+            → StandsAfter start (O.account outside.new) options self.old self.new result }
     {
         match self.runner.try_step(outside) {
             Ok(step) => {
@@ -125,8 +125,8 @@ impl<'p> Worker<'p> {
 
 /// The law of a thread that has not ended: its trace, and the sample that is owed to it, show a prefix of the thread's events
 /// over what its outside was told since it began.
-pub fn a_trace_is_a_front()
-    ensures { ShowsAFront }
+pub fn a_trace_is_a_prefix()
+    ensures { ShowsAPrefix }
 {}
 
 fn is_end(step: &Step) -> bool

@@ -4,8 +4,8 @@ use Rattle.std.proofs.Math.Seq.{take-suc}
 use Rattle.std.proofs.lemmas.List.{append-nil, take-append-drop, length-take-le}
 use Rattle.std.proofs.lemmas.Grind.{flat_map-append}
 use Rattle.jm_base.specs.Counts.{Rose}
-use Rattle.edge_io.specs.Edges.{AppendsFront}
-use Rattle.line_output.specs.Pieces.{AppendsPart}
+use Rattle.edge_io.specs.Edges.{AppendsProperPrefix}
+use Rattle.line_output.specs.OutputPieces.{AppendsPart}
 use Rattle.line_output.proofs.PieceLaws.{moves_none, moves_more, front_wider, front_more, front_sent, part_sent, part_none, part_more}
 use Rattle.element_tree.specs.Tree.{Tree}
 use Rattle.thread_machine.specs.declared.trace.TraceItem.{TraceItem}
@@ -24,14 +24,14 @@ put_more s t u v w p q = record { moved = moves_more u.written v.written w.writt
 -- the sink fails at the text after one that is put
 pub failed_more : (s t : List ℕ) (u v w : Way) → IsPut s u v → IsFailed t v w → IsFailed (s ++ t) u w
 failed_more s t u v w p f = record {
-  front = front_more u.written v.written w.written u.held v.held s t p.moved f.front;
+  prefix = front_more u.written v.written w.written u.held v.held s t p.moved f.prefix;
   rose = subst (λ n. Rose n w.faults) p.calm f.rose;
 }
 
 -- a prefix of a text is one of a longer text
 pub failed_wider : (s t : List ℕ) (u w : Way) → IsFailed s u w → IsFailed (s ++ t) u w
 failed_wider s t u w f = record {
-  front = subst (λ l. AppendsFront u.written w.written l) (append_assoc u.held s t) (front_wider u.written w.written (u.held ++ s) t f.front);
+  prefix = subst (λ l. AppendsProperPrefix u.written w.written l) (append_assoc u.held s t) (front_wider u.written w.written (u.held ++ s) t f.prefix);
   rose = f.rose;
 }
 
@@ -149,7 +149,7 @@ module _ (s t : List ℕ) (a : Option (List ℕ)) (f : ℕ) (held : List ℕ) (n
     begun = begins (λ u. IsPut s u v) first
 
     pub second_failed : (w : Way) → IsFailed t v w → TextFailed (s ++ t) a w.written f w.faults
-    second_failed w h = let both = failed_more s t start v w begun h in record { front = both.front; rose = both.rose }
+    second_failed w h = let both = failed_more s t start v w begun h in record { prefix = both.prefix; rose = both.rose }
 
     pub second_cut : (w : Way) → IsCut t v w → TextCut (s ++ t) a w.written f w.faults
     second_cut w h =
@@ -157,10 +157,10 @@ module _ (s t : List ℕ) (a : Option (List ℕ)) (f : ℕ) (held : List ℕ) (n
         let part = part_sent a w.written w.held (s ++ (t ++ [])) both.part in
         record { part = subst (λ l. AppendsPart a w.written (s ++ l)) (append-nil t) part; calm = both.calm }
 
-    pub last_failed : (w : Way) → IsPut t v w → (b : Option (List ℕ)) (g : ℕ) → AppendsFront w.written b w.held → Rose w.faults g → TextFailed (s ++ t) a b f g
-    last_failed w second b g front rose =
+    pub last_failed : (w : Way) → IsPut t v w → (b : Option (List ℕ)) (g : ℕ) → AppendsProperPrefix w.written b w.held → Rose w.faults g → TextFailed (s ++ t) a b f g
+    last_failed w second b g prefix rose =
         let both = put_more s t start v w begun second in
         record {
-          front = front_sent a w.written b w.held (s ++ t) both.moved front;
+          prefix = front_sent a w.written b w.held (s ++ t) both.moved prefix;
           rose = subst (λ n. Rose n g) both.calm rose;
         }

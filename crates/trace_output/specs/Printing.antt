@@ -2,8 +2,8 @@
 use Rattle.std.specs.Prelude.{◌≡◌, ℕ, ◌++◌, List, Option}
 use Rattle.std.specs.Io.KnownBytes.{Appends}
 use Rattle.jm_base.specs.Counts.{Rose}
-use Rattle.edge_io.specs.Edges.{AppendsFront}
-use Rattle.line_output.specs.Pieces.{Moves, MovesPart, AppendsPart}
+use Rattle.edge_io.specs.Edges.{AppendsProperPrefix}
+use Rattle.line_output.specs.OutputPieces.{Moves, MovesPart, AppendsPart}
 
 -- what a sink holds, where it is told, its count of faults, and what is held back from it
 pub record Way : Type 0 where
@@ -22,7 +22,7 @@ pub record IsPut (text : List ℕ) (old new : Way) : Type 0 where
 
 -- the sink has failed, and a prefix of what was held back and of the text is out
 pub record IsFailed (text : List ℕ) (old new : Way) : Type 0 where
-  pub front : AppendsFront old.written new.written (old.held ++ text)
+  pub prefix : AppendsProperPrefix old.written new.written (old.held ++ text)
   pub rose : Rose old.faults new.faults
 
 -- a prefix of the text was put
@@ -38,7 +38,7 @@ pub record TextOut (text : List ℕ) (old new : Option (List ℕ)) (faults now :
 
 -- the sink has failed, and a prefix of the text is out
 pub record TextFailed (text : List ℕ) (old new : Option (List ℕ)) (faults now : ℕ) : Type 0 where
-  pub front : AppendsFront old new text
+  pub prefix : AppendsProperPrefix old new text
   pub rose : Rose faults now
 
 -- a prefix of the text is out, and the sink has not failed

@@ -3,7 +3,7 @@
 ghost use Rattle.std.specs.Prelude.{◌≡◌, ◌≢◌, OnOk, IsErrOf};
 ghost use Rattle.std.specs.Io.KnownBytes.{Appends};
 ghost use Rattle.jm_base.specs.Counts.{Rose};
-ghost use Rattle.edge_io.specs.Edges.{AppendsFront};
+ghost use Rattle.edge_io.specs.Edges.{AppendsProperPrefix};
 ghost use Rattle.trace_output.specs.Printing.{way, IsPut, IsFailed};
 
 use crate::error::PrintError;
@@ -35,7 +35,7 @@ pub(crate) fn finish<K: Sink>(pending: &mut Pending, sink: &mut K) -> Result<(),
     ensures whole { OnOk result (Appends (K.written sink.old) (K.written sink.new) pending.old) }
     ensures ok { OnOk result (K.faults sink.new ≡ K.faults sink.old) }
 
-    ensures front { IsErrOf result PrintError.WriteFault → AppendsFront (K.written sink.old) (K.written sink.new) pending.old }
+    ensures prefix { IsErrOf result PrintError.WriteFault → AppendsProperPrefix (K.written sink.old) (K.written sink.new) pending.old }
     ensures cause { IsErrOf result PrintError.WriteFault → Rose (K.faults sink.old) (K.faults sink.new) }
     ensures never { result ≢ Err PrintError.NoMemory }
 {

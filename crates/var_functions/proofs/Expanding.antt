@@ -17,7 +17,7 @@ use Rattle.var_functions.specs.Vars.{Variables, value_of}
 use Rattle.var_functions.specs.State.{Functions}
 use Rattle.var_functions.specs.Functions.{value, Answer, function_named}
 use Rattle.var_functions.specs.Came.{CameTo, LeftOf, Refused, by_limit, by_memory}
-use Rattle.var_functions.specs.Expansion.{Expanded, expanded, on_expanded, and_then, limited, behind, count, taking, function_of_name, named, referred, called, value_or_spelling, pieces_behind, texts_behind, piece_behind, Grows}
+use Rattle.var_functions.specs.Expansion.{Expanded, expanded, on_expanded, and_then, limited, appended, count, taking, function_of_name, named, referred, called, value_or_spelling, after_pieces, after_texts, after_piece, Grows}
 use Rattle.var_functions.proofs.CameLaws.{refused-bind, came-bind, came-first}
 
 -- a text that grew, or did not
@@ -27,54 +27,54 @@ grows-came a wanted new fns (Ok u) h = subst (λ o. Goes a (over (expanded o fns
 grows-came a wanted new fns (Err ValueLimit) h = by_limit (subst (λ o. Goes a (over (expanded o fns)) [] (over (expanded None fns)) a) (sym h) (goes-nothing a _))
 grows-came a wanted new fns (Err NoMemory) h = by_memory (_, goes-nothing a _)
 
-piece_then : (p : Piece) (ps : List Piece) (vars : Variables) (front : List ℕ) (fns : Functions)
-    → pieces_behind (pieces_of (p ∷ ps)) vars front fns ≡ and_then (piece_behind p vars front fns) (pieces_behind (pieces_of ps) vars)
-unfolding pieces_behind
-piece_then (Text t) ps vars front fns = refl
-piece_then (Var name) ps vars front fns = refl
-piece_then (Call name args) ps vars front fns = refl
+piece_then : (p : Piece) (ps : List Piece) (vars : Variables) (prefix : List ℕ) (fns : Functions)
+    → after_pieces (pieces_of (p ∷ ps)) vars prefix fns ≡ and_then (after_piece p vars prefix fns) (after_pieces (pieces_of ps) vars)
+unfolding after_pieces
+piece_then (Text t) ps vars prefix fns = refl
+piece_then (Var name) ps vars prefix fns = refl
+piece_then (Call name args) ps vars prefix fns = refl
 
 -- one piece more
-pub one_piece : (a m b : Account) (run : Run (Expanded (List ℕ))) (front new : List ℕ) (vars : Variables) (pieces : List Piece) (fns fns' : Functions) (i : ℕ) (p : Piece) (res : Result (Unit {0}) VarError)
+pub one_piece : (a m b : Account) (run : Run (Expanded (List ℕ))) (prefix new : List ℕ) (vars : Variables) (pieces : List Piece) (fns fns' : Functions) (i : ℕ) (p : Piece) (res : Result (Unit {0}) VarError)
     → i < length pieces → p ≡ get_or pieces i p
-    → Goes a run [] (pieces_behind (pieces_of (drop i pieces)) vars front fns) m
-    → CameTo m (piece_behind p vars front fns) b (λ _. over (expanded (Some new) fns')) (over (expanded None fns')) res
-    → CameTo a run b (λ _. pieces_behind (pieces_of (drop (i + 1) pieces)) vars new fns') (over (expanded None fns')) res
-one_piece a m b run front new vars pieces fns fns' i p res there is so_far came =
+    → Goes a run [] (after_pieces (pieces_of (drop i pieces)) vars prefix fns) m
+    → CameTo m (after_piece p vars prefix fns) b (λ _. over (expanded (Some new) fns')) (over (expanded None fns')) res
+    → CameTo a run b (λ _. after_pieces (pieces_of (drop (i + 1) pieces)) vars new fns') (over (expanded None fns')) res
+one_piece a m b run prefix new vars pieces fns fns' i p res there is so_far came =
     let rest : drop i pieces ≡ p ∷ drop (i + 1) pieces = drop_more pieces i p there ∙ ap (λ q. q ∷ drop (i + 1) pieces) (sym is) in
-    let next = pieces_behind (pieces_of (drop (i + 1) pieces)) vars in
-    let begun : Goes a run [] (and_then (piece_behind p vars front fns) next) m =
-    subst (λ r. Goes a run [] r m) (ap (λ l. pieces_behind (pieces_of l) vars front fns) rest ∙ piece_then p (drop (i + 1) pieces) vars front fns) so_far in
-    came-first a m b run (and_then (piece_behind p vars front fns) next) (λ _. next new fns') (over (expanded None fns')) res begun
-    (came-bind m b (piece_behind p vars front fns) (λ _. over (expanded (Some new) fns')) (over (expanded None fns')) res (on_expanded next) came)
+    let next = after_pieces (pieces_of (drop (i + 1) pieces)) vars in
+    let begun : Goes a run [] (and_then (after_piece p vars prefix fns) next) m =
+    subst (λ r. Goes a run [] r m) (ap (λ l. after_pieces (pieces_of l) vars prefix fns) rest ∙ piece_then p (drop (i + 1) pieces) vars prefix fns) so_far in
+    came-first a m b run (and_then (after_piece p vars prefix fns) next) (λ _. next new fns') (over (expanded None fns')) res begun
+    (came-bind m b (after_piece p vars prefix fns) (λ _. over (expanded (Some new) fns')) (over (expanded None fns')) res (on_expanded next) came)
 
-pub no_piece : (a b : Account) (run : Run (Expanded (List ℕ))) (front : List ℕ) (vars : Variables) (rest : List Piece) (fns : Functions) → rest ≡ []
-    → Goes a run [] (pieces_behind (pieces_of rest) vars front fns) b → Goes a run [] (over (expanded (Some front) fns)) b
-unfolding pieces_behind
-no_piece a b run front vars rest fns is g = rw is at g
+pub no_piece : (a b : Account) (run : Run (Expanded (List ℕ))) (prefix : List ℕ) (vars : Variables) (rest : List Piece) (fns : Functions) → rest ≡ []
+    → Goes a run [] (after_pieces (pieces_of rest) vars prefix fns) b → Goes a run [] (over (expanded (Some prefix) fns)) b
+unfolding after_pieces
+no_piece a b run prefix vars rest fns is g = rw is at g
 
 argument_then : (ps : Pieces) (args : List Pieces) (vars : Variables) (before : List (List ℕ)) (fns : Functions)
-    → texts_behind (arguments_of (ps ∷ args)) vars before fns ≡ and_then (pieces_behind ps vars [] fns) (λ t. texts_behind (arguments_of args) vars (before ++ t ∷ []))
-unfolding texts_behind
+    → after_texts (arguments_of (ps ∷ args)) vars before fns ≡ and_then (after_pieces ps vars [] fns) (λ t. after_texts (arguments_of args) vars (before ++ t ∷ []))
+unfolding after_texts
 argument_then ps args vars before fns = refl
 
 -- one argument more
 pub one_argument : (a m b : Account) (run : Run (Expanded (List (List ℕ)))) (before : List (List ℕ)) (new : List ℕ) (vars : Variables) (args : List Pieces) (fns fns' : Functions) (i : ℕ) (ps : Pieces) (res : Result (Unit {0}) VarError)
     → i < length args → ps ≡ get_or args i ps
-    → Goes a run [] (texts_behind (arguments_of (drop i args)) vars before fns) m
-    → CameTo m (pieces_behind ps vars [] fns) b (λ _. over (expanded (Some new) fns')) (over (expanded None fns')) res
-    → CameTo a run b (λ _. texts_behind (arguments_of (drop (i + 1) args)) vars (before ++ new ∷ []) fns') (over (expanded None fns')) res
+    → Goes a run [] (after_texts (arguments_of (drop i args)) vars before fns) m
+    → CameTo m (after_pieces ps vars [] fns) b (λ _. over (expanded (Some new) fns')) (over (expanded None fns')) res
+    → CameTo a run b (λ _. after_texts (arguments_of (drop (i + 1) args)) vars (before ++ new ∷ []) fns') (over (expanded None fns')) res
 one_argument a m b run before new vars args fns fns' i ps res there is so_far came =
     let rest : drop i args ≡ ps ∷ drop (i + 1) args = drop_more args i ps there ∙ ap (λ q. q ∷ drop (i + 1) args) (sym is) in
-    let next = λ (t : List ℕ). texts_behind (arguments_of (drop (i + 1) args)) vars (before ++ t ∷ []) in
-    let begun : Goes a run [] (and_then (pieces_behind ps vars [] fns) next) m =
-    subst (λ r. Goes a run [] r m) (ap (λ l. texts_behind (arguments_of l) vars before fns) rest ∙ argument_then ps (drop (i + 1) args) vars before fns) so_far in
-    came-first a m b run (and_then (pieces_behind ps vars [] fns) next) (λ _. next new fns') (over (expanded None fns')) res begun
-    (came-bind m b (pieces_behind ps vars [] fns) (λ _. over (expanded (Some new) fns')) (over (expanded None fns')) res (on_expanded next) came)
+    let next = λ (t : List ℕ). after_texts (arguments_of (drop (i + 1) args)) vars (before ++ t ∷ []) in
+    let begun : Goes a run [] (and_then (after_pieces ps vars [] fns) next) m =
+    subst (λ r. Goes a run [] r m) (ap (λ l. after_texts (arguments_of l) vars before fns) rest ∙ argument_then ps (drop (i + 1) args) vars before fns) so_far in
+    came-first a m b run (and_then (after_pieces ps vars [] fns) next) (λ _. next new fns') (over (expanded None fns')) res begun
+    (came-bind m b (after_pieces ps vars [] fns) (λ _. over (expanded (Some new) fns')) (over (expanded None fns')) res (on_expanded next) came)
 
 pub no_argument : (a b : Account) (run : Run (Expanded (List (List ℕ)))) (before : List (List ℕ)) (vars : Variables) (rest : List Pieces) (fns : Functions) → rest ≡ []
-    → Goes a run [] (texts_behind (arguments_of rest) vars before fns) b → Goes a run [] (over (expanded (Some before) fns)) b
-unfolding texts_behind
+    → Goes a run [] (after_texts (arguments_of rest) vars before fns) b → Goes a run [] (over (expanded (Some before) fns)) b
+unfolding after_texts
 no_argument a b run before vars rest fns is g = rw is at g
 
 pub count-arguments_of : (args : List Pieces) → count (arguments_of args) ≡ length args
@@ -82,7 +82,7 @@ count-arguments_of [] = refl
 count-arguments_of (ps ∷ args) = ap suc (count-arguments_of args)
 
 pub referred_call : (name : List ℕ) (args : Arguments) (vars : Variables) (fns : Functions)
-    → referred (call name args) vars fns ≡ called (option_and_then (taking (count args)) (function_named name)) (texts_behind args vars []) (reference_spelling (call name args)) vars fns
+    → referred (call name args) vars fns ≡ called (option_and_then (taking (count args)) (function_named name)) (after_texts args vars []) (reference_spelling (call name args)) vars fns
 unfolding referred
 referred_call name args vars fns = refl
 
@@ -109,42 +109,42 @@ referred_variable name vars fns h = without (function_of_name name) h where
   without (Some f) h = cc
 
 -- a text that is known, after the text before it
-pub text_came : (a : Account) (r : Run (Expanded (List ℕ))) (t front new : List ℕ) (fns : Functions) (res : Result (Unit {0}) VarError) → r ≡ over (expanded (Some t) fns) → Grows (front ++ t) new res
-    → CameTo a (and_then r (behind front)) a (λ _. over (expanded (Some new) fns)) (over (expanded None fns)) res
-text_came a r t front new fns res is h =
-    subst (λ q. CameTo a (and_then q (behind front)) a (λ _. over (expanded (Some new) fns)) (over (expanded None fns)) res) (sym is) (grows-came a (front ++ t) new fns res h)
+pub text_came : (a : Account) (r : Run (Expanded (List ℕ))) (t prefix new : List ℕ) (fns : Functions) (res : Result (Unit {0}) VarError) → r ≡ over (expanded (Some t) fns) → Grows (prefix ++ t) new res
+    → CameTo a (and_then r (appended prefix)) a (λ _. over (expanded (Some new) fns)) (over (expanded None fns)) res
+text_came a r t prefix new fns res is h =
+    subst (λ q. CameTo a (and_then q (appended prefix)) a (λ _. over (expanded (Some new) fns)) (over (expanded None fns)) res) (sym is) (grows-came a (prefix ++ t) new fns res h)
 
-module _ (r : Run (Expanded (List ℕ))) (args : Functions → Run (Expanded (List (List ℕ)))) (spelling front : List ℕ) (vars : Variables) (fns : Functions) (which : Option Function)
+module _ (r : Run (Expanded (List ℕ))) (args : Functions → Run (Expanded (List (List ℕ)))) (spelling prefix : List ℕ) (vars : Variables) (fns : Functions) (which : Option Function)
     (is : r ≡ called which args spelling vars fns) where
   -- a call of no function is its spelling
-  pub called_none : (a : Account) (new : List ℕ) (res : Result (Unit {0}) VarError) → which ≡ None → Grows (front ++ spelling) new res
-      → CameTo a (and_then r (behind front)) a (λ _. over (expanded (Some new) fns)) (over (expanded None fns)) res
-  called_none a new res none h = text_came a r spelling front new fns res (is ∙ ap (λ w. called w args spelling vars fns) none) h
+  pub called_none : (a : Account) (new : List ℕ) (res : Result (Unit {0}) VarError) → which ≡ None → Grows (prefix ++ spelling) new res
+      → CameTo a (and_then r (appended prefix)) a (λ _. over (expanded (Some new) fns)) (over (expanded None fns)) res
+  called_none a new res none h = text_came a r spelling prefix new fns res (is ∙ ap (λ w. called w args spelling vars fns) none) h
 
   -- the arguments were refused
   pub called_refused : (a b : Account) (f : Function) (fns' : Functions) (e : VarError) → which ≡ Some f
-      → Refused a (args fns) b (over (expanded None fns')) e → Refused a (and_then r (behind front)) b (over (expanded None fns')) e
+      → Refused a (args fns) b (over (expanded None fns')) e → Refused a (and_then r (appended prefix)) b (over (expanded None fns')) e
   called_refused a b f fns' e some h =
-      subst (λ q. Refused a (and_then q (behind front)) b (over (expanded None fns')) e) (sym (is ∙ ap (λ w. called w args spelling vars fns) some))
-      (refused-bind (on_expanded (behind front)) (refused-bind (on_expanded (λ texts fns. value f texts vars fns >>= value_or_spelling spelling)) h))
+      subst (λ q. Refused a (and_then q (appended prefix)) b (over (expanded None fns')) e) (sym (is ∙ ap (λ w. called w args spelling vars fns) some))
+      (refused-bind (on_expanded (appended prefix)) (refused-bind (on_expanded (λ texts fns. value f texts vars fns >>= value_or_spelling spelling)) h))
 
   module _ (a m : Account) (f : Function) (texts : List (List ℕ)) (fns' : Functions) (some : which ≡ Some f) (g : Goes a (args fns) [] (over (expanded (Some texts) fns')) m) where
-    begun : Goes a (and_then r (behind front)) [] (and_then (value f texts vars fns' >>= value_or_spelling spelling) (behind front)) m
-    begun = subst (λ q. Goes a (and_then q (behind front)) [] (and_then (value f texts vars fns' >>= value_or_spelling spelling) (behind front)) m) (sym (is ∙ ap (λ w. called w args spelling vars fns) some))
-        (goes-bind (on_expanded (behind front)) (goes-bind (on_expanded (λ texts fns. value f texts vars fns >>= value_or_spelling spelling)) g))
+    begun : Goes a (and_then r (appended prefix)) [] (and_then (value f texts vars fns' >>= value_or_spelling spelling) (appended prefix)) m
+    begun = subst (λ q. Goes a (and_then q (appended prefix)) [] (and_then (value f texts vars fns' >>= value_or_spelling spelling) (appended prefix)) m) (sym (is ∙ ap (λ w. called w args spelling vars fns) some))
+        (goes-bind (on_expanded (appended prefix)) (goes-bind (on_expanded (λ texts fns. value f texts vars fns >>= value_or_spelling spelling)) g))
 
     -- the value came, and stands after the text before it, or the spelling does
     pub called_value : (b : Account) (v : Option (List ℕ)) (fns'' : Functions) (new : List ℕ) (res : Result (Unit {0}) VarError)
-        → Goes m (value f texts vars fns') [] (over (v, fns'')) b → Grows (front ++ unwrap_or v spelling) new res
-        → CameTo a (and_then r (behind front)) b (λ _. over (expanded (Some new) fns'')) (over (expanded None fns'')) res
+        → Goes m (value f texts vars fns') [] (over (v, fns'')) b → Grows (prefix ++ unwrap_or v spelling) new res
+        → CameTo a (and_then r (appended prefix)) b (λ _. over (expanded (Some new) fns'')) (over (expanded None fns'')) res
     called_value b v fns'' new res h grows =
-        came-first a b b (and_then r (behind front)) (over (expanded (limited (front ++ unwrap_or v spelling)) fns'')) (λ _. over (expanded (Some new) fns'')) (over (expanded None fns'')) res
-        (goes-append begun (goes-bind (on_expanded (behind front)) (goes-bind (value_or_spelling spelling) h))) (grows-came b (front ++ unwrap_or v spelling) new fns'' res grows)
+        came-first a b b (and_then r (appended prefix)) (over (expanded (limited (prefix ++ unwrap_or v spelling)) fns'')) (λ _. over (expanded (Some new) fns'')) (over (expanded None fns'')) res
+        (goes-append begun (goes-bind (on_expanded (appended prefix)) (goes-bind (value_or_spelling spelling) h))) (grows-came b (prefix ++ unwrap_or v spelling) new fns'' res grows)
 
     -- out of memory on the way to the value
-    pub called_cut : (b : Account) (limit : Run (Expanded (List ℕ))) → LeftOf m (value f texts vars fns') b → Refused a (and_then r (behind front)) b limit NoMemory
+    pub called_cut : (b : Account) (limit : Run (Expanded (List ℕ))) → LeftOf m (value f texts vars fns') b → Refused a (and_then r (appended prefix)) b limit NoMemory
     called_cut b limit left =
-        by_memory (_, goes-append begun (goes-bind (on_expanded (behind front)) (goes-bind (value_or_spelling spelling) left.1)))
+        by_memory (_, goes-append begun (goes-bind (on_expanded (appended prefix)) (goes-bind (value_or_spelling spelling) left.1)))
 
 -- a value that asks nothing of the outside
 pub known : {E : Type 0} (a : Account) (run : Run Answer) (fns : Functions) (res : Result (Option (List ℕ)) E) → IfOk res (λ v. run ≡ over (v, fns)) → IfOk res (λ v. Goes a run [] (over (v, fns)) a)

@@ -33,8 +33,8 @@ abbrev pub limited : List ℕ → Option (List ℕ)
 limited t = if nat_le (length t) most_text then Some t else None
 
 -- a piece's text after the text before it
-abbrev pub behind : List ℕ → List ℕ → Functions → Run (Expanded (List ℕ))
-behind front t fns = over (expanded (limited (front ++ t)) fns)
+abbrev pub appended : List ℕ → List ℕ → Functions → Run (Expanded (List ℕ))
+appended prefix t fns = over (expanded (limited (prefix ++ t)) fns)
 
 abbrev pub count : Arguments → ℕ
 count no_arguments = 0
@@ -65,31 +65,31 @@ named (Some f) name vars fns = called (taking 0 f) (λ fns. over (expanded (Some
 
 unfoldable mutual
   -- pieces from the left, after the text before them
-  pub pieces_behind : Pieces → Variables → List ℕ → Functions → Run (Expanded (List ℕ))
-  pieces_behind no_more vars front fns = over (expanded (Some front) fns)
-  pieces_behind (text t more) vars front fns = and_then (behind front t fns) (pieces_behind more vars)
-  pieces_behind (reference r more) vars front fns = and_then (and_then (referred r vars fns) (behind front)) (pieces_behind more vars)
+  pub after_pieces : Pieces → Variables → List ℕ → Functions → Run (Expanded (List ℕ))
+  after_pieces no_more vars prefix fns = over (expanded (Some prefix) fns)
+  after_pieces (text t more) vars prefix fns = and_then (appended prefix t fns) (after_pieces more vars)
+  after_pieces (reference r more) vars prefix fns = and_then (and_then (referred r vars fns) (appended prefix)) (after_pieces more vars)
 
   -- a reference whose name is `__` and the name of a function is a call without arguments
   pub referred : Reference → Variables → Functions → Run (Expanded (List ℕ))
   referred (variable name) vars fns = named (function_of_name name) name vars fns
   referred (call name args) vars fns =
-      called (option_and_then (taking (count args)) (function_named name)) (texts_behind args vars []) (reference_spelling (call name args)) vars fns
+      called (option_and_then (taking (count args)) (function_named name)) (after_texts args vars []) (reference_spelling (call name args)) vars fns
 
   -- the texts of arguments from the left, after those before them
-  pub texts_behind : Arguments → Variables → List (List ℕ) → Functions → Run (Expanded (List (List ℕ)))
-  texts_behind no_arguments vars before fns = over (expanded (Some before) fns)
-  texts_behind (argument ps more) vars before fns = and_then (pieces_behind ps vars [] fns) (λ t. texts_behind more vars (before ++ t ∷ []))
+  pub after_texts : Arguments → Variables → List (List ℕ) → Functions → Run (Expanded (List (List ℕ)))
+  after_texts no_arguments vars before fns = over (expanded (Some before) fns)
+  after_texts (argument ps more) vars before fns = and_then (after_pieces ps vars [] fns) (λ t. after_texts more vars (before ++ t ∷ []))
 
 -- the whole text of a template
 abbrev pub expansion : Pieces → Variables → Functions → Run (Expanded (List ℕ))
-expansion pieces vars fns = pieces_behind pieces vars [] fns
+expansion pieces vars fns = after_pieces pieces vars [] fns
 
 -- one piece after the text before it
-abbrev pub piece_behind : Piece → Variables → List ℕ → Functions → Run (Expanded (List ℕ))
-piece_behind (Text t) vars front fns = behind front t fns
-piece_behind (Var name) vars front fns = and_then (referred (variable name) vars fns) (behind front)
-piece_behind (Call name args) vars front fns = and_then (referred (call name (arguments_of args.items)) vars fns) (behind front)
+abbrev pub after_piece : Piece → Variables → List ℕ → Functions → Run (Expanded (List ℕ))
+after_piece (Text t) vars prefix fns = appended prefix t fns
+after_piece (Var name) vars prefix fns = and_then (referred (variable name) vars fns) (appended prefix)
+after_piece (Call name args) vars prefix fns = and_then (referred (call name (arguments_of args.items)) vars fns) (appended prefix)
 
 -- a text after it was to grow to a wanted one, or why it did not
 abbrev pub Grows : List ℕ → List ℕ → Result (Unit {0}) VarError → Type 0

@@ -10,7 +10,7 @@ use Rattle.cond_expr.specs.Machine.{condition}
 use Rattle.var_functions.specs.declared.function.Function.{Function}
 use Rattle.var_functions.specs.declared.function.Function.TheVariants.{ThreadNum, Counter, Random, IntSum, Variable, Time, Property, IsVarDefined, Condition}
 use Rattle.var_functions.specs.Vars.{Variables, value_of}
-use Rattle.var_functions.specs.Props.{property_of}
+use Rattle.var_functions.specs.RunProps.{property_of}
 use Rattle.var_functions.specs.Numbers.{number, picked, int_sum}
 use Rattle.var_functions.specs.State.{Functions, draw, drawn, count}
 

@@ -1,5 +1,5 @@
 pub mod Vars
-pub mod Props
+pub mod RunProps
 pub mod Numbers
 pub mod State
 pub mod Functions

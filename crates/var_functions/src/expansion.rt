@@ -9,7 +9,7 @@ ghost use Rattle.var_functions.specs.Vars.{most_text};
 ghost use Rattle.var_functions.specs.Functions.{function_named};
 ghost use Rattle.var_functions.specs.Came.{CameTo};
 ghost use Rattle.var_functions.specs.State.{IsLater};
-ghost use Rattle.var_functions.specs.Expansion.{expanded, and_then, behind, limited, taking, function_of_name, referred, piece_behind, pieces_behind, texts_behind, expansion, Grows};
+ghost use Rattle.var_functions.specs.Expansion.{expanded, and_then, appended, limited, taking, function_of_name, referred, after_piece, after_pieces, after_texts, expansion, Grows};
 
 use crate::error::VarError;
 use crate::function::{Function, function_named};
@@ -98,7 +98,7 @@ fn write_named<O: Outside>(
     outside: &mut O,
     out: &mut Vec<u8>,
 ) -> Result<(), VarError>
-    ensures came { CameTo (O.account outside.old) (and_then (referred (variable name.now) vars.now fns.old) (behind out.old.items)) (O.account outside.new)
+    ensures came { CameTo (O.account outside.old) (and_then (referred (variable name.now) vars.now fns.old) (appended out.old.items)) (O.account outside.new)
         (λ _. over (expanded (Some out.new.items) fns.new)) (over (expanded None fns.new)) result }
     ensures later { IsLater fns.old fns.new }
     ensures short { OnOk result (length out.new.items ≤ most_text) }
@@ -131,7 +131,7 @@ fn write_called<O: Outside>(
     outside: &mut O,
     out: &mut Vec<u8>,
 ) -> Result<(), VarError>
-    ensures came { CameTo (O.account outside.old) (and_then (referred (call name.now (arguments_of args.now)) vars.now fns.old) (behind out.old.items)) (O.account outside.new)
+    ensures came { CameTo (O.account outside.old) (and_then (referred (call name.now (arguments_of args.now)) vars.now fns.old) (appended out.old.items)) (O.account outside.new)
         (λ _. over (expanded (Some out.new.items) fns.new)) (over (expanded None fns.new)) result }
     ensures later { IsLater fns.old fns.new }
     ensures short { OnOk result (length out.new.items ≤ most_text) }
@@ -158,7 +158,7 @@ fn argument_texts<O: Outside>(
     fns: &mut FnState,
     outside: &mut O,
 ) -> Result<Vec<Text>, VarError>
-    ensures came { CameTo (O.account outside.old) (texts_behind (arguments_of args.now) vars.now [] fns.old) (O.account outside.new)
+    ensures came { CameTo (O.account outside.old) (after_texts (arguments_of args.now) vars.now [] fns.old) (O.account outside.new)
         (λ v. over (expanded (Some v.items) fns.new)) (over (expanded None fns.new)) result }
     ensures later { IsLater fns.old fns.new }
     ensures short { IfOk result (λ v. All (λ t. length t ≤ most_text) v.items) }
@@ -186,7 +186,7 @@ fn write_piece<O: Outside>(
     outside: &mut O,
     out: &mut Vec<u8>,
 ) -> Result<(), VarError>
-    ensures came { CameTo (O.account outside.old) (piece_behind piece.now vars.now out.old.items fns.old) (O.account outside.new)
+    ensures came { CameTo (O.account outside.old) (after_piece piece.now vars.now out.old.items fns.old) (O.account outside.new)
         (λ _. over (expanded (Some out.new.items) fns.new)) (over (expanded None fns.new)) result }
     ensures later { IsLater fns.old fns.new }
     ensures short { OnOk result (length out.new.items ≤ most_text) }
@@ -209,7 +209,7 @@ fn write_pieces<O: Outside>(
     out: &mut Vec<u8>,
 ) -> Result<(), VarError>
     requires { length out.old.items ≤ most_text }
-    ensures came { CameTo (O.account outside.old) (pieces_behind template.now vars.now out.old.items fns.old) (O.account outside.new)
+    ensures came { CameTo (O.account outside.old) (after_pieces template.now vars.now out.old.items fns.old) (O.account outside.new)
         (λ _. over (expanded (Some out.new.items) fns.new)) (over (expanded None fns.new)) result }
     ensures later { IsLater fns.old fns.new }
     ensures short { OnOk result (length out.new.items ≤ most_text) }

@@ -1,7 +1,7 @@
 // The properties that a run is given.
 
 ghost use Rattle.std.specs.Prelude.{◌≡◌, ◌≤◌, ◌↔◌, IfOk, false, length, option_map};
-ghost use Rattle.var_functions.specs.Props.{is_pair, each_is_pair, pairs_of, property_of};
+ghost use Rattle.var_functions.specs.RunProps.{is_pair, each_is_pair, pairs_of, property_of};
 
 use crate::error::PropsError;
 use form_urlencoded::parse;

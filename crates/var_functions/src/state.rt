@@ -1,7 +1,7 @@
 // What the functions of a thread keep, and all that its templates read and change.
 
 ghost use Rattle.std.specs.Prelude.{◌≡◌, IfOk, option_map};
-ghost use Rattle.var_functions.specs.Props.{property_of};
+ghost use Rattle.var_functions.specs.RunProps.{property_of};
 ghost use Rattle.var_functions.specs.State.{first_functions, first_state, drawn, draw, count, IsLater};
 
 use crate::props::Props;

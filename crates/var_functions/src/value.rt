@@ -2,7 +2,7 @@
 
 ghost use Rattle.std.specs.Prelude.{◌≡◌, ◌≢◌, ◌≤◌, [], All, IfOk, OnErr, length, codes, unwrap_or, option_map};
 ghost use Rattle.std.specs.Fmt.{signed_decimal};
-ghost use Rattle.var_functions.specs.Props.{property_of};
+ghost use Rattle.var_functions.specs.RunProps.{property_of};
 ghost use Rattle.jm_base.specs.Run.{over};
 ghost use Rattle.jm_base.specs.Outside.{Goes};
 ghost use Rattle.cond_expr.specs.Machine.{condition};

@@ -17,14 +17,14 @@ loop-step-init c = (
 pub advance-requires : goal.advance-requires
 advance-requires c =
     let (ws, held, out) = c.loop-step.invariant in
-    let front = first_step c.deref-step-items.result.now c.loop-step.step-index c.step-item.result c.loop-step-test.true c.step-item.is in
-    ready c.step-item.result _ c.loop-step.values.items ws _ (value_of c.args.cond.now) c.loop-step.values.ok.0 held (ap (λ ss. outcome_of ss ws) (sym front) ∙ out)
+    let prefix = first_step c.deref-step-items.result.now c.loop-step.step-index c.step-item.result c.loop-step-test.true c.step-item.is in
+    ready c.step-item.result _ c.loop-step.values.items ws _ (value_of c.args.cond.now) c.loop-step.values.ok.0 held (ap (λ ss. outcome_of ss ws) (sym prefix) ∙ out)
 
 pub loop-step-preserved : goal.loop-step-preserved
 loop-step-preserved c =
     let (ws, held, out) = c.loop-step.invariant in
-    let front = first_step c.deref-step-items.result.now c.loop-step.step-index c.step-item.result c.loop-step-test.true c.step-item.is in
-    c.in_default.ensures _ ws (value_of c.args.cond.now) held (ap (λ ss. outcome_of ss ws) (sym front) ∙ out)
+    let prefix = first_step c.deref-step-items.result.now c.loop-step.step-index c.step-item.result c.loop-step-test.true c.step-item.is in
+    c.in_default.ensures _ ws (value_of c.args.cond.now) held (ap (λ ss. outcome_of ss ws) (sym prefix) ∙ out)
 
 pub unreachable-requires : goal.unreachable-requires
 unreachable-requires c =

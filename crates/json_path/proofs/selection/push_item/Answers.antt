@@ -1,7 +1,7 @@
 use Rattle.std.proofs.Common.{◌++◌, ap, sym, ◌∙◌}
 use Rattle.std.proofs.lemmas.List.{map_push}
 use Rattle.serde_json.specs.View.{view}
-use Rattle.json_path.specs.Views.{data_of}
+use Rattle.json_path.specs.JsonViews.{data_of}
 use Rattle.json_path.proofs.SelectionLaws.{item_at_within, item_at_past, append-nil}
 use Rattle.json_path.proofs.selection.push_item.Goals as goal
 

@@ -1,7 +1,7 @@
 use Rattle.std.proofs.Common.{◌≡◌, ◌++◌, drop}
 use Rattle.serde_json.specs.View.{items_view}
 use Rattle.json_path.specs.Selection.{item_values}
-use Rattle.json_path.specs.Views.{data_of}
+use Rattle.json_path.specs.JsonViews.{data_of}
 use Rattle.json_path.proofs.selection.push_items.Given as goal
 
 abbrev pub invariant-loop-value : goal.invariant-loop-value

@@ -1,7 +1,7 @@
 use Rattle.std.proofs.Common.{◌≡◌, ◌++◌, drop}
 use Rattle.std.specs.List.{filter_map}
 use Rattle.json_path.specs.Selection.{shown}
-use Rattle.json_path.specs.Views.{data_of}
+use Rattle.json_path.specs.JsonViews.{data_of}
 use Rattle.json_path.proofs.selection.show_all.Given as goal
 
 abbrev pub invariant-loop-value : goal.invariant-loop-value

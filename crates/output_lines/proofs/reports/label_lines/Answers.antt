@@ -8,7 +8,7 @@ use Rattle.output_lines.proofs.reports.label_lines.Goals as goal
 
 pub loop-label-preserved : goal.loop-label-preserved
 loop-label-preserved c =
-    let line = row_line (map (λ f. f.now) c.args.front.now) in
+    let line = row_line (map (λ f. f.now) c.args.prefix.now) in
     let names = labels_of c.args.plan.now.elements in
     let rows = c.args.rows.now in
     let low : c.loop-label.label < length rows = omega (arith, c.loop-label-test.true, c.labels-label-end.ensures, c.requires) in
@@ -21,5 +21,5 @@ loop-label-preserved c =
     ]
 
 pub returns : goal.returns
-returns c = all_lines (row_line (map (λ f. f.now) c.args.front.now)) (labels_of c.args.plan.now.elements) c.args.rows.now c.requires c.args.out.now.items c.loop-label.out.items c.loop-label.label
+returns c = all_lines (row_line (map (λ f. f.now) c.args.prefix.now)) (labels_of c.args.plan.now.elements) c.args.rows.now c.requires c.args.out.now.items c.loop-label.out.items c.loop-label.label
     (omega (arith, c.loop-label-test.false, c.labels-label-end.ensures)) c.loop-label.invariant

@@ -1,5 +1,5 @@
 use Rattle.std.proofs.Common.{◌≡◌, drop}
-use Rattle.phaser_core.specs.Shape.{all_gone}
+use Rattle.phaser_core.specs.CoreShape.{all_gone}
 use Rattle.phaser_core.proofs.machine.all_gone.Given as goal
 
 abbrev pub invariant-loop-writer : goal.invariant-loop-writer

@@ -1,5 +1,5 @@
 use Rattle.std.proofs.Common.{◌≡◌, ◌++◌}
-use Rattle.phaser_core.specs.Moves.{first_cells}
+use Rattle.phaser_core.specs.CoreMoves.{first_cells}
 use Rattle.phaser_core.proofs.machine.push_table.Given as goal
 
 abbrev pub invariant-loop-label : goal.invariant-loop-label

@@ -1,5 +1,5 @@
 use Rattle.std.proofs.Common.{◌≡◌, ◌*◌, ℕ, List, [], ◌∷◌, ◌++◌, ap, ◌∙◌, arith}
-use Rattle.phaser_core.specs.Moves.{first_cells}
+use Rattle.phaser_core.specs.CoreMoves.{first_cells}
 use Rattle.phaser_words.proofs.Allowed.{cells_more, cells_twice}
 use Rattle.phaser_words.proofs.cells.opening_words.Goals as goal
 

@@ -1,5 +1,5 @@
 use Rattle.std.proofs.Common.{◌≡◌, ◌∷◌}
-use Rattle.phaser_core.specs.Moves.{first_cells}
+use Rattle.phaser_core.specs.CoreMoves.{first_cells}
 use Rattle.phaser_words.proofs.cells.opening_words.Given as goal
 
 abbrev pub invariant-loop-row : goal.invariant-loop-row

@@ -1,16 +1,16 @@
 use Rattle.std.proofs.Common.{◌≡◌, ◌+◌, ◌*◌, ◌<◌, ◌++◌, ◌∷◌, [], ℕ, List, take, set, sym, ap, ◌∙◌, arith, append_assoc, length-set}
 use Rattle.std.proofs.lemmas.List.{take_more_set}
 use Rattle.std.proofs.Math.Seq.{take-length}
-use Rattle.phaser_core.specs.declared.view.Reading.{Reading}
+use Rattle.phaser_core.specs.declared.view.ReporterView.{ReporterView}
 use Rattle.phaser_core.specs.Cells.{table_cells}
-use Rattle.phaser_core.specs.Moves.{gathered}
+use Rattle.phaser_core.specs.CoreMoves.{gathered}
 use Rattle.phaser_words.specs.Seats.{reading}
 use Rattle.recorder_core.proofs.Cellwise.{gathered_next}
 use Rattle.recorder_core.proofs.rows.take_row.Goals as goal
 
 pub loop-column-preserved : goal.loop-column-preserved
 loop-column-preserved c =
-    let r : Reading = reading c.args.seat.now in let n = c.loop-column.column in let cells = c.loop-column.cells in let x = c.take.result in
+    let r : ReporterView = reading c.args.seat.now in let n = c.loop-column.column in let cells = c.loop-column.cells in let x = c.take.result in
     let labels = c.requires.seat.1 in let label = c.requires.label in
     let low : 6 * c.args.label + n < table_cells r.labels = omega arith in
     let more = take_more_set cells n x (omega arith) in
@@ -24,7 +24,7 @@ loop-column-preserved c =
 
 pub returns-clause-taken : goal.returns-clause-taken
 returns-clause-taken c =
-    let r : Reading = reading c.args.seat.now in let cells = c.loop-column.cells in
+    let r : ReporterView = reading c.args.seat.now in let cells = c.loop-column.cells in
     let end : c.loop-column.column ≡ 6 = omega arith in let long = c.loop-column.invariant.long in
     let whole : take c.loop-column.column cells ≡ cells = ap (λ (k : ℕ). take k cells) (end ∙ sym long) ∙ take-length cells in
     (cells, long, c.loop-column.invariant.far ∙ (λ i. gathered r (r.cells ++ whole i) (6 * c.args.label + end i)), c.row_of.ensures)

@@ -1,5 +1,5 @@
 use Rattle.std.proofs.Common.{◌≡◌, ◌+◌, ◌*◌, ◌++◌, length, take}
-use Rattle.phaser_core.specs.Moves.{gathered}
+use Rattle.phaser_core.specs.CoreMoves.{gathered}
 use Rattle.phaser_words.specs.Seats.{reading, IsReporterOf}
 use Rattle.recorder_core.proofs.rows.take_row.Given as goal
 

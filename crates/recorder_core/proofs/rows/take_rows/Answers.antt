@@ -1,20 +1,20 @@
 use Rattle.std.proofs.Common.{◌≡◌, ◌+◌, ◌*◌, ◌<◌, ◌++◌, ℕ, length, get_or, take, sym, ap, ◌∙◌, arith, length-append}
 use Rattle.std.proofs.Math.Seq.{take-length}
-use Rattle.phaser_core.specs.declared.view.Reading.{Reading}
+use Rattle.phaser_core.specs.declared.view.ReporterView.{ReporterView}
 use Rattle.phaser_core.specs.Cells.{table_cells, rows_from}
-use Rattle.phaser_core.specs.Moves.{gathered}
+use Rattle.phaser_core.specs.CoreMoves.{gathered}
 use Rattle.phaser_words.specs.Seats.{reading}
 use Rattle.recorder_core.proofs.Cellwise.{rows_taken, gathered_row, gathered_all, harvests_at}
 use Rattle.recorder_core.proofs.rows.take_rows.Goals as goal
 
 pub take_row-requires-clause-begun : goal.take_row-requires-clause-begun
 take_row-requires-clause-begun c =
-    let inv = c.loop-label.invariant in let r : Reading = reading c.args.seat.now in let labels = c.requires.seat.1 in let end = c.labels-label-end.ensures in
+    let inv = c.loop-label.invariant in let r : ReporterView = reading c.args.seat.now in let labels = c.requires.seat.1 in let end = c.labels-label-end.ensures in
     harvests_at r (reading c.loop-label.seat) inv.0 (6 * c.loop-label.label) inv.3 (omega arith)
 
 pub loop-label-preserved : goal.loop-label-preserved
 loop-label-preserved c =
-    let inv = c.loop-label.invariant in let r : Reading = reading c.args.seat.now in let l = c.loop-label.label in let labels = c.requires.seat.1 in let end = c.labels-label-end.ensures in
+    let inv = c.loop-label.invariant in let r : ReporterView = reading c.args.seat.now in let l = c.loop-label.label in let labels = c.requires.seat.1 in let end = c.labels-label-end.ensures in
     let rows = c.requires.rows in
     let taken = c.take_row.ensures.taken in let cells = inv.0 in let more = taken.0 in
     let low : 6 * l < table_cells r.labels = omega arith in
@@ -29,7 +29,7 @@ loop-label-preserved c =
 
 pub returns-clause-closed : goal.returns-clause-closed
 returns-clause-closed c =
-    let inv = c.loop-label.invariant in let r : Reading = reading c.args.seat.now in let labels = c.requires.seat.1 in let end = c.labels-label-end.ensures in
+    let inv = c.loop-label.invariant in let r : ReporterView = reading c.args.seat.now in let labels = c.requires.seat.1 in let end = c.labels-label-end.ensures in
     let all : c.loop-label.label ≡ r.labels = omega arith in let rows = c.requires.rows in
     let whole : length c.loop-label.rows ≡ c.loop-label.label = omega arith in
     gathered_all r (reading c.loop-label.seat) inv.0 c.loop-label.rows (6 * c.loop-label.label) inv.3 (omega arith)

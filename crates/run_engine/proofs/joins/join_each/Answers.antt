@@ -8,7 +8,7 @@ use Rattle.element_tree.specs.Tree.{Tree}
 use Rattle.thread_machine.specs.declared.trace.TraceItem.{TraceItem}
 use Rattle.thread_machine.specs.Bare.{IsLabelled}
 use Rattle.phaser_core.specs.Views.{left_of}
-use Rattle.phaser_core.specs.declared.view.Reading.{Reading}
+use Rattle.phaser_core.specs.declared.view.ReporterView.{ReporterView}
 use Rattle.recorder_core.specs.Seats.{reports, writes}
 use Rattle.run_engine.specs.declared.job.Job.{Job}
 use Rattle.run_engine.specs.Asked.{options_of}
@@ -40,13 +40,13 @@ loop-job-preserved g c =
           (rest_each (IsDone account c.args.recorder.now plan options (g.W.World.identity c.args.world.now) tells c.args.count) n _ _ _ step inv.left);
       room = (let room = inv.room in let fewer = ap length step in let wide : vec_capacity c.loop-job.traces ≤ vec_capacity c.push-pushed.new.self = search rules in omega arith);
       only = record {
-        interval = ap (λ (r : Reading). r.interval) taken ∙ inv.only.interval;
-        closed = ap (λ (r : Reading). r.closed) taken ∙ inv.only.closed;
-        raised = ap (λ (r : Reading). r.raised) taken ∙ inv.only.raised;
-        ready = ap (λ (r : Reading). r.ready) taken ∙ inv.only.ready;
-        labels = ap (λ (r : Reading). r.labels) taken ∙ inv.only.labels;
+        interval = ap (λ (r : ReporterView). r.interval) taken ∙ inv.only.interval;
+        closed = ap (λ (r : ReporterView). r.closed) taken ∙ inv.only.closed;
+        raised = ap (λ (r : ReporterView). r.raised) taken ∙ inv.only.raised;
+        ready = ap (λ (r : ReporterView). r.ready) taken ∙ inv.only.ready;
+        labels = ap (λ (r : ReporterView). r.labels) taken ∙ inv.only.labels;
       };
-      joined = ap (λ (r : Reading). r.joined ++ map joined_of rest) taken
+      joined = ap (λ (r : ReporterView). r.joined ++ map joined_of rest) taken
           ∙ append_assoc before.joined (left_of (writes job.seat) ∷ []) (map joined_of rest)
           ∙ ap (λ (xs : List (Job _)). before.joined ++ map joined_of xs) (sym step)
           ∙ inv.joined;

@@ -1,6 +1,6 @@
 use Rattle.std.proofs.Common.{◌∙◌, ℕ, Bool, ap, sym, subst, length}
 use Rattle.output_lines.specs.Reports.{report_text}
-use Rattle.phaser_core.specs.declared.view.Reading.{Reading}
+use Rattle.phaser_core.specs.declared.view.ReporterView.{ReporterView}
 use Rattle.recorder_core.specs.Seats.{reports}
 use Rattle.reporter_loop.proofs.Judging.{reported_same, quiet}
 use Rattle.reporter_loop.proofs.Outcomes.{if_ok_then, if_ok_and, err_then, on_ok}
@@ -35,7 +35,7 @@ returns-in-Ok-outcome-clause-ends g c =
 pub returns-in-Ok-outcome-clause-marks : goal.returns-in-Ok-outcome-clause-marks
 returns-in-Ok-outcome-clause-marks g c =
     if_ok_and c.finish_run.result c.finish_run.ensures.traces c.finish_run.ensures.lists (λ b traces books.
-    subst (λ (r : Reading). AllMarked r.joined b.traces) (sym books) (subst (AllMarked (reports c.join_all.new.seat).joined) (sym traces) c.join_all.ensures.marks))
+    subst (λ (r : ReporterView). AllMarked r.joined b.traces) (sym books) (subst (AllMarked (reports c.join_all.new.seat).joined) (sym traces) c.join_all.ensures.marks))
 
 pub returns-in-Ok-outcome-clause-follows : goal.returns-in-Ok-outcome-clause-follows
 returns-in-Ok-outcome-clause-follows g c =
@@ -64,4 +64,4 @@ returns-in-Ok-outcome-clause-unlimited g c =
     let h = on_ok c.run_beside-jobs.result.2 c.in-Ok-outcome.is c.run_beside-jobs.ensures.reported in
     let r = reports c.run_beside-jobs.result.1 in let only = c.join_all.ensures.only in
     if_ok_then c.finish_run.result c.finish_run.ensures.lists (λ b is most.
-    ap (λ (q : Reading). q.raised) is ∙ only.raised ∙ h.raised ∙ quiet limit r.closed most h.bounds)
+    ap (λ (q : ReporterView). q.raised) is ∙ only.raised ∙ h.raised ∙ quiet limit r.closed most h.bounds)

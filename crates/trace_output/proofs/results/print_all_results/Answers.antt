@@ -21,4 +21,4 @@ returns-in_err-put_traces-clause-cut g c = λ is.
 
 pub returns-clause-failed : goal.returns-clause-failed
 returns-clause-failed g c = λ is.
-    last_failed _ _ _ _ c.in-Ok.pending c.in-Ok.ensures _ c.in_ok-put_header.ensures.put _ c.in_ok-put_traces.ensures.put _ _ (c.finish.ensures.front is) (c.finish.ensures.cause is)
+    last_failed _ _ _ _ c.in-Ok.pending c.in-Ok.ensures _ c.in_ok-put_header.ensures.put _ c.in_ok-put_traces.ensures.put _ _ (c.finish.ensures.prefix is) (c.finish.ensures.cause is)

@@ -10,7 +10,7 @@ use Rattle.template_text.proofs.Written.{argument_weight}
 use Rattle.var_functions.specs.Vars.{most_text}
 use Rattle.var_functions.specs.Functions.{function_named}
 use Rattle.var_functions.specs.Came.{by_memory}
-use Rattle.var_functions.specs.Expansion.{taking, count, texts_behind, Grows}
+use Rattle.var_functions.specs.Expansion.{taking, count, after_texts, Grows}
 use Rattle.var_functions.proofs.LaterLaws.{later_same, later_then}
 use Rattle.var_functions.proofs.Expanding.{grows-came, one_piece, no_piece, one_argument, no_argument, count-arguments_of, referred_call, called_none, called_refused, called_value, called_cut, piece_weight, weight-positive}
 use Rattle.var_functions.proofs.expansion.+expansion.Goals as goal
@@ -61,7 +61,7 @@ write_called-returns-in_default-clause-came g t c =
     let which : option_and_then (taking (count (arguments_of c.args.args.now))) (function_named c.args.name.now) ≡ c.taking.result =
     ap (λ n. option_and_then (taking n) (function_named c.args.name.now)) (count-arguments_of c.args.args.now) ∙ ap (λ n. option_and_then (taking (length c.args.args.now)) (function_named n)) (sym c.bytes.ensures)
     ∙ ap (option_and_then (taking (length c.args.args.now))) (sym c.function_named.ensures) ∙ sym c.taking.ensures in
-    called_none _ (texts_behind (arguments_of c.args.args.now) c.args.vars.now []) (reference_spelling (call c.args.name.now (arguments_of c.args.args.now))) c.args.out.now.items c.args.vars.now c.args.fns.now _
+    called_none _ (after_texts (arguments_of c.args.args.now) c.args.vars.now []) (reference_spelling (call c.args.name.now (arguments_of c.args.args.now))) c.args.out.now.items c.args.vars.now c.args.fns.now _
     (referred_call c.args.name.now (arguments_of c.args.args.now) c.args.vars.now c.args.fns.now) _ c.append_call.new.out.items c.append_call.result (which ∙ c.in_default.is) c.append_call.ensures.grown
 
 pub write_called-returns-in-Ok-Some-clause-came : goal.write_called-returns-in-Ok-Some-clause-came
@@ -69,7 +69,7 @@ write_called-returns-in-Ok-Some-clause-came g t c =
     let which : option_and_then (taking (count (arguments_of c.args.args.now))) (function_named c.args.name.now) ≡ c.taking.result =
     ap (λ n. option_and_then (taking n) (function_named c.args.name.now)) (count-arguments_of c.args.args.now) ∙ ap (λ n. option_and_then (taking (length c.args.args.now)) (function_named n)) (sym c.bytes.ensures)
     ∙ ap (option_and_then (taking (length c.args.args.now))) (sym c.function_named.ensures) ∙ sym c.taking.ensures in
-    called_value _ (texts_behind (arguments_of c.args.args.now) c.args.vars.now []) (reference_spelling (call c.args.name.now (arguments_of c.args.args.now))) c.args.out.now.items c.args.vars.now c.args.fns.now _
+    called_value _ (after_texts (arguments_of c.args.args.now) c.args.vars.now []) (reference_spelling (call c.args.name.now (arguments_of c.args.args.now))) c.args.out.now.items c.args.vars.now c.args.fns.now _
     (referred_call c.args.name.now (arguments_of c.args.args.now) c.args.vars.now c.args.fns.now) _ _ c.in-Some.function c.in-Ok.texts.items c.argument_texts.new.fns (which ∙ c.in-Some.is) c.in-Ok.ensures.came
     _ (Some c.in-Ok-Some.text) c.value.new.fns c.append.new.out.items c.append.result (rw (c.deref.ensures.value, c.in-Ok-Some.field-0-is) at c.in-Ok-Some.ensures.ok)
     (subst (λ t. Grows (c.args.out.now.items ++ t) c.append.new.out.items c.append.result) c.bytes-in-Ok-Some.ensures c.append.ensures.grown)
@@ -79,7 +79,7 @@ write_called-returns-in-Ok-None-clause-came g t c =
     let which : option_and_then (taking (count (arguments_of c.args.args.now))) (function_named c.args.name.now) ≡ c.taking.result =
     ap (λ n. option_and_then (taking n) (function_named c.args.name.now)) (count-arguments_of c.args.args.now) ∙ ap (λ n. option_and_then (taking (length c.args.args.now)) (function_named n)) (sym c.bytes.ensures)
     ∙ ap (option_and_then (taking (length c.args.args.now))) (sym c.function_named.ensures) ∙ sym c.taking.ensures in
-    called_value _ (texts_behind (arguments_of c.args.args.now) c.args.vars.now []) (reference_spelling (call c.args.name.now (arguments_of c.args.args.now))) c.args.out.now.items c.args.vars.now c.args.fns.now _
+    called_value _ (after_texts (arguments_of c.args.args.now) c.args.vars.now []) (reference_spelling (call c.args.name.now (arguments_of c.args.args.now))) c.args.out.now.items c.args.vars.now c.args.fns.now _
     (referred_call c.args.name.now (arguments_of c.args.args.now) c.args.vars.now c.args.fns.now) _ _ c.in-Some.function c.in-Ok.texts.items c.argument_texts.new.fns (which ∙ c.in-Some.is) c.in-Ok.ensures.came
     _ None c.value.new.fns c.append_call-in-Ok-None.new.out.items c.append_call-in-Ok-None.result (rw (c.deref.ensures.value, c.in-Ok-None.field-0-is) at c.in-Ok-None.ensures.ok) c.append_call-in-Ok-None.ensures.grown
 
@@ -88,7 +88,7 @@ write_called-returns-in-Ok-clause-came g t c =
     let which : option_and_then (taking (count (arguments_of c.args.args.now))) (function_named c.args.name.now) ≡ c.taking.result =
     ap (λ n. option_and_then (taking n) (function_named c.args.name.now)) (count-arguments_of c.args.args.now) ∙ ap (λ n. option_and_then (taking (length c.args.args.now)) (function_named n)) (sym c.bytes.ensures)
     ∙ ap (option_and_then (taking (length c.args.args.now))) (sym c.function_named.ensures) ∙ sym c.taking.ensures in
-    called_cut _ (texts_behind (arguments_of c.args.args.now) c.args.vars.now []) (reference_spelling (call c.args.name.now (arguments_of c.args.args.now))) c.args.out.now.items c.args.vars.now c.args.fns.now _
+    called_cut _ (after_texts (arguments_of c.args.args.now) c.args.vars.now []) (reference_spelling (call c.args.name.now (arguments_of c.args.args.now))) c.args.out.now.items c.args.vars.now c.args.fns.now _
     (referred_call c.args.name.now (arguments_of c.args.args.now) c.args.vars.now c.args.fns.now) _ _ c.in-Some.function c.in-Ok.texts.items c.argument_texts.new.fns (which ∙ c.in-Some.is) c.in-Ok.ensures.came
     _ _ (rw c.deref.ensures.value at c.in-Err-value.ensures.cut)
 
@@ -97,7 +97,7 @@ write_called-returns-clause-came g t c =
     let which : option_and_then (taking (count (arguments_of c.args.args.now))) (function_named c.args.name.now) ≡ c.taking.result =
     ap (λ n. option_and_then (taking n) (function_named c.args.name.now)) (count-arguments_of c.args.args.now) ∙ ap (λ n. option_and_then (taking (length c.args.args.now)) (function_named n)) (sym c.bytes.ensures)
     ∙ ap (option_and_then (taking (length c.args.args.now))) (sym c.function_named.ensures) ∙ sym c.taking.ensures in
-    called_refused _ (texts_behind (arguments_of c.args.args.now) c.args.vars.now []) (reference_spelling (call c.args.name.now (arguments_of c.args.args.now))) c.args.out.now.items c.args.vars.now c.args.fns.now _
+    called_refused _ (after_texts (arguments_of c.args.args.now) c.args.vars.now []) (reference_spelling (call c.args.name.now (arguments_of c.args.args.now))) c.args.out.now.items c.args.vars.now c.args.fns.now _
     (referred_call c.args.name.now (arguments_of c.args.args.now) c.args.vars.now c.args.fns.now) _ _ c.in-Some.function c.argument_texts.new.fns c.in-Err.error (which ∙ c.in-Some.is) c.in-Err.ensures.came
 
 pub write_piece-returns-in-Text-clause-came : goal.write_piece-returns-in-Text-clause-came

@@ -3,23 +3,23 @@ use Rattle.jm_base.specs.Outside.{Goes}
 use Rattle.template_text.specs.View.{pieces_of, arguments_of, weight, arguments_weight}
 use Rattle.var_functions.specs.Vars.{most_text}
 use Rattle.var_functions.specs.State.{IsLater}
-use Rattle.var_functions.specs.Expansion.{pieces_behind, texts_behind}
+use Rattle.var_functions.specs.Expansion.{after_pieces, after_texts}
 use Rattle.var_functions.proofs.expansion.+expansion.Given as goal
 
 abbrev pub invariant-write_pieces-loop-piece : goal.invariant-write_pieces-loop-piece
 invariant-write_pieces-loop-piece g l = record {
   all : pieces_of l.piece-items ≡ l.template;
   short : length l.out.items ≤ most_text;
-  goes : Goes (g.O.Outside.account l.fn.outside) (pieces_behind l.template l.vars l.fn.out.items l.fn.fns) []
-      (pieces_behind (pieces_of (drop l.piece-index l.piece-items)) l.vars l.out.items l.fns) (g.O.Outside.account l.outside);
+  goes : Goes (g.O.Outside.account l.fn.outside) (after_pieces l.template l.vars l.fn.out.items l.fn.fns) []
+      (after_pieces (pieces_of (drop l.piece-index l.piece-items)) l.vars l.out.items l.fns) (g.O.Outside.account l.outside);
   later : IsLater l.fn.fns l.fns;
 }
 
 abbrev pub invariant-argument_texts-loop-argument : goal.invariant-argument_texts-loop-argument
 invariant-argument_texts-loop-argument g l = record {
   short : All (λ t. length t ≤ most_text) l.texts.items;
-  goes : Goes (g.O.Outside.account l.fn.outside) (texts_behind (arguments_of l.args) l.vars [] l.fn.fns) []
-      (texts_behind (arguments_of (drop l.argument-index l.args)) l.vars l.texts.items l.fns) (g.O.Outside.account l.outside);
+  goes : Goes (g.O.Outside.account l.fn.outside) (after_texts (arguments_of l.args) l.vars [] l.fn.fns) []
+      (after_texts (arguments_of (drop l.argument-index l.args)) l.vars l.texts.items l.fns) (g.O.Outside.account l.outside);
   later : IsLater l.fn.fns l.fns;
 }
 

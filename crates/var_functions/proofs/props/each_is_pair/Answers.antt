@@ -3,7 +3,7 @@ use borrow.Author.Tests.{tests}
 use Rattle.std.proofs.lemmas.Iterator.Search.{all_from_yields_List}
 use Rattle.std.proofs.lemmas.Iterator.Splits.{YieldsList-from_slice_split}
 use Rattle.form_urlencoded.specs.Form.{ampersand}
-use Rattle.var_functions.specs.Props.{is_pair}
+use Rattle.var_functions.specs.RunProps.{is_pair}
 use Rattle.var_functions.proofs.props.each_is_pair.Goals as goal
 
 pub returns : goal.returns

@@ -1,6 +1,6 @@
 use Rattle.std.proofs.Common.{◌≡◌, ◌++◌, map}
 use Rattle.form_urlencoded.specs.Parse.{owned_pairs_left}
-use Rattle.var_functions.specs.Props.{pairs_of, decoded_pair}
+use Rattle.var_functions.specs.RunProps.{pairs_of, decoded_pair}
 use Rattle.var_functions.proofs.props.pairs.Given as goal
 
 -- what was found and what is left are all

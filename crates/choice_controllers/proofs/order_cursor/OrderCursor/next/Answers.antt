@@ -5,7 +5,7 @@ use Rattle.choice_controllers.proofs.order_cursor.OrderCursor.next.Goals as goal
 
 pub returns-in-Some-clause-came : goal.returns-in-Some-clause-came
 returns-in-Some-clause-came g c =
-    goes-same _ _ _ (order-child c.args.self.now c.args.state.now c.in-Some.place c.next_place.new.self (sym c.in-Some.is ∙ c.next_place.ensures.place) c.in-Some.ensures.behind)
+    goes-same _ _ _ (order-child c.args.self.now c.args.state.now c.in-Some.place c.next_place.new.self (sym c.in-Some.is ∙ c.next_place.ensures.place) c.in-Some.ensures.moved)
 
 pub returns-in-None-clause-came : goal.returns-in-None-clause-came
 returns-in-None-clause-came g c =

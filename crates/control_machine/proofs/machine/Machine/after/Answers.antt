@@ -2,4 +2,4 @@ use Rattle.control_machine.proofs.HearingLaws.{told_stands}
 use Rattle.control_machine.proofs.machine.Machine.after.Goals as goal
 
 pub returns-clause-stands : goal.returns-clause-stands
-returns-clause-stands c = λ plan stands. rw (c.hear.ensures, c.signal_behind-self.ensures) (told_stands plan c.args.sample.now c.args.self.now stands)
+returns-clause-stands c = λ plan stands. rw (c.hear.ensures, c.signal_after-self.ensures) (told_stands plan c.args.sample.now c.args.self.now stands)

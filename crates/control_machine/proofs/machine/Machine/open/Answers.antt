@@ -1,6 +1,6 @@
 use Rattle.std.proofs.Common.{refl, ◌∙◌, ◌-◌, arith}
 use Rattle.jm_meaning.specs.Meaning.{meaning}
-use Rattle.control_machine.specs.Left.{here_in, left_behind, own_at, state_at}
+use Rattle.control_machine.specs.Left.{here_in, left_after, own_at, state_at}
 use Rattle.control_machine.proofs.Opening.{nests_at}
 use Rattle.control_machine.proofs.Turning.{open_nothing, open_sampler, open_frame, open_refused, own_is}
 use Rattle.control_machine.proofs.Standing.{pushed_stands, pushed_opens, pushed_rounds, pushed_begins}
@@ -71,6 +71,6 @@ returns-in-Ok-Open-clause-cut g c =
 
 pub returns-in-Err-clause-cut : goal.returns-in-Err-clause-cut
 returns-in-Err-clause-cut g c =
-    cut_at c.args.plan.now (λ units. left_behind c.args.plan.now c.args.self.now (meaning (here_in c.args.plan.now c.args.self.now) c.args.depth c.args.child c.args.round (state_at c.args.self.now units c.args.state.now)))
+    cut_at c.args.plan.now (λ units. left_after c.args.plan.now c.args.self.now (meaning (here_in c.args.plan.now c.args.self.now) c.args.depth c.args.child c.args.round (state_at c.args.self.now units c.args.state.now)))
     c.args.self.now (before_element c.args.depth c.args.child c.args.round) c.args.state.now c.enter.new.state
     (λ units. past (state_at (record c.args.self.now { places = c.enter.new.places }) units c.enter.new.state)) c.in-Err.error (λ units. refl) (returns-in-Err-clause-came g c) c.in-Err.ensures.stands

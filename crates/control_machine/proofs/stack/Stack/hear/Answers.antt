@@ -8,10 +8,10 @@ pub returns : goal.returns
 returns c =
     let new = c.hear_all.new.frames in
     let old = c.self.inside.frames in
-    let front : reverse new.items ≡ all_hearing c.args.sample.now (reverse old.items) =
+    let prefix : reverse new.items ≡ all_hearing c.args.sample.now (reverse old.items) =
     ap reverse c.hear_all.ensures.frames ∙ sym (map-reverse (frame_hearing c.args.sample.now) old.items) in
     let long = ap length c.hear_all.ensures.frames in
     let many = length-map old.items (frame_hearing c.args.sample.now) in
     let room : vec_capacity new - vec_len new ≡ vec_capacity old - vec_len old =
     omega (arith, c.hear_all.ensures.room, new.ok.0, old.ok.0, long, many) in
-    rw (← c.self.view_is) (λ k. record { frames = front k; room = room k })
+    rw (← c.self.view_is) (λ k. record { frames = prefix k; room = room k })

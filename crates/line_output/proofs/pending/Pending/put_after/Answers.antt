@@ -1,6 +1,6 @@
 use Rattle.std.proofs.Common.{sym, subst}
 use Rattle.std.proofs.lemmas.Result.{on_ok_weaker, on_err_weaker}
-use Rattle.line_output.specs.Pieces.{Moves}
+use Rattle.line_output.specs.OutputPieces.{Moves}
 use Rattle.line_output.proofs.PieceLaws.{moves_out, front_after}
 use Rattle.line_output.proofs.pending.Pending.put_after.Goals as goal
 
@@ -14,9 +14,9 @@ returns-then-text-gt-MOST-clause-moved g c =
     (moves_out before between after c.args.self.now c.args.text.now c.in_ok-hand_over.ensures.whole out))
     c.write_all.ensures.whole
 
-pub returns-then-text-gt-MOST-clause-front : goal.returns-then-text-gt-MOST-clause-front
-returns-then-text-gt-MOST-clause-front g c =
+pub returns-then-text-gt-MOST-clause-prefix : goal.returns-then-text-gt-MOST-clause-prefix
+returns-then-text-gt-MOST-clause-prefix g c =
     on_err_weaker c.write_all.result
-    (λ front. front_after (g.K.Sink.written c.args.sink.now) (g.K.Sink.written c.hand_over.new.sink) (g.K.Sink.written c.write_all.new.sink) c.args.self.now c.args.text.now
-    c.in_ok-hand_over.ensures.whole front)
-    c.write_all.ensures.front
+    (λ prefix. front_after (g.K.Sink.written c.args.sink.now) (g.K.Sink.written c.hand_over.new.sink) (g.K.Sink.written c.write_all.new.sink) c.args.self.now c.args.text.now
+    c.in_ok-hand_over.ensures.whole prefix)
+    c.write_all.ensures.prefix

@@ -1,5 +1,5 @@
 use Rattle.std.proofs.Common.{sym, ap, ◌∙◌, None}
-use Rattle.cursor_steps.specs.Step.{answers}
+use Rattle.cursor_steps.specs.CursorStep.{answers}
 use Rattle.cursor_steps.specs.Children.{run_count}
 use Rattle.logic_controllers.specs.Rounds.{before_rounds}
 use Rattle.cursor_steps.proofs.Steps.{goes-same, same-element}

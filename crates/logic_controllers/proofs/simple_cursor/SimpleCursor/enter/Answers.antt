@@ -1,5 +1,5 @@
 use Rattle.std.proofs.Common.{sym, ap, ◌∙◌}
-use Rattle.cursor_steps.specs.Step.{answers}
+use Rattle.cursor_steps.specs.CursorStep.{answers}
 use Rattle.cursor_steps.specs.Children.{pass_over, run_count}
 use Rattle.cursor_steps.proofs.Steps.{goes-same, same-element}
 use Rattle.logic_controllers.proofs.simple_cursor.SimpleCursor.enter.Goals as goal

@@ -1,5 +1,5 @@
 use Rattle.std.proofs.Common.{rules, ◌∙◌, subst}
-use Rattle.phaser_words.specs.Kinds.{HasAll}
+use Rattle.phaser_words.specs.RecorderKinds.{HasAll}
 use Rattle.phaser_words.proofs.Allowed.{exit_allowed, end_inside}
 use Rattle.phaser_words.proofs.places.Words.exit.Goals as goal
 

@@ -1,4 +1,4 @@
-use Rattle.phaser_words.specs.Kinds.{no_numbers}
+use Rattle.phaser_words.specs.RecorderKinds.{no_numbers}
 use Rattle.phaser_words.proofs.places.Words.load.Given as goal
 
 abbrev pub ghosts-load_with : goal.ghosts-load_with

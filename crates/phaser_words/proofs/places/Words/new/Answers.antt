@@ -4,9 +4,9 @@ use Rattle.phaser_core.specs.declared.view.Numbers.{Numbers}
 use Rattle.phaser_core.specs.declared.view.View.{View}
 use Rattle.phaser_core.specs.Cells.{word_count}
 use Rattle.phaser_core.specs.Views.{first_reading}
-use Rattle.phaser_core.specs.Moves.{first_words}
+use Rattle.phaser_core.specs.CoreMoves.{first_words}
 use Rattle.phaser_core.proofs.Members.{first_wide}
-use Rattle.phaser_words.specs.Kinds.{holds_of, first_view}
+use Rattle.phaser_words.specs.RecorderKinds.{holds_of, first_view}
 use Rattle.phaser_words.proofs.Allowed.{begins, makes_first}
 use Rattle.phaser_words.proofs.places.Words.new.Goals as goal
 

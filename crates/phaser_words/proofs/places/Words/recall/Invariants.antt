@@ -1,4 +1,4 @@
-use Rattle.phaser_words.specs.Kinds.{no_entry}
+use Rattle.phaser_words.specs.RecorderKinds.{no_entry}
 use Rattle.phaser_words.proofs.places.Words.recall.Given as goal
 
 abbrev pub ghosts-recall_with : goal.ghosts-recall_with

@@ -1,5 +1,5 @@
 use Rattle.std.proofs.Common.{◌≡◌, false, ap, ◌∙◌}
-use Rattle.thread_machine.proofs.Ends.{stands_behind}
+use Rattle.thread_machine.proofs.Ends.{stands_after}
 use Rattle.thread_machine.proofs.Sound.{sound_behind, sound_cut}
 use Rattle.thread_machine.proofs.Steps.{cut_ended}
 use Rattle.thread_machine.proofs.worker.Worker.step.Goals as goal
@@ -16,7 +16,7 @@ returns-in-Ok-clause-stands g c =
     let going : c.self.inside.ended ≡ false = ap (λ s. s.ended) c.self.view_is ∙ c.requires.going in
     let owed = ap (λ s. s.owed) c.self.view_is ∙ c.requires.owed in
     rw (← c.self.view_is, going, c.is_end-self-inside.ensures)
-    (λ start options stands. stands_behind start _ _ options _ _ c.in-Ok.step owed c.in-Ok.ensures.steps stands)
+    (λ start options stands. stands_after start _ _ options _ _ c.in-Ok.step owed c.in-Ok.ensures.steps stands)
 
 pub returns-in-Err-clause-steps : goal.returns-in-Err-clause-steps
 returns-in-Err-clause-steps g c =

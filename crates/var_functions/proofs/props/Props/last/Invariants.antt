@@ -1,6 +1,6 @@
 use Rattle.std.proofs.Common.{◌≡◌, drop}
 use Rattle.std.specs.Option.{option_map}
-use Rattle.var_functions.specs.Props.{property_of, or_else}
+use Rattle.var_functions.specs.RunProps.{property_of, or_else}
 use Rattle.var_functions.proofs.props.Props.last.Given as goal
 
 -- what was found stands, unless a later pair has the name

@@ -1,6 +1,6 @@
 use Rattle.std.proofs.Common.{rules, ap, sym, subst, List}
 use Rattle.std.specs.Prelude.{All}
-use Rattle.run_engine.specs.Ran.{AllRan, CanRun}
+use Rattle.run_engine.specs.JobsRan.{AllRan, CanRun}
 use Rattle.run_engine.specs.declared.job.Job.{Job}
 use denote.Exit.{no}
 use denote.Param.{param}

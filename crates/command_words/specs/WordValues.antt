@@ -3,7 +3,7 @@ use Rattle.std.specs.Prelude.{ℕ, Bool, ◌&&◌, nat_le, List, length, Option,
 use Rattle.std.specs.List.{list_all}
 use Rattle.std.specs.Char.{is_ascii_digit}
 use Rattle.std.specs.Str.Parse.{digits_value}
-use Rattle.var_functions.specs.Props.{each_is_pair, pairs_of}
+use Rattle.var_functions.specs.RunProps.{each_is_pair, pairs_of}
 use Rattle.command_words.specs.Grammar.{Word}
 
 -- 1 to 20 decimal digits

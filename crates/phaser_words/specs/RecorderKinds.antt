@@ -7,17 +7,17 @@ use Rattle.interval_tables.specs.Rows.{sum_of, IsInBounds}
 use Rattle.phaser_core.specs.declared.view.Numbers.{Numbers}
 use Rattle.phaser_core.specs.declared.view.Stage.{Stage}
 use Rattle.phaser_core.specs.declared.view.Stage.TheVariants.{Out, In, On}
-use Rattle.phaser_core.specs.declared.view.Closing.{Closing}
-use Rattle.phaser_core.specs.declared.view.Closing.TheVariants.{Idle, Swapped, Cleared, Waiting, Harvest}
+use Rattle.phaser_core.specs.declared.view.ReporterStage.{ReporterStage}
+use Rattle.phaser_core.specs.declared.view.ReporterStage.TheVariants.{Idle, Swapped, Cleared, Waiting, Harvest}
 use Rattle.phaser_core.specs.declared.view.Joined.{Joined}
-use Rattle.phaser_core.specs.declared.view.Writing.{Writing}
-use Rattle.phaser_core.specs.declared.view.Reading.{Reading}
+use Rattle.phaser_core.specs.declared.view.WriterView.{WriterView}
+use Rattle.phaser_core.specs.declared.view.ReporterView.{ReporterView}
 use Rattle.phaser_core.specs.declared.view.View.{View}
 use Rattle.phaser_core.specs.declared.view.View.TheVariants.{Reporter, Writer, Gone}
 use Rattle.phaser_core.specs.Cells.{sums, table_cells, report_from}
 use Rattle.phaser_core.specs.Views.{Pair, first_reading, made_known, AllJoined, joined_at}
 use Rattle.phaser_core.specs.Shares.{AllUpTo, entries_in, Partition, SumsOfLists}
-use Rattle.phaser_core.specs.Moves.{Move, entering, loading, adding, leaving, swapping, clearing, flipping, looking, taking, looking_stop, raising_stop, raising_as_reporter}
+use Rattle.phaser_core.specs.CoreMoves.{Move, entering, loading, adding, leaving, swapping, clearing, flipping, looking, taking, looking_stop, raising_stop, raising_as_reporter}
 use Rattle.phaser_core.specs.Invariant.{RecorderInvariant}
 
 abbrev pub holds_of : Numbers → State (Unit {0}) View → Type 0
@@ -30,12 +30,12 @@ abbrev Sat : Type 0
 Sat = Me (Unit {0}) View
 
 -- what a writer's view says, and what the reporter's does; of another view they say nothing
-abbrev pub writing_of : View → Writing
+abbrev pub writing_of : View → WriterView
 writing_of (Writer w) = w
 writing_of (Reporter r) = record { number = 0; list = []; stage = Out; made = 0; raised = false; saw = false }
 writing_of Gone = record { number = 0; list = []; stage = Out; made = 0; raised = false; saw = false }
 
-abbrev pub reading_of : View → Reading
+abbrev pub reading_of : View → ReporterView
 reading_of (Reporter r) = r
 reading_of (Writer w) = first_reading 0
 reading_of Gone = first_reading 0
@@ -64,14 +64,14 @@ done_in Out = 0
 done_in (In p) = 0
 done_in (On p m e d) = d
 
-abbrev pub waited_for : Closing → ℕ
+abbrev pub waited_for : ReporterStage → ℕ
 waited_for Idle = 0
 waited_for Swapped = 0
 waited_for Cleared = 0
 waited_for (Waiting want) = want
 waited_for (Harvest j) = 0
 
-abbrev pub taken_in : Closing → ℕ
+abbrev pub taken_in : ReporterStage → ℕ
 taken_in Idle = 0
 taken_in Swapped = 0
 taken_in Cleared = 0
@@ -116,14 +116,14 @@ one_further (On p m e d) = On p m e (d + 1)
 
 -- Where the reporter stands: it waits; a cell is left to take
 
-abbrev pub IsWaiting : Closing → Type 0
+abbrev pub IsWaiting : ReporterStage → Type 0
 IsWaiting Idle = ⊥
 IsWaiting Swapped = ⊥
 IsWaiting Cleared = ⊥
 IsWaiting (Waiting want) = Unit {0}
 IsWaiting (Harvest j) = ⊥
 
-abbrev pub HasCell : ℕ → Closing → Type 0
+abbrev pub HasCell : ℕ → ReporterStage → Type 0
 HasCell labels Idle = ⊥
 HasCell labels Swapped = ⊥
 HasCell labels Cleared = ⊥
@@ -142,13 +142,13 @@ enters st m found m' = moved (entering (writing_of m.0)) m found m'
 abbrev pub loads : Entry → Step (Unit {0}) → Sat → ℕ → Sat → Type 0
 loads e st m found m' = moved (loading (writing_of m.0) (parity_in (writing_of m.0).stage) e) m found m' × AllUpTo found (writing_of m.0).list
 
-abbrev pub adds_of : Writing → Stage → Move
+abbrev pub adds_of : WriterView → Stage → Move
 adds_of w s = adding 0 w (parity_in s) (interval_in s) (entry_in s) (done_in s)
 
 abbrev pub adds : Step (Unit {0}) → Sat → ℕ → Sat → Type 0
 adds st m found m' = moved (adds_of (writing_of m.0) (writing_of m.0).stage) m found m'
 
-abbrev pub exits_of : Writing → Stage → Move
+abbrev pub exits_of : WriterView → Stage → Move
 exits_of w s = leaving w (parity_in s) (interval_in s) (entry_in s)
 
 abbrev pub exits : Step (Unit {0}) → Sat → ℕ → Sat → Type 0
@@ -178,7 +178,7 @@ flips st m found m' = moved (flipping (reading_of m.0)) m found m'
 -- the end word is at most what is waited for, and is that where every writer was joined
 abbrev pub looks : Step (Unit {0}) → Sat → ℕ → Sat → Type 0
 looks st m found m' =
-    let r : Reading = reading_of m.0 in let want : ℕ = waited_for r.closing in
+    let r : ReporterView = reading_of m.0 in let want : ℕ = waited_for r.closing in
     moved (looking r want) m found m' × (found ≤ want) × (AllJoined r → found ≡ want)
 
 abbrev pub takes : Step (Unit {0}) → Sat → ℕ → Sat → Type 0
@@ -192,19 +192,19 @@ lists_of js = map (λ (j : Joined). j.list) js
 
 -- The reports closed so far, and one whose cells are what the joined lists contribute to the open interval, together
 -- sum each entry of the joined lists in exactly one report.
-abbrev pub CanEnd : Reading → Type 0
+abbrev pub CanEnd : ReporterView → Type 0
 CanEnd r =
     (f : ℕ → ℕ) → ((j : ℕ) → j < table_cells r.labels → f j ≡ joined_at r.labels r.interval j r.joined)
     → Partition r.labels (lists_of r.joined) (r.closed ++ report_from r.labels r.interval f ∷ [])
 
 -- how many writers are joined, and how many the reporter knows were made
-pub record CountsWriters (n : Numbers) (r : Reading) : Type 0 where
+pub record CountsWriters (n : Numbers) (r : ReporterView) : Type 0 where
   pub joined : length r.joined ≤ n.writers
   pub made : made_known r.joined ≤ n.writers
   pub order : 0 < made_known r.joined → length r.joined ≤ made_known r.joined
 
 -- what the rule says of the reporter's own view; what joined writers recorded in an interval sums to rows in bounds
-pub record Recalled (n : Numbers) (r : Reading) : Type 0 where
+pub record Recalled (n : Numbers) (r : ReporterView) : Type 0 where
   pub sums : SumsOfLists n r
   pub counts : CountsWriters n r
   pub bounds : (m : ℕ) → IsInBounds (sum_of n.labels (entries_in m (lists_of r.joined)))
@@ -215,4 +215,4 @@ recalls n st m found m' = (m' ≡ m) × Recalled n (reading_of m.0)
 
 -- the cell j of the open interval holds what the joined lists contribute to it
 abbrev pub reads : ℕ → Step (Unit {0}) → Sat → ℕ → Sat → Type 0
-reads j st m found m' = let r : Reading = reading_of m.0 in (m' ≡ m) × (found ≡ joined_at r.labels r.interval j r.joined)
+reads j st m found m' = let r : ReporterView = reading_of m.0 in (m' ≡ m) × (found ≡ joined_at r.labels r.interval j r.joined)

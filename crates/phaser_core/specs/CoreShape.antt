@@ -4,9 +4,9 @@ use lib.ListN.{get_elem?}
 use Rattle.interval_tables.specs.declared.report.Report.{Report}
 use Rattle.phaser_core.specs.declared.view.Numbers.{Numbers}
 use Rattle.phaser_core.specs.declared.view.Stage.TheVariants.{Out}
-use Rattle.phaser_core.specs.declared.view.Closing.{Closing}
-use Rattle.phaser_core.specs.declared.view.Closing.TheVariants.{Idle, Waiting}
-use Rattle.phaser_core.specs.declared.view.Reading.{Reading}
+use Rattle.phaser_core.specs.declared.view.ReporterStage.{ReporterStage}
+use Rattle.phaser_core.specs.declared.view.ReporterStage.TheVariants.{Idle, Waiting}
+use Rattle.phaser_core.specs.declared.view.ReporterView.{ReporterView}
 use Rattle.phaser_core.specs.declared.view.View.{View}
 use Rattle.phaser_core.specs.declared.view.View.TheVariants as view
 use Rattle.phaser_core.specs.declared.view.Event.{Event}
@@ -18,7 +18,7 @@ use Rattle.phaser_core.specs.declared.applied.Applied.TheVariants.{Old, NotEnabl
 use Rattle.phaser_core.specs.Cells.{report_from, cell_at}
 use Rattle.phaser_core.specs.declared.view.Joined.{Joined}
 use Rattle.phaser_core.specs.Views.{Pair}
-use Rattle.phaser_core.specs.Moves.{Move, first_words}
+use Rattle.phaser_core.specs.CoreMoves.{Move, first_words}
 use Rattle.phaser_core.specs.Plain.{Parts, look_answer, is_idle}
 use Rattle.phaser_core.specs.Step.{CoreState, port_of, move_at, core_step}
 
@@ -36,11 +36,11 @@ kept_of (view.Reporter r) = Gone
 kept_of view.Gone = Gone
 
 -- what is kept of the reporter's view
-abbrev pub parts_of : Reading → Parts
+abbrev pub parts_of : ReporterView → Parts
 parts_of r = record { interval = r.interval; closing = r.closing; taken = r.cells; closed = r.closed }
 
 -- the shape is that of a reporter's view and the other views
-pub record ShowsViews (s : Shape) (r : Reading) (others : List View) : Type 0 where
+pub record ShowsViews (s : Shape) (r : ReporterView) (others : List View) : Type 0 where
   pub labels : r.labels ≡ s.numbers.labels
   pub reporter : parts_of r ≡ s.reporter
   pub writers : map kept_of others ≡ s.writers
@@ -63,7 +63,7 @@ found_of n words views (event.Join w) = slice_index words 0
 found_of n words views e = found_by words (move_at n e (get_elem? views (port_of e)))
 
 -- what an enabled event answers: the number found, but for a look
-abbrev pub answer_of : Event → Closing → ℕ → Applied
+abbrev pub answer_of : Event → ReporterStage → ℕ → Applied
 answer_of event.Look (Waiting want) found = look_answer (found == want) found want
 answer_of _ closing found = Old found
 

@@ -1,5 +1,0 @@
-use Rattle.thread_machine.proofs.Ends.{shows_a_front}
-use Rattle.thread_machine.proofs.worker.a_trace_is_a_front.Goals as goal
-
-pub returns : goal.returns
-returns c = shows_a_front
