@@ -34,3 +34,29 @@ fn readable(alloc: Global, bytes: &[u8]) -> anyhow::Result<String> {
     }
     Ok(text)
 }
+
+/// Prints how many lines the results have, how many intervals the reports have and what their counts sum to, and the lines of the
+/// reports after them.
+pub fn print_tally(
+    rt: &impl Print,
+    alloc: Global,
+    results: &[u8],
+    reports: &[u8],
+) -> anyhow::Result<()> {
+    println!(rt; "> {} lines", readable(alloc, results)?.lines().count())?;
+    let text = readable(alloc, reports)?;
+    let mut numbers = String::new(alloc);
+    let mut samples = 0u64;
+    for line in text.lines() {
+        if let Some(report) = line.strip_prefix("interval,") {
+            let mut fields = report.split(',');
+            write!(numbers, " {}", fields.next().unwrap_or(""))?;
+            let count = fields.next().unwrap_or("0").parse::<u64>()?;
+            samples = samples.saturating_add(count);
+        } else if !line.starts_with("row,") {
+            println!(rt; "! {line}")?;
+        }
+    }
+    println!(rt; "! intervals{numbers}: {samples} samples")?;
+    Ok(())
+}

@@ -23,7 +23,7 @@ use Rattle.jm_command.specs.declared.refusal.Refusal.{Refusal}
 use Rattle.jm_command.specs.declared.refusal.Refusal.TheVariants as refusals
 use Rattle.jm_command.specs.declared.status.Status.{Status}
 use Rattle.jm_command.specs.declared.status.Status.TheVariants.{Done, Usage, Refused, ReadFault, WriteFault, Memory}
-use Rattle.jm_command.specs.Refusals.{ReadsPlan, IsAccepted, IsPlanOf, IsFit, IsRefused, IsNotBuilt, IsUnfit, solo_fault}
+use Rattle.jm_command.specs.Refusals.{ReadsPlan, IsAccepted, IsPlanOf, IsFit, IsRefused, IsNotBuilt, IsUnfit, solo_fault, samples_fault}
 use Rattle.jm_command.specs.Command.{plan_limit, Edges, Accepts, HasPlan, Refuses, Says, NoRise, status_of_fault, status_of_plan, status_of_outcome, status_of_shape, status_of_bytes, status_for, number_of}
 
 -- a refusal is the plan's, or the maker of patterns finds one too large
@@ -69,7 +69,7 @@ module _ (command : Command) (bytes : List ℕ) where
 fit_status : (command : Command) (tree : Raw) (plan : Tree) → IsFit command tree plan → status_of_plan command tree plan ≡ 0
 fit_status Check tree plan fit = refl
 fit_status (Make m) tree plan fit = absurd fit
-fit_status (Run r) tree plan fit = absurd fit
+fit_status (Run r) tree plan fit = rw (fit.built, fit.conditions) refl
 fit_status (Solo s) tree plan fit = rw (fit.built, fit.conditions) refl
 
 module _ (bytes : List ℕ) (within : length bytes ≤ plan_limit) (before after : Asked) (calm : Rose before.oversize after.oversize → ⊥) where
@@ -79,13 +79,14 @@ module _ (bytes : List ℕ) (within : length bytes ≤ plan_limit) (before after
   not_built_status : (command : Command) (path : _) → IsNotBuilt command bytes before after path → status_of_bytes command bytes ≡ 3
   not_built_status Check path is = absurd is
   not_built_status (Make m) path is = absurd is
-  not_built_status (Run r) path is = absurd is
+  not_built_status (Run r) path is = at_plan (Run r) bytes within before after is.0 is.1 is.2 ∙ ap (λ o. status_of_fault o (status_of_fault (samples_fault is.1 r.samples) 0)) is.3
   not_built_status (Solo s) path is = at_plan (Solo s) bytes within before after is.0 is.1 is.2 ∙ ap (λ o. status_of_fault o (status_of_fault (solo_fault is.1 s) 0)) is.3
 
   unfit_status : (command : Command) (e : BuildError) → IsUnfit command bytes before after e → status_of_bytes command bytes ≡ 3
   unfit_status Check e is = absurd is
   unfit_status (Make m) e is = absurd is
-  unfit_status (Run r) e is = absurd is
+  unfit_status (Run r) e is = at_plan (Run r) bytes within before after is.0 is.1 is.2
+      ∙ ap (λ o. status_of_fault o (status_of_fault (samples_fault is.1 r.samples) 0)) is.3 ∙ ap (λ o. status_of_fault o 0) is.4
   unfit_status (Solo s) e is = at_plan (Solo s) bytes within before after is.0 is.1 is.2
       ∙ ap (λ o. status_of_fault o (status_of_fault (solo_fault is.1 s) 0)) is.3 ∙ ap (λ o. status_of_fault o 0) is.4
 
@@ -101,7 +102,7 @@ module _ (bytes : List ℕ) (within : length bytes ≤ plan_limit) (before after
 status_read : (command : Command) (bytes : List ℕ) → ReadsPlan command → status_for (Some command) bytes ≡ status_of_bytes command bytes
 status_read Check bytes reads = refl
 status_read (Make m) bytes reads = absurd reads
-status_read (Run r) bytes reads = absurd reads
+status_read (Run r) bytes reads = refl
 status_read (Solo s) bytes reads = refl
 
 took_all : (left left' : Option (List ℕ)) (bytes took : List ℕ) → left ≡ Some bytes → TookAll left left' took → took ≡ bytes
@@ -116,13 +117,13 @@ module _ (old new : Edges) (bytes : List ℕ) (told : old.left ≡ Some bytes) (
       let same : a.bytes ≡ bytes = took_all old.left new.left bytes a.bytes told a.read in
       accepted_status bytes (rw same at a.within) old.asked new.asked calm.patterns command plan (rw same at a.accepted)
 
-  plan_status : (command : Command) (plan : Tree) → HasPlan command old new plan → status_for (Some command) bytes ≡ 0
+  pub plan_status : (command : Command) (plan : Tree) → HasPlan command old new plan → status_for (Some command) bytes ≡ 0
   plan_status Check plan has = accepts_status Check plan has
   plan_status (Make m) plan has = refl
-  plan_status (Run r) plan has = absurd has
+  plan_status (Run r) plan has = accepts_status (Run r) plan has
   plan_status (Solo s) plan has = accepts_status (Solo s) plan has
 
-  refuses_status : (command : Command) (refusal : Refusal) → Refuses command old new refusal → status_for (Some command) bytes ≡ 3
+  pub refuses_status : (command : Command) (refusal : Refusal) → Refuses command old new refusal → status_for (Some command) bytes ≡ 3
   refuses_status command refusal r = status_read command bytes r.0 ∙ elim r.1 [
     | inl long ↦ ap (λ b. status_within b command bytes) (past_is (length bytes) (took_more old.left new.left bytes told long.long))
     | inr a ↦

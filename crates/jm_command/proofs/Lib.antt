@@ -4,3 +4,4 @@ pub mod ExactLaws
 pub mod UnbuiltLaws
 pub mod CountLaws
 pub mod WordLaws
+pub mod StartLaws

@@ -1,6 +1,6 @@
 -- What the parts of the program say makes what the whole says.
 use Rattle.std.proofs.Common.{◌≡◌, ℕ, ◌+◌, ◌*◌, ◌≤◌, ◌<◌, Bool, true, false, List, [], length, Option, Some, None, refl, sym, subst, ap, ◌∙◌, inl, inr, arith}
-use Rattle.std.specs.Prelude.{◌⊎◌, Ok, nat_le, if◌then◌else◌}
+use Rattle.std.specs.Prelude.{◌⊎◌, Result, Ok, Err, IfErr, nat_le, if◌then◌else◌}
 use Rattle.std.proofs.lemmas.Bool.Decides.{nat_tests}
 use Rattle.std.proofs.lemmas.Nat.{mul-le}
 use Rattle.plan_json.specs.Place.{at}
@@ -19,6 +19,7 @@ use Rattle.jm_command.specs.declared.refusal.Refusal.TheVariants.{TooLong, Shape
 use Rattle.jm_command.specs.declared.judge.Judged.{Judged}
 use Rattle.jm_command.specs.declared.judge.Judged.TheVariants.{Fit, Unfit, NoMemory}
 use Rattle.command_words.specs.declared.command.Command.TheVariants.{Check, Make, Solo, Run}
+use Rattle.command_words.specs.declared.command.Run.{Run as RunOf}
 use Rattle.command_words.specs.declared.command.Make.{Make as MakeOf}
 use Rattle.command_words.specs.declared.command.Solo.{Solo as SoloOf}
 use Rattle.plan_json.specs.Shape.{Raw, reading_of}
@@ -26,11 +27,11 @@ use Rattle.element_props.specs.Reads.{over, Goes}
 use Rattle.element_tree.specs.Walk.{reading}
 use Rattle.jm_command.specs.declared.status.Status.{Status}
 use Rattle.jm_command.specs.declared.status.Status.TheVariants.{Done, Usage, Refused, ReadFault, WriteFault, Memory}
-use Rattle.jm_command.specs.Refusals.{ReadsPlan, IsAccepted, IsRefused, solo_fault, refusal_line}
+use Rattle.jm_command.specs.Refusals.{ReadsPlan, IsAccepted, IsRefused, solo_fault, samples_fault, refusal_line}
 use Rattle.jm_command.specs.Printed.{results_for, report_for, MayPrint}
 use Rattle.trace_output.specs.Printing.{TextOut, TextFailed}
-use Rattle.jm_command.specs.Command.{plan_limit, Edges, edges, Accepts, Makes, HasPlan, Refuses, IsDone, IsRefusal, LineUnwritten, ResultsUnwritten, ReportUnwritten, NothingPrinted, ResultsCut, ReportCut, IsCutShort, Says, NothingRead, usage_line}
-use Rattle.jm_command.specs.Parts.{Sinks, NoResults, NothingOut, LineSays, BothOut, ResultsFailed, ReportFailed, ResultsShort, ReportShort, PlanSays, RefusalSays, BytesSay, Judges, JudgesSolo, HasThread, CanRun}
+use Rattle.jm_command.specs.Command.{plan_limit, Edges, edges, Accepts, Makes, HasPlan, Refuses, IsDone, IsRefusal, LineUnwritten, RefusalUnwritten, ResultsUnwritten, ReportUnwritten, NothingPrinted, ResultsCut, ReportCut, IsCutShort, SaysUnplanned, Says, NothingRead, usage_line}
+use Rattle.jm_command.specs.Parts.{Sinks, sinks, LineSays, ResultsFailed, ReportFailed, ResultsShort, ReportShort, PlanSays, RefusalSays, SaysUnfound, IsPlain, Judges, JudgesSolo, JudgesRun, HasThread, CanRun}
 
 -- a plan of which one thread can be run, or why it can't, is what the command finds of the bytes
 pub judges_solo : (s : SoloOf) (bytes : List ℕ) (before after : Asked) (tree : Raw) (plan : Tree) → reading_of bytes ≡ Ok tree → Goes before (reading tree) (over plan) after
@@ -44,17 +45,36 @@ judges_solo s bytes before after tree plan shape built (Unfit (NotBuilt path)) h
 judges_solo s bytes before after tree plan shape built (Unfit (Conditions e)) h = (tree, plan, record { shape = shape; built = built }, h.0, h.1)
 judges_solo s bytes before after tree plan shape built NoMemory h = tt
 
+-- the same of a plan of which all threads can be run
+pub judges_run : (r : RunOf) (bytes : List ℕ) (before after : Asked) (tree : Raw) (plan : Tree) → reading_of bytes ≡ Ok tree → Goes before (reading tree) (over plan) after
+    → (j : Judged) → JudgesRun r tree plan j → Judges (Run r) bytes before after j
+judges_run r bytes before after tree plan shape built (Fit fit) h =
+    subst (λ p. IsAccepted (Run r) bytes before after p) (sym h.0) (record { tree = tree; is_plan = record { shape = shape; built = built }; fit = h.1 })
+judges_run r bytes before after tree plan shape built (Unfit TooLong) h = absurd h
+judges_run r bytes before after tree plan shape built (Unfit (Shape e)) h = absurd h
+judges_run r bytes before after tree plan shape built (Unfit (Build e)) h = absurd h
+judges_run r bytes before after tree plan shape built (Unfit (NotBuilt path)) h = (tree, plan, record { shape = shape; built = built }, h)
+judges_run r bytes before after tree plan shape built (Unfit (Conditions e)) h = (tree, plan, record { shape = shape; built = built }, h.0, h.1)
+judges_run r bytes before after tree plan shape built NoMemory h = tt
+
 -- a refusal and its line
-pub refusal_said : (command : Command) (bytes : List ℕ) (before after : Asked) (old new : Sinks) (refusal : Refusal) → IsRefused command bytes before after refusal → NoResults old new
-    → (status : Status) → RefusalSays refusal old.reports new.reports old.report_faults new.report_faults status → BytesSay command bytes before after old new status
-refusal_said command bytes before after old new refusal is none Done s = absurd s
-refusal_said command bytes before after old new refusal is none Usage s = absurd s
-refusal_said command bytes before after old new refusal is none Refused s = (refusal, is, none, s)
-refusal_said command bytes before after old new refusal is none ReadFault s = absurd s
-refusal_said command bytes before after old new refusal is none WriteFault s = inl (refusal, is, none, s)
-refusal_said command bytes before after old new refusal is none Memory s = inl (record { results = none; reports = record { reports = s.0; report_faults = s.1 } })
+pub refusal_said : (command : Command) (bytes : List ℕ) (before after : Asked) (old new : Option (List ℕ)) (faults now : ℕ) (refusal : Refusal) → IsRefused command bytes before after refusal
+    → (status : Status) → RefusalSays refusal old new faults now status → SaysUnfound command bytes before after old new faults now status
+refusal_said command bytes before after old new faults now refusal is Done s = absurd s
+refusal_said command bytes before after old new faults now refusal is Usage s = absurd s
+refusal_said command bytes before after old new faults now refusal is Refused s = (refusal, is, s)
+refusal_said command bytes before after old new faults now refusal is ReadFault s = absurd s
+refusal_said command bytes before after old new faults now refusal is WriteFault s = (refusal, is, s)
+refusal_said command bytes before after old new faults now refusal is Memory s = s
 
 -- one thread of the plan can be run, where the conditions of that hold
+pub samples_fit : (plan : Tree) (samples : ℕ) → samples_fault plan samples ≡ None → length (threads_of plan) * samples ≤ 4194304
+samples_fit plan samples none = by_test (nat_le (length (threads_of plan) * samples) 4194304) refl none where
+  by_test : (b : Bool) → nat_le (length (threads_of plan) * samples) 4194304 ≡ b → (if b then None else Some (builds.TooMany (at []) whats.Samples)) ≡ None
+      → length (threads_of plan) * samples ≤ 4194304
+  by_test true is h = grind (arith, nat_tests)
+  by_test false is h = absurd (cc)
+
 has_thread : (plan : Tree) (s : SoloOf) → solo_fault plan s ≡ None → HasThread s plan
 has_thread plan s none = by_tests (nat_le (length (threads_of plan)) s.thread) (nat_le (length (threads_of plan) * s.samples) 4194304) refl refl none where
   by_tests : (a b : Bool) → nat_le (length (threads_of plan)) s.thread ≡ a → nat_le (length (threads_of plan) * s.samples) 4194304 ≡ b
@@ -67,11 +87,17 @@ has_thread plan s none = by_tests (nat_le (length (threads_of plan)) s.thread) (
       let one : 1 * s.samples ≤ length (threads_of plan) * s.samples = mul-le 1 s.samples (length (threads_of plan)) s.samples (omega arith) (omega arith) in
       record { thread = thread; samples = omega arith }
 
-pub can_run : (command : Command) (bytes : List ℕ) (before after : Asked) (plan : Tree) → IsAccepted command bytes before after plan → CanRun command plan
-can_run Check bytes before after plan is = tt
-can_run (Make m) bytes before after plan is = absurd is.fit
-can_run (Run r) bytes before after plan is = absurd is.fit
-can_run (Solo s) bytes before after plan is = has_thread plan s is.fit.conditions
+pub can_run : (command : Command) (bytes : List ℕ) (before after : Asked) (plan : Tree) → IsPlain command → IsAccepted command bytes before after plan → CanRun command plan
+can_run Check bytes before after plan plain is = tt
+can_run (Make m) bytes before after plan plain is = absurd plain
+can_run (Solo s) bytes before after plan plain is = has_thread plan s is.fit.conditions
+can_run (Run r) bytes before after plan plain is = absurd plain
+
+pub reads_plan : (command : Command) → IsPlain command → ReadsPlan command
+reads_plan Check plain = tt
+reads_plan (Make m) plain = absurd plain
+reads_plan (Solo s) plain = tt
+reads_plan (Run r) plain = absurd plain
 
 keeps_same : (a b : Option (List ℕ)) → b ≡ a → Keeps a b
 keeps_same a b is = subst (Keeps a) (sym is) (Keeps-refl a)
@@ -80,7 +106,7 @@ keeps_same a b is = subst (Keeps a) (sym is) (Keeps-refl a)
 plan_read : (command : Command) (old new : Edges) (plan : Tree) → ReadsPlan command → Accepts command old new plan → HasPlan command old new plan
 plan_read Check old new plan reads accepts = accepts
 plan_read (Make m) old new plan reads accepts = absurd reads
-plan_read (Run r) old new plan reads accepts = absurd reads
+plan_read (Run r) old new plan reads accepts = accepts
 plan_read (Solo s) old new plan reads accepts = accepts
 
 -- texts that are not out, of a command that has its plan
@@ -133,13 +159,16 @@ cut_with_nothing None old new nothing = nothing
 cut_with_nothing (Some command) old new nothing = inl nothing
 
 -- memory ran out before anything was read or printed
-pub cut_at_start : (words : Option Command) (edges : Edges) → IsCutShort words edges edges
-cut_at_start words edges = cut_with_nothing words edges edges (record {
+pub nothing_at_start : (edges : Edges) → NothingPrinted edges edges
+nothing_at_start edges = record {
   took = (0, omega arith, took_none edges.left);
   results = Keeps-refl edges.results;
   reports = Keeps-refl edges.reports;
   no_fault = record { source = refl; results = refl; reports = refl };
-})
+}
+
+pub cut_at_start : (words : Option Command) (edges : Edges) → IsCutShort words edges edges
+cut_at_start words edges = cut_with_nothing words edges edges (nothing_at_start edges)
 
 -- texts that are cut short, of a command that has its plan
 texts_cut : (left left' : Option (List ℕ)) (read read' : ℕ) (old new : Sinks) (asked asked' : Asked) (command : Command)
@@ -171,96 +200,141 @@ texts_cut left left' read read' old new asked asked' command calm plan has resul
   })
 ]
 
-module _ (left left' : Option (List ℕ)) (read read' : ℕ) (old new : Sinks) (asked asked' : Asked) (calm : read' ≡ read) (command : Command) (reads : ReadsPlan command) where
+-- ---- a command that has no plan
+
+module _ (left left' : Option (List ℕ)) (read read' : ℕ) (results : Option (List ℕ)) (written : ℕ) (old new : Option (List ℕ)) (told told' : ℕ) (asked asked' : Asked)
+    (calm : read' ≡ read) (command : Command) (reads : ReadsPlan command) where
   abbrev before : Edges
-  before = edges left read old.results old.result_faults old.reports old.report_faults asked
+  before = edges left read results written old told asked
 
   abbrev after : Edges
-  after = edges left' read' new.results new.result_faults new.reports new.report_faults asked'
+  after = edges left' read' results written new told' asked'
 
-  -- a line that is not out whole, where the results were left alone
-  line_unwritten : {line : List ℕ} → NoResults old new → TextFailed line old.reports new.reports old.report_faults new.report_faults → LineUnwritten before after line
-  line_unwritten none failed = record {
-    rose = failed.rose;
-    results = keeps_same old.results new.results none.results;
-    reports = failed.prefix;
-    read_calm = calm;
-    result_calm = none.result_faults;
+  refused_with : (refusal : Refusal) → Refuses command before after refusal → TextOut (refusal_line refusal) old new told told' → IsRefusal command before after
+  refused_with refusal refuses out = record {
+    refusal = refusal;
+    refuses = refuses;
+    results = Keeps-refl results;
+    reports = out.out;
+    no_fault = record { source = calm; results = refl; reports = out.calm };
   }
 
-  -- nothing is printed after these bytes were taken
-  pub nothing_said : TookAtMost left left' (plan_limit + 1) → NothingOut old new → NothingPrinted before after
-  nothing_said took nothing = record {
+  unwritten_with : (refusal : Refusal) → Refuses command before after refusal → TextFailed (refusal_line refusal) old new told told' → RefusalUnwritten command before after
+  unwritten_with refusal refuses failed = (
+    refusal,
+    refuses,
+    record { rose = failed.rose; results = Keeps-refl results; reports = failed.prefix; read_calm = calm; result_calm = refl },
+  )
+
+  nothing_with : TookAtMost left left' (plan_limit + 1) → new ≡ old → told' ≡ told → NothingPrinted before after
+  nothing_with took same quiet = record {
     took = took;
-    results = keeps_same old.results new.results nothing.results.results;
-    reports = keeps_same old.reports new.reports nothing.reports.reports;
-    no_fault = record { source = calm; results = nothing.results.result_faults; reports = nothing.reports.report_faults };
+    results = Keeps-refl results;
+    reports = keeps_same old new same;
+    no_fault = record { source = calm; results = refl; reports = quiet };
   }
 
   -- a plan with more bytes than its limit
-  pub long_said : TookCount left left' (plan_limit + 1) → asked' ≡ asked → NoResults old new → (status : Status)
-      → RefusalSays TooLong old.reports new.reports old.report_faults new.report_faults status → Says (Some command) before after status
-  long_said took still none Done s = absurd s
-  long_said took still none Usage s = absurd s
-  long_said took still none Refused s = (
-    command,
-    refl,
-    record {
-      refusal = TooLong;
-      refuses = (reads, inl (record { long = took; refusal_is = refl; asked = still }));
-      results = keeps_same old.results new.results none.results;
-      reports = s.out;
-      no_fault = record { source = calm; results = none.result_faults; reports = s.calm };
-    },
-  )
-  long_said took still none ReadFault s = absurd s
-  long_said took still none WriteFault s =
-      inl (TooLong, (reads, inl (record { long = took; refusal_is = refl; asked = still })), line_unwritten none s)
-  long_said took still none Memory s =
-      inl (nothing_said (plan_limit + 1, omega arith, took) (record { results = none; reports = record { reports = s.0; report_faults = s.1 } }))
+  pub long_said : TookCount left left' (plan_limit + 1) → asked' ≡ asked → (status : Status) → RefusalSays TooLong old new told told' status → SaysUnplanned command before after status
+  long_said took still Done s = absurd s
+  long_said took still Usage s = absurd s
+  long_said took still Refused s = refused_with TooLong (reads, inl (record { long = took; refusal_is = refl; asked = still })) s
+  long_said took still ReadFault s = absurd s
+  long_said took still WriteFault s = unwritten_with TooLong (reads, inl (record { long = took; refusal_is = refl; asked = still })) s
+  long_said took still Memory s = nothing_with (plan_limit + 1, omega arith, took) s.0 s.1
 
   module _ (bytes : List ℕ) (within : length bytes ≤ plan_limit) (took : TookAll left left' bytes) where
-    has_plan : (plan : Tree) → IsAccepted command bytes asked asked' plan → HasPlan command before after plan
-    has_plan plan is = plan_read command before after plan reads (record { bytes = bytes; within = within; read = took; accepted = is })
-
     refuses : (refusal : Refusal) → IsRefused command bytes asked asked' refusal → Refuses command before after refusal
     refuses refusal is = (reads, inr (record { bytes = bytes; within = within; read = took; refused = is }))
 
-    is_done : (plan : Tree) → IsAccepted command bytes asked asked' plan → BothOut (results_for command plan) (report_for command plan) old new → IsDone command before after
-    is_done plan is out = record {
+    pub unfound_said : (status : Status) → SaysUnfound command bytes asked asked' old new told told' status → SaysUnplanned command before after status
+    unfound_said Done s = absurd s
+    unfound_said Usage s = absurd s
+    unfound_said Refused s = refused_with s.0 (refuses s.0 s.1) s.2
+    unfound_said ReadFault s = absurd s
+    unfound_said WriteFault s = unwritten_with s.0 (refuses s.0 s.1) s.2
+    unfound_said Memory s = nothing_with (length bytes, omega (arith, within), took_whole left left' bytes took) s.0 s.1
+
+-- the same of what a call answered
+pub unfound_by : {P : Type 0} (left left' : Option (List ℕ)) (read read' : ℕ) (old new : Option (List ℕ)) (told told' : ℕ) (asked asked' : Asked) → read' ≡ read → (command : Command)
+    → ReadsPlan command → (bytes : List ℕ) → length bytes ≤ plan_limit → TookAll left left' bytes → (result : Result P Status) → IfErr result (SaysUnfound command bytes asked asked' old new told told')
+    → IfErr result (λ status. (results : Option (List ℕ)) (written : ℕ)
+    → SaysUnplanned command (edges left read results written old told asked) (edges left' read' results written new told' asked') status)
+unfound_by left left' read read' old new told told' asked asked' calm command reads bytes within took (Ok plan) h = tt
+unfound_by left left' read read' old new told told' asked asked' calm command reads bytes within took (Err status) h = λ results written.
+    unfound_said left left' read read' results written old new told told' asked asked' calm command reads bytes within took status h
+
+-- the plan of the bytes is accepted
+pub found_accepts : (left left' : Option (List ℕ)) (read read' : ℕ) (results : Option (List ℕ)) (written : ℕ) (old new : Option (List ℕ)) (told told' : ℕ) (asked asked' : Asked)
+    (command : Command) (bytes : List ℕ) (plan : Tree) → length bytes ≤ plan_limit → TookAll left left' bytes → IsAccepted command bytes asked asked' plan
+    → Accepts command (edges left read results written old told asked) (edges left' read' results written new told' asked') plan
+found_accepts left left' read read' results written old new told told' asked asked' command bytes plan within took is =
+    record { bytes = bytes; within = within; read = took; accepted = is }
+
+-- what is said where there is no plan is said of the words
+pub unplanned_said : (command : Command) (old new : Edges) (status : Status) → SaysUnplanned command old new status → Says (Some command) old new status
+unplanned_said command old new Done s = absurd s
+unplanned_said command old new Usage s = absurd s
+unplanned_said command old new Refused s = (command, refl, s)
+unplanned_said command old new ReadFault s = (command, refl, s)
+unplanned_said command old new WriteFault s = inl s
+unplanned_said command old new Memory s = inl s
+
+-- ---- a command that has its plan
+
+module _ (left left' : Option (List ℕ)) (read read' : ℕ) (old new : Sinks) (asked asked' : Asked) (calm : read' ≡ read) (command : Command) (reads : ReadsPlan command) where
+  abbrev begun : Edges
+  begun = edges left read old.results old.result_faults old.reports old.report_faults asked
+
+  abbrev ended : Edges
+  ended = edges left' read' new.results new.result_faults new.reports new.report_faults asked'
+
+  -- the texts of its plan
+  pub plan_said : (plan : Tree) → Accepts command begun ended plan → (status : Status) → PlanSays command plan old new status → Says (Some command) begun ended status
+  plan_said plan is Done out = (
+    command,
+    refl,
+    record {
       plan = plan;
-      has_plan = has_plan plan is;
+      has_plan = plan_read command begun ended plan reads is;
       results = out.results_out;
       reports = out.report_out;
       no_fault = record { source = calm; results = out.result_calm; reports = out.report_calm };
-    }
+    },
+  )
+  plan_said plan is Usage s = absurd s
+  plan_said plan is Refused s = absurd s
+  plan_said plan is ReadFault s = absurd s
+  plan_said plan is WriteFault s = inr (texts_unwritten left left' read read' old new asked asked' command calm plan (plan_read command begun ended plan reads is) s.0 s.1 s.2 s.3)
+  plan_said plan is Memory s = elim s [
+    | inl nothing ↦ inl (record {
+      took = (length is.bytes, omega (arith, is.within), took_whole left left' is.bytes is.read);
+      results = keeps_same old.results new.results nothing.results.results;
+      reports = keeps_same old.reports new.reports nothing.reports.reports;
+      no_fault = record { source = calm; results = nothing.results.result_faults; reports = nothing.reports.report_faults };
+    })
+    | inr t ↦ inr (texts_cut left left' read read' old new asked asked' command calm plan (plan_read command begun ended plan reads is) t.0 t.1 t.2 t.3)
+  ]
 
-    is_refusal : (refusal : Refusal) → IsRefused command bytes asked asked' refusal → NoResults old new → TextOut (refusal_line refusal) old.reports new.reports old.report_faults new.report_faults
-        → IsRefusal command before after
-    is_refusal refusal is none out = record {
-      refusal = refusal;
-      refuses = refuses refusal is;
-      results = keeps_same old.results new.results none.results;
-      reports = out.out;
-      no_fault = record { source = calm; results = none.result_faults; reports = out.calm };
-    }
+-- acceptance says nothing of the sinks
+pub accepts_beside : (command : Command) (left left' : Option (List ℕ)) (read read' : ℕ) (old new old' new' : Sinks) (asked asked' : Asked) (plan : Tree)
+    → Accepts command (edges left read old.results old.result_faults old.reports old.report_faults asked) (edges left' read' new.results new.result_faults new.reports new.report_faults asked') plan
+    → Accepts command (edges left read old'.results old'.result_faults old'.reports old'.report_faults asked) (edges left' read' new'.results new'.result_faults new'.reports new'.report_faults asked') plan
+accepts_beside command left left' read read' old new old' new' asked asked' plan is =
+    record { bytes = is.bytes; within = is.within; read = is.read; accepted = is.accepted }
 
-    pub bytes_said : (status : Status) → BytesSay command bytes asked asked' old new status → Says (Some command) before after status
-    bytes_said Done s = (command, refl, is_done s.0 s.1 s.2)
-    bytes_said Usage s = absurd s
-    bytes_said Refused s = (command, refl, is_refusal s.0 s.1 s.2 s.3)
-    bytes_said ReadFault s = absurd s
-    bytes_said WriteFault s = elim s [
-      | inl r ↦ inl (r.0, refuses r.0 r.1, line_unwritten r.2 r.3)
-      | inr r ↦ inr (texts_unwritten left left' read read' old new asked asked' command calm r.0 (has_plan r.0 r.1) r.2.0 r.2.1 r.2.2 r.2.3)
-    ]
-    bytes_said Memory s = elim s [
-      | inl nothing ↦ inl (nothing_said (length bytes, omega (arith, within), took_whole left left' bytes took) nothing)
-      | inr r ↦ elim r.2 [
-        | inl nothing ↦ inl (nothing_said (length bytes, omega (arith, within), took_whole left left' bytes took) nothing)
-        | inr t ↦ inr (texts_cut left left' read read' old new asked asked' command calm r.0 (has_plan r.0 r.1) t.0 t.1 t.2 t.3)
-      ]
-    ]
+-- the plan was read, which printed nothing, and then its texts were printed
+pub plan_printed : (left left' : Option (List ℕ)) (read read' : ℕ) (results results' : Option (List ℕ)) (written written' : ℕ) (old between new : Option (List ℕ)) (told told' told'' : ℕ)
+    (asked asked' : Asked) (command : Command) → IsPlain command → (read' ≡ read) × (between ≡ old) × (told' ≡ told) → (plan : Tree)
+    → Accepts command (edges left read results written old told asked) (edges left' read' results written between told' asked') plan
+    → (status : Status) → PlanSays command plan (sinks results written between told') (sinks results' written' new told'') status
+    → Says (Some command) (edges left read results written old told asked) (edges left' read' results' written' new told'' asked') status
+plan_printed left left' read read' results results' written written' old between new told told' told'' asked asked' command plain calm plan is status s =
+    plan_said left left' read read' (sinks results written old told) (sinks results' written' new told'') asked asked' calm.0 command (reads_plan command plain) plan
+    (accepts_beside command left left' read read' (sinks results written old told) (sinks results written between told') (sinks results written old told) (sinks results' written' new told'') asked asked' plan is)
+    status
+    (subst (λ n. PlanSays command plan (sinks results written old n) (sinks results' written' new told'') status) calm.2
+    (subst (λ o. PlanSays command plan (sinks results written o told') (sinks results' written' new told'') status) calm.1 s))
 
 -- a plan that was made, where nothing was read and no pattern was asked for
 module _ (left : Option (List ℕ)) (read : ℕ) (old new : Sinks) (asked : Asked) (m : MakeOf) where

@@ -19,7 +19,7 @@ use Rattle.command_words.specs.declared.command.Make.{Make as MakeOf}
 use Rattle.plan_maker.specs.Generated.{generated}
 use Rattle.jm_command.specs.declared.refusal.Refusal.{Refusal}
 use Rattle.jm_command.specs.declared.refusal.Refusal.TheVariants.{TooLong}
-use Rattle.jm_command.specs.Refusals.{ReadsPlan, IsAccepted, IsRefused, not_built, solo_fault, refusal_line}
+use Rattle.jm_command.specs.Refusals.{ReadsPlan, IsAccepted, IsRefused, not_built, not_built_beside, solo_fault, samples_fault, refusal_line}
 use Rattle.jm_command.specs.Printed.{results_for, report_for, MayPrint}
 
 abbrev pub usage_line : List ℕ
@@ -73,7 +73,7 @@ abbrev pub HasPlan : Command → Edges → Edges → Tree → Type 0
 HasPlan Check old new plan = Accepts Check old new plan
 HasPlan (Make m) old new plan = Makes m old new plan
 HasPlan (Solo s) old new plan = Accepts (Solo s) old new plan
-HasPlan (Run r) old new plan = ⊥
+HasPlan (Run r) old new plan = Accepts (Run r) old new plan
 
 -- the plan has more bytes than its limit
 pub record RefusesLong (old new : Edges) (refusal : Refusal) : Type 0 where
@@ -200,6 +200,15 @@ abbrev pub IsCutShort : Option Command → Edges → Edges → Type 0
 IsCutShort None old new = NothingPrinted old new
 IsCutShort (Some command) old new = NothingPrinted old new ⊎ (ResultsCut command old new ⊎ ReportCut command old new)
 
+-- what a status says where a command that reads a plan has none
+abbrev pub SaysUnplanned : Command → Edges → Edges → Status → Type 0
+SaysUnplanned command old new Done = ⊥
+SaysUnplanned command old new Usage = ⊥
+SaysUnplanned command old new Refused = IsRefusal command old new
+SaysUnplanned command old new ReadFault = IsUnread command old new
+SaysUnplanned command old new WriteFault = RefusalUnwritten command old new
+SaysUnplanned command old new Memory = NothingPrinted old new
+
 -- what a status says of a run whose words are this command, or none
 abbrev pub Says : Option Command → Edges → Edges → Status → Type 0
 Says words old new Done = (command : Command) × (words ≡ Some command) × IsDone command old new
@@ -239,7 +248,7 @@ status_of_fault (Some fault) otherwise = 3
 abbrev pub status_of_plan : Command → Raw → Tree → ℕ
 status_of_plan Check tree plan = 0
 status_of_plan (Make m) tree plan = 0
-status_of_plan (Run r) tree plan = 0
+status_of_plan (Run r) tree plan = status_of_fault (not_built_beside tree plan.elements) (status_of_fault (samples_fault plan r.samples) 0)
 status_of_plan (Solo s) tree plan = status_of_fault (not_built tree plan.elements) (status_of_fault (solo_fault plan s) 0)
 
 abbrev pub status_of_outcome : Command → Raw → Result Tree BuildError → ℕ
@@ -260,4 +269,4 @@ status_for None bytes = 2
 status_for (Some Check) bytes = status_of_bytes Check bytes
 status_for (Some (Make m)) bytes = 0
 status_for (Some (Solo s)) bytes = status_of_bytes (Solo s) bytes
-status_for (Some (Run r)) bytes = 0
+status_for (Some (Run r)) bytes = status_of_bytes (Run r) bytes

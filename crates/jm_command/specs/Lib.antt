@@ -2,3 +2,4 @@ pub mod Refusals
 pub mod Printed
 pub mod Parts
 pub mod Command
+pub mod Started

@@ -14,12 +14,13 @@ use Rattle.command_words.specs.declared.command.Command.{Command}
 use Rattle.command_words.specs.declared.command.Command.TheVariants.{Check, Make, Solo as SoloCommand, Run}
 use Rattle.command_words.specs.declared.command.Make.{Make as MakeOf}
 use Rattle.command_words.specs.declared.command.Solo.{Solo}
+use Rattle.command_words.specs.declared.command.Run.{Run as RunOf}
 use Rattle.plan_json.specs.Shape.{Raw}
 use Rattle.jm_command.specs.declared.refusal.Refusal.{Refusal}
 use Rattle.jm_command.specs.declared.refusal.Refusal.TheVariants.{TooLong, Shape, Build, NotBuilt, Unfit as Conditions}
 use Rattle.jm_command.specs.declared.judge.Judged.{Judged}
 use Rattle.jm_command.specs.declared.judge.Judged.TheVariants.{Fit, Unfit, NoMemory}
-use Rattle.jm_command.specs.Refusals.{RunsAlone, IsAccepted, IsRefused, not_built, solo_fault, refusal_line}
+use Rattle.jm_command.specs.Refusals.{RunsAlone, RunsBeside, IsAccepted, IsRefused, not_built, not_built_beside, solo_fault, samples_fault, refusal_line}
 use Rattle.jm_command.specs.Printed.{default_solo, shown_of, report_of, results_for, report_for, HasShown, MayPrint}
 
 -- what the two sinks hold, where it is told, and their counts of faults
@@ -88,6 +89,15 @@ pub record ReportShort (results report : List ℕ) (old new : Sinks) : Type 0 wh
   pub part : AppendsPart old.reports new.reports report
   pub calm : new.report_faults ≡ old.report_faults
 
+-- printing two texts, of which the second says whether all is whole
+abbrev pub TextsSay : List ℕ → List ℕ → Bool → Sinks → Sinks → Status → Type 0
+TextsSay results report whole old new Done = (whole ≡ true) × BothOut results report old new
+TextsSay results report whole old new Usage = ⊥
+TextsSay results report whole old new Refused = ⊥
+TextsSay results report whole old new ReadFault = ⊥
+TextsSay results report whole old new WriteFault = ResultsFailed results old new ⊎ ReportFailed results report old new
+TextsSay results report whole old new Memory = ResultsShort results old new ⊎ ReportShort results report old new
+
 -- printing one text
 abbrev pub TextSays : List ℕ → Option (List ℕ) → Option (List ℕ) → ℕ → ℕ → Status → Type 0
 TextSays text old new faults now Done = TextOut text old new faults now
@@ -139,17 +149,22 @@ RefusalSays refusal old new faults now ReadFault = ⊥
 RefusalSays refusal old new faults now WriteFault = TextFailed (refusal_line refusal) old new faults now
 RefusalSays refusal old new faults now Memory = (new ≡ old) × (now ≡ faults)
 
--- refusing the bytes, or printing the texts of their plan
-abbrev pub BytesSay : Command → List ℕ → Asked → Asked → Sinks → Sinks → Status → Type 0
-BytesSay command bytes before after old new Done = (plan : Tree) × IsAccepted command bytes before after plan × PlanSays command plan old new Done
-BytesSay command bytes before after old new Usage = ⊥
-BytesSay command bytes before after old new Refused =
-    (refusal : Refusal) × IsRefused command bytes before after refusal × NoResults old new × TextOut (refusal_line refusal) old.reports new.reports old.report_faults new.report_faults
-BytesSay command bytes before after old new ReadFault = ⊥
-BytesSay command bytes before after old new WriteFault =
-    ((refusal : Refusal) × IsRefused command bytes before after refusal × NoResults old new × TextFailed (refusal_line refusal) old.reports new.reports old.report_faults new.report_faults)
-    ⊎ ((plan : Tree) × IsAccepted command bytes before after plan × PlanSays command plan old new WriteFault)
-BytesSay command bytes before after old new Memory = NothingOut old new ⊎ ((plan : Tree) × IsAccepted command bytes before after plan × PlanSays command plan old new Memory)
+-- the bytes are a plan that is fit for the command, and nothing was printed
+pub record IsFound (command : Command) (bytes : List ℕ) (before after : Asked) (old new : Option (List ℕ)) (faults now : ℕ) (plan : Tree) : Type 0 where
+  pub accepted : IsAccepted command bytes before after plan
+  pub same : new ≡ old
+  pub calm : now ≡ faults
+
+-- the bytes are refused with a line, or with none where memory ran out
+abbrev pub SaysUnfound : Command → List ℕ → Asked → Asked → Option (List ℕ) → Option (List ℕ) → ℕ → ℕ → Status → Type 0
+SaysUnfound command bytes before after old new faults now Done = ⊥
+SaysUnfound command bytes before after old new faults now Usage = ⊥
+SaysUnfound command bytes before after old new faults now Refused =
+    (refusal : Refusal) × IsRefused command bytes before after refusal × TextOut (refusal_line refusal) old new faults now
+SaysUnfound command bytes before after old new faults now ReadFault = ⊥
+SaysUnfound command bytes before after old new faults now WriteFault =
+    (refusal : Refusal) × IsRefused command bytes before after refusal × TextFailed (refusal_line refusal) old new faults now
+SaysUnfound command bytes before after old new faults now Memory = (new ≡ old) × (now ≡ faults)
 
 -- the status after texts that are printed: done, or 7 where memory ran out before they were whole
 abbrev pub WholeSays : Bool → Status → Type 0
@@ -172,6 +187,13 @@ IsInRange (Some (Make m)) = HasSize m
 IsInRange (Some (SoloCommand s)) = Unit {0}
 IsInRange (Some (Run r)) = ⊥
 
+-- the command reads its plan and runs no more than one thread of it
+abbrev pub IsPlain : Command → Type 0
+IsPlain Check = Unit {0}
+IsPlain (Make m) = ⊥
+IsPlain (SoloCommand s) = Unit {0}
+IsPlain (Run r) = ⊥
+
 -- ---- the plan of some bytes
 
 -- a plan that is fit for the command, or why it is refused
@@ -191,6 +213,16 @@ CanRun Check plan = Unit {0}
 CanRun (Make m) plan = HasThread default_solo plan
 CanRun (SoloCommand s) plan = HasThread s plan
 CanRun (Run r) plan = ⊥
+
+-- a plan of which all threads can be run, or why they can't
+abbrev pub JudgesRun : RunOf → Raw → Tree → Judged → Type 0
+JudgesRun r tree plan (Fit fit) = (fit ≡ plan) × RunsBeside tree plan r
+JudgesRun r tree plan (Unfit TooLong) = ⊥
+JudgesRun r tree plan (Unfit (Shape e)) = ⊥
+JudgesRun r tree plan (Unfit (Build e)) = ⊥
+JudgesRun r tree plan (Unfit (NotBuilt path)) = not_built_beside tree plan.elements ≡ Some path
+JudgesRun r tree plan (Unfit (Conditions e)) = (not_built_beside tree plan.elements ≡ None) × (samples_fault plan r.samples ≡ Some e)
+JudgesRun r tree plan NoMemory = Unit {0}
 
 -- a plan of which one thread can be run, or why it can't
 abbrev pub JudgesSolo : Solo → Raw → Tree → Judged → Type 0

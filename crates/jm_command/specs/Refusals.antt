@@ -1,6 +1,6 @@
 -- Why a plan is refused, and the line that says so.
-use Rattle.std.specs.Prelude.{◌≡◌, ℕ, ◌+◌, ◌*◌, Bool, not, nat_le, List, [], ◌∷◌, ◌++◌, length, slice_get, unwrap_or, position, Option, Some, None, Ok, Err, codes, if◌then◌else◌}
-use Rattle.std.specs.Option.{option_map}
+use Rattle.std.specs.Prelude.{◌≡◌, ℕ, ◌+◌, ◌*◌, Bool, true, false, not, ◌||◌, nat_le, List, [], ◌∷◌, ◌++◌, length, slice_get, unwrap_or, position, Option, Some, None, Ok, Err, codes, if◌then◌else◌}
+use Rattle.std.specs.Option.{option_map, option_and_then}
 use Rattle.plan_json.specs.Place.{Place, at, path_text}
 use Rattle.plan_json.specs.Shape.{Raw, raw, Raws, no_raws, raw_then, reading_of}
 use Rattle.plan_json.specs.declared.error.TreeError.{TreeError}
@@ -12,12 +12,16 @@ use Rattle.element_props.specs.declared.error.What.TheVariants as whats
 use Rattle.element_props.specs.Patterns.{Asked}
 use Rattle.element_props.specs.Reads.{over, Goes, Stops}
 use Rattle.element_tree.specs.declared.kinds.Element.{Element}
+use Rattle.element_tree.specs.declared.kinds.Kind.{Kind}
+use Rattle.element_tree.specs.declared.kinds.Kind.TheVariants as kinds
+use Rattle.element_tree.specs.declared.kinds.OnError.TheVariants as on_errors
 use Rattle.element_tree.specs.Tree.{Tree, threads_of}
 use Rattle.element_tree.specs.Walk.{is_enabled, reading}
 use Rattle.jm_meaning.specs.Runs.{runs}
 use Rattle.command_words.specs.declared.command.Command.{Command}
 use Rattle.command_words.specs.declared.command.Command.TheVariants.{Check, Make, Solo, Run}
 use Rattle.command_words.specs.declared.command.Solo.{Solo as SoloOf}
+use Rattle.command_words.specs.declared.command.Run.{Run as RunOf}
 use Rattle.jm_command.specs.declared.refusal.Refusal.{Refusal}
 use Rattle.jm_command.specs.declared.refusal.Refusal.TheVariants as refusals
 
@@ -45,32 +49,57 @@ place_at tree n = at (unwrap_or (slice_get (places_of [] tree) n) [])
 abbrev pub not_built : Raw → List Element → Option Place
 not_built tree elements = option_map (place_at tree) (position does_not_run elements)
 
+-- a group that stops the whole test after a failed sample
+abbrev pub stops_test : Kind → Bool
+stops_test (kinds.ThreadGroup loops on_errors.StopTest ramp_ms threads) = true
+stops_test kind = false
+
+-- the property that is not run beside other threads, of an element that runs
+abbrev pub unbuilt_prop : Element → Option (List ℕ)
+unbuilt_prop e = if runs e.kind then Some (codes "onError") else None
+
+abbrev pub is_unbuilt_beside : Element → Bool
+is_unbuilt_beside e = not (runs e.kind) || stops_test e.kind
+
+-- where the first element in tree order stands that does not run yet, or the first group's action after a failed sample that does not run yet beside other threads
+abbrev pub not_built_beside : Raw → List Element → Option Place
+not_built_beside tree elements =
+    option_map (λ n. record (place_at tree n) { prop = option_and_then unbuilt_prop (slice_get elements n) }) (position is_unbuilt_beside elements)
+
 -- ---- what a command asks of a plan
 
--- `check` and `solo` read their plan; `make` makes its own, and `run` is not among the commands that are run here
+-- `make` makes its plan, and the others read theirs
 abbrev pub ReadsPlan : Command → Type 0
 ReadsPlan Check = Unit {0}
 ReadsPlan (Make m) = ⊥
 ReadsPlan (Solo s) = Unit {0}
-ReadsPlan (Run r) = ⊥
+ReadsPlan (Run r) = Unit {0}
+
+-- a sample budget that all threads can have
+abbrev pub samples_fault : Tree → ℕ → Option BuildError
+samples_fault plan samples = if nat_le (length (threads_of plan) * samples) 4194304 then None else Some (builds.TooMany (at []) whats.Samples)
 
 -- a thread that the plan has, and a sample budget that all its threads can have
 abbrev pub solo_fault : Tree → SoloOf → Option BuildError
 solo_fault plan s =
     if nat_le (length (threads_of plan)) s.thread then Some builds.NoThread
-    else if nat_le (length (threads_of plan) * s.samples) 4194304 then None
-    else Some (builds.TooMany (at []) whats.Samples)
+    else samples_fault plan s.samples
 
 -- the plan can be run by the command: each element runs, and the command's own conditions hold
 pub record RunsAlone (tree : Raw) (plan : Tree) (s : SoloOf) : Type 0 where
   pub built : not_built tree plan.elements ≡ None
   pub conditions : solo_fault plan s ≡ None
 
+-- all threads of the plan can be run beside one another
+pub record RunsBeside (tree : Raw) (plan : Tree) (r : RunOf) : Type 0 where
+  pub built : not_built_beside tree plan.elements ≡ None
+  pub conditions : samples_fault plan r.samples ≡ None
+
 abbrev pub IsFit : Command → Raw → Tree → Type 0
 IsFit Check tree plan = Unit {0}
 IsFit (Make m) tree plan = ⊥
 IsFit (Solo s) tree plan = RunsAlone tree plan s
-IsFit (Run r) tree plan = ⊥
+IsFit (Run r) tree plan = RunsBeside tree plan r
 
 -- ---- acceptance and refusal
 
@@ -89,7 +118,8 @@ pub record IsAccepted (command : Command) (bytes : List ℕ) (before after : Ask
 abbrev pub IsNotBuilt : Command → List ℕ → Asked → Asked → Place → Type 0
 IsNotBuilt Check bytes before after path = ⊥
 IsNotBuilt (Make m) bytes before after path = ⊥
-IsNotBuilt (Run r) bytes before after path = ⊥
+IsNotBuilt (Run r) bytes before after path =
+    (tree : Raw) × (plan : Tree) × IsPlanOf bytes before after tree plan × (not_built_beside tree plan.elements ≡ Some path)
 IsNotBuilt (Solo s) bytes before after path =
     (tree : Raw) × (plan : Tree) × IsPlanOf bytes before after tree plan × (not_built tree plan.elements ≡ Some path)
 
@@ -97,7 +127,8 @@ IsNotBuilt (Solo s) bytes before after path =
 abbrev pub IsUnfit : Command → List ℕ → Asked → Asked → BuildError → Type 0
 IsUnfit Check bytes before after e = ⊥
 IsUnfit (Make m) bytes before after e = ⊥
-IsUnfit (Run r) bytes before after e = ⊥
+IsUnfit (Run r) bytes before after e =
+    (tree : Raw) × (plan : Tree) × IsPlanOf bytes before after tree plan × (not_built_beside tree plan.elements ≡ None) × (samples_fault plan r.samples ≡ Some e)
 IsUnfit (Solo s) bytes before after e =
     (tree : Raw) × (plan : Tree) × IsPlanOf bytes before after tree plan × (not_built tree plan.elements ≡ None) × (solo_fault plan s ≡ Some e)
 

@@ -2,12 +2,12 @@
 
 ghost use Rattle.std.specs.Prelude.{◌≡◌};
 ghost use Rattle.plan_json.specs.Seen.{raw_view};
-ghost use Rattle.jm_command.specs.Parts.{Judges, JudgesSolo};
-ghost use Rattle.jm_command.specs.Refusals.{ReadsPlan, solo_fault};
+ghost use Rattle.jm_command.specs.Parts.{Judges, JudgesSolo, JudgesRun};
+ghost use Rattle.jm_command.specs.Refusals.{ReadsPlan, solo_fault, samples_fault};
 
 use crate::refusal::Refusal;
-use crate::unbuilt::not_built;
-use command_words::{Command, Solo};
+use crate::unbuilt::{not_built, not_built_beside};
+use command_words::{Command, Run, Solo};
 use element_props::{BuildError, Patterns, What};
 use element_tree::{Plan, build};
 use plan_json::{Path, RawElement, TreeError, read_tree};
@@ -47,8 +47,9 @@ pub fn judge<G: Patterns>(
     };
     match command {
         Command::Check => Judged::Fit(plan),
-        Command::Make(_) | Command::Run(_) => unreachable!(),
+        Command::Make(_) => unreachable!(),
         Command::Solo(solo) => fit_to_run(alloc, solo, &tree, plan),
+        Command::Run(run) => fit_to_run_beside(alloc, run, &tree, plan),
     }
 }
 
@@ -67,6 +68,21 @@ fn fit_to_run(alloc: Global, solo: &Solo, tree: &RawElement, plan: Plan) -> Judg
     }
 }
 
+// The plan of a tree, if all of its threads can be run beside one another.
+fn fit_to_run_beside(alloc: Global, run: &Run, tree: &RawElement, plan: Plan) -> Judged
+    ensures { JudgesRun run.now (raw_view tree.now) plan result }
+{
+    match not_built_beside(alloc, tree, &plan) {
+        Ok(None) => {}
+        Ok(Some(path)) => return Judged::Unfit(Refusal::NotBuilt(path)),
+        Err(_) => return Judged::NoMemory,
+    }
+    match samples_fault(alloc, &plan, run.samples) {
+        None => Judged::Fit(plan),
+        Some(error) => Judged::Unfit(Refusal::Unfit(error)),
+    }
+}
+
 // What of the plan does not meet the conditions of running one thread.
 fn solo_fault(alloc: Global, plan: &Plan, solo: &Solo) -> Option<BuildError>
     ensures { result ≡ solo_fault plan.now solo.now }
@@ -74,7 +90,14 @@ fn solo_fault(alloc: Global, plan: &Plan, solo: &Solo) -> Option<BuildError>
     if solo.thread >= plan.threads() {
         return Some(BuildError::NoThread);
     }
-    if plan.samples_fit(solo.samples) {
+    samples_fault(alloc, plan, solo.samples)
+}
+
+// The refusal of a sample budget that not all of the plan's threads can have.
+fn samples_fault(alloc: Global, plan: &Plan, samples: u32) -> Option<BuildError>
+    ensures { result ≡ samples_fault plan.now samples }
+{
+    if plan.samples_fit(samples) {
         return None;
     }
     let path = Path {

@@ -2,13 +2,17 @@
 #![tactic(auto)]
 
 mod judge;
+mod line;
+mod plan;
 mod print;
 mod program;
 mod refusal;
 mod report;
+mod running;
 mod status;
 mod unbuilt;
 mod words;
 
 pub use program::plain_command;
+pub use running::start;
 pub use status::Status;

@@ -6,22 +6,21 @@ ghost use Rattle.command_words.specs.declared.command.Command.TheVariants.{Make 
 ghost use Rattle.command_words.specs.Commands.{command_of, names_run};
 ghost use Rattle.jm_command.specs.Command.{Says, IsStatus, IsDone, IsUsage, IsRefusal, IsUnread, IsUnwritten, IsCutShort, NoRise, status_for, edges};
 ghost use Rattle.plan_maker.specs.Generated.{generated};
-ghost use Rattle.jm_command.specs.Refusals.{ReadsPlan};
-ghost use Rattle.jm_command.specs.Parts.{HasSize, IsInRange, LineSays, RefusalSays, PlanSays, BytesSay, sinks};
+ghost use Rattle.jm_command.specs.Parts.{HasSize, IsInRange, IsPlain, PlanSays, sinks};
 
-use crate::judge::{Judged, judge};
+use crate::line::say;
+use crate::plan::read_plan;
 use crate::print::print_plan;
-use crate::refusal::{Refusal, refusal_line};
 use crate::status::Status;
 use crate::words::command_of;
 use command_words::{Command, Make};
-use edge_io::{ReadError, Sink, Source, read_all, write_all};
+use edge_io::{Sink, Source};
 use element_props::Patterns;
 use plan_maker::make_plan;
 use std::alloc::Global;
 
-/// The most bytes that a plan has.
-const PLAN_LIMIT: u32 = 4_194_304;
+/// What is printed of words that are not a command line.
+pub(crate) const USAGE: &[u8] = b"usage: jm check|make|run|solo|weave [--option value]\n";
 
 /// Runs the program on its words, without its own name. The plan is read from `plan`, except by `make`, which makes its own;
 /// the results go to `results`, and the summary and the end line, the usage line or a refusal line to `reports`. `patterns`
@@ -65,7 +64,7 @@ pub fn plain_command<S: Source, O: Sink, E: Sink, G: Patterns>(
 }
 
 // Runs the program on these words.
-fn run_words<S: Source, O: Sink, E: Sink, G: Patterns>(
+pub(crate) fn run_words<S: Source, O: Sink, E: Sink, G: Patterns>(
     alloc: Global,
     words: &Vec<String>,
     plan: &mut S,
@@ -101,11 +100,7 @@ fn run_command<S: Source, O: Sink, E: Sink, G: Patterns>(
         result }
 {
     match command {
-        None => say(
-            reports,
-            b"usage: jm check|make|run|solo|weave [--option value]\n",
-            Status::Usage,
-        ),
+        None => say(reports, USAGE, Status::Usage),
         Some(Command::Make(make)) => run_made(alloc, make, results, reports),
         Some(Command::Run(_)) => unreachable!(),
         Some(command) => run_read(alloc, &command, plan, results, reports, patterns),
@@ -125,7 +120,7 @@ fn run_made<O: Sink, E: Sink>(alloc: Global, make: Make, results: &mut O, report
     print_plan(alloc, &Command::Make(make), &plan, results, reports)
 }
 
-// Reads a plan, and does with it what the command says.
+// Reads a plan, and prints the texts of the command on it.
 fn run_read<S: Source, O: Sink, E: Sink, G: Patterns>(
     alloc: Global,
     command: &Command,
@@ -134,58 +129,14 @@ fn run_read<S: Source, O: Sink, E: Sink, G: Patterns>(
     reports: &mut E,
     patterns: &mut G,
 ) -> Status
-    requires { ReadsPlan command.now }
+    requires { IsPlain command.now }
     ensures { Says (Some command.now)
         (edges (S.left plan.old) (S.faults plan.old) (O.written results.old) (O.faults results.old) (E.written reports.old) (E.faults reports.old) (G.account patterns.old))
         (edges (S.left plan.new) (S.faults plan.new) (O.written results.new) (O.faults results.new) (E.written reports.new) (E.faults reports.new) (G.account patterns.new))
         result }
 {
-    match read_all(alloc, plan, PLAN_LIMIT) {
-        Ok(bytes) => run_bytes(alloc, command, &bytes, results, reports, patterns),
-        Err(ReadError::ReadFault) => Status::ReadFault,
-        Err(ReadError::TooLong) => refuse(alloc, &Refusal::TooLong, reports),
-        Err(ReadError::NoMemory) => Status::Memory,
-    }
-}
-
-// Does what the command says with the plan of these bytes, or refuses them.
-fn run_bytes<O: Sink, E: Sink, G: Patterns>(
-    alloc: Global,
-    command: &Command,
-    bytes: &[u8],
-    results: &mut O,
-    reports: &mut E,
-    patterns: &mut G,
-) -> Status
-    requires { ReadsPlan command.now }
-    ensures { BytesSay command.now bytes.now (G.account patterns.old) (G.account patterns.new)
-        (sinks (O.written results.old) (O.faults results.old) (E.written reports.old) (E.faults reports.old))
-        (sinks (O.written results.new) (O.faults results.new) (E.written reports.new) (E.faults reports.new)) result }
-{
-    match judge(alloc, command, bytes, patterns) {
-        Judged::Fit(plan) => print_plan(alloc, command, &plan, results, reports),
-        Judged::Unfit(refusal) => refuse(alloc, &refusal, reports),
-        Judged::NoMemory => Status::Memory,
-    }
-}
-
-// Writes the line of a refusal to the reports.
-fn refuse<E: Sink>(alloc: Global, refusal: &Refusal, reports: &mut E) -> Status
-    ensures { RefusalSays refusal.now (E.written reports.old) (E.written reports.new) (E.faults reports.old) (E.faults reports.new) result }
-{
-    let Ok(line) = refusal_line(alloc, refusal) else {
-        return Status::Memory;
-    };
-    say(reports, &line, Status::Refused)
-}
-
-// Writes one line to the reports.
-fn say<E: Sink>(reports: &mut E, line: &[u8], status: Status) -> Status
-    requires { (status ≡ Status.Usage) ⊎ (status ≡ Status.Refused) }
-    ensures { LineSays line.now status (E.written reports.old) (E.written reports.new) (E.faults reports.old) (E.faults reports.new) result }
-{
-    match write_all(reports, line) {
-        Ok(()) => status,
-        Err(_) => Status::WriteFault,
+    match read_plan(alloc, command, plan, reports, patterns) {
+        Ok(plan) => print_plan(alloc, command, &plan, results, reports),
+        Err(status) => status,
     }
 }

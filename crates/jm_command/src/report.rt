@@ -45,14 +45,14 @@ pub fn report_ran<E: Sink>(
 }
 
 // The status after a report that is printed.
-fn status_of(whole: bool) -> Status
+pub(crate) fn status_of(whole: bool) -> Status
     ensures { WholeSays whole result }
 {
     if whole { Status::Done } else { Status::Memory }
 }
 
 // Whether a thread that ended so was not cut short because memory ran out.
-fn is_whole(end: End) -> bool
+pub(crate) fn is_whole(end: End) -> bool
     ensures { result ≡ end_is_whole end }
 {
     match end {

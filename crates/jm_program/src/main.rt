@@ -1,14 +1,12 @@
 //! `jm`: runs JMeter test plans that are written as JSON.
 #![tactic(auto)]
 
-ghost use Rattle.std.specs.Prelude.{◌≡◌, map, false, string_bytes};
-ghost use Rattle.command_words.specs.Commands.{names_run};
-
-use command_words::names_run;
 use edge_io::{FromRead, IntoWrite};
 use element_tree::RegexPatterns;
+use interval_reporter::{Reporter, stops_past};
 use jm_base::{M, NoMemory};
-use jm_command::{Status, plain_command};
+use jm_command::{Status, start};
+use outside_world::{RealTicker, ScriptWorld};
 use std::alloc::Global;
 use std::process::ExitCode;
 use std::{env, io};
@@ -27,34 +25,27 @@ fn words_of(rt: &HostRuntime, alloc: Global) -> M<Vec<String>> {
     Ok(words)
 }
 
-// The words, but none in the place of those that begin with `run`: that command is still to come, and is refused as an unknown
-// one is.
-fn without_run(alloc: Global, words: Vec<String>) -> Vec<String>
-    ensures { names_run (map string_bytes result.items) ≡ false }
-{
-    if names_run(&words) {
-        Vec::new(alloc)
-    } else {
-        words
-    }
-}
-
 fn main(rt: HostRuntime) -> ExitCode {
     let alloc = rt.alloc();
     let Ok(words) = words_of(&rt, alloc) else {
         return ExitCode::from(Status::Memory.number());
     };
-    let words = without_run(alloc, words);
     let mut plan = FromRead::new(rt.stdin());
     let mut results = IntoWrite::new(rt.stdout());
     let mut reports = IntoWrite::new(rt.stderr());
+    let mut world = ScriptWorld::new(alloc);
+    let mut ticker = RealTicker::new(&rt);
     let mut patterns = RegexPatterns::new(Vec::new(alloc));
-    ExitCode::from(plain_command(
+    ExitCode::from(start(
+        &rt,
         alloc,
         &words,
         &mut plan,
         &mut results,
         &mut reports,
+        &mut world,
+        &mut ticker,
+        Reporter::new(stops_past),
         &mut patterns,
     ))
 }

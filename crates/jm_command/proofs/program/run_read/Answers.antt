@@ -1,14 +1,16 @@
-use Rattle.std.proofs.Common.{rules, refl}
-use Rattle.jm_command.specs.Parts.{sinks}
-use Rattle.jm_command.proofs.ProgramLaws.{bytes_said, long_said}
+use Rattle.std.specs.Prelude.{None}
+use Rattle.jm_command.proofs.ProgramLaws.{reads_plan, can_run, unplanned_said, plan_printed}
 use Rattle.jm_command.proofs.program.run_read.Goals as goal
+
+pub read_plan-requires : goal.read_plan-requires
+read_plan-requires g c = reads_plan c.args.command.now c.requires
+
+pub print_plan-requires : goal.print_plan-requires
+print_plan-requires g c = can_run c.args.command.now _ _ _ c.in-Ok.plan c.requires (c.in-Ok.ensures.accepted None 0).accepted
+
+pub returns-in-Err : goal.returns-in-Err
+returns-in-Err g c = unplanned_said c.args.command.now _ _ c.in-Err.status (c.in-Err.ensures.unplanned _ _)
 
 pub returns-in-Ok : goal.returns-in-Ok
 returns-in-Ok g c =
-    bytes_said _ _ _ _ (sinks _ _ _ _) (sinks _ _ _ _) _ _ c.in-Ok.ensures.ok c.args.command.now c.requires c.in-Ok.bytes.items (search rules) c.in-Ok.ensures.bytes
-    c.run_bytes.result (rw c.deref.ensures.value at c.run_bytes.ensures)
-
-pub returns-in-Err-TooLong : goal.returns-in-Err-TooLong
-returns-in-Err-TooLong g c =
-    long_said _ _ _ _ (sinks _ _ _ _) (sinks _ _ _ _) _ _ (c.in-Err-TooLong.ensures.long_calm (search rules)) c.args.command.now c.requires
-    (c.in-Err-TooLong.ensures.long (search rules)) refl (record { results = refl; result_faults = refl }) c.refuse.result c.refuse.ensures
+    plan_printed _ _ _ _ _ _ _ _ _ _ _ _ _ _ _ _ c.args.command.now c.requires c.in-Ok.ensures.calm c.in-Ok.plan (c.in-Ok.ensures.accepted _ _) c.print_plan.result c.print_plan.ensures
