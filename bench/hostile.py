@@ -1,10 +1,10 @@
 #!/usr/bin/env python3
-"""Runs `check` and `solo` on plans at every limit of the format, with a stack of 512 KiB.
+"""Runs `check`, `solo` and `run` on plans at every limit of the format, with a stack of 512 KiB.
 
 Usage: bench/hostile.py [PROGRAM]    (crates/jm_program/out/jm_program where it is not given)
 Each plan has the status and the refusal line that must come by the rules (docs/use/PLAN_FORMAT.md); out of memory, 7, is
 taken too. A line for each plan says the statuses and the seconds. The last line says how many differed, and then the
-status is 1: a signal, no end within ten seconds, another status, or another line; or some plans were not tried within two
+status is 1: a signal, no end within ten seconds, another status, or another line; or some plans were not tried within three
 minutes.
 """
 import json
@@ -19,7 +19,7 @@ TOP = os.path.dirname(os.path.dirname(os.path.abspath(__file__)))
 PROGRAM = sys.argv[1] if len(sys.argv) > 1 else f"{TOP}/crates/jm_program/out/jm_program"
 STACK = 512 * 1024
 SECONDS = 10
-ALL_SECONDS = 110
+ALL_SECONDS = 170
 MOST = 4_194_304
 GROUP = "/children/0"
 CHILD = "/children/0/children/0"
@@ -70,7 +70,7 @@ SCRIPT = '{"type":"Script","props":{"replies":[{}]}}'
 
 
 def plans():
-    """Each plan: what it is, its text, and the refusal lines by `check` and by `solo`, None where it is accepted and runs."""
+    """Each plan: what it is, its text, and the refusal lines by `check` and by `solo` and `run`, None where it is accepted and runs."""
     runs, not_built = (None, None), (None, f"15 NotBuilt {CHILD}")
     refused = lambda line: (line, line)
     bad = lambda prop: refused(f"7 BadProp {CHILD}/props/{prop}")
@@ -247,7 +247,7 @@ def main():
             wrong += 1
             break
         said, fine = [], True
-        for command, line_wanted in zip(("check", "solo"), wanted):
+        for command, line_wanted in zip(("check", "solo", "run"), (*wanted, wanted[1])):
             status, line, took = outcome(command, text)
             right = is_right(status, line, line_wanted)
             rules = f"by the rules {'0' if line_wanted is None else line_wanted}"
