@@ -1,0 +1,20 @@
+//! Tests of a run's threads: what it prints, that workers run at the same time as each other and as the reporter, and what
+//! stands after a write that failed.
+#![tactic(auto)]
+
+#[cfg(test)]
+mod beside;
+#[cfg(test)]
+mod fakes;
+#[cfg(test)]
+mod faults;
+#[cfg(test)]
+mod given;
+#[cfg(test)]
+mod plans;
+#[cfg(test)]
+mod printed;
+#[cfg(test)]
+mod running;
+#[cfg(test)]
+mod runs;

@@ -1,0 +1,41 @@
+//! Small plans.
+
+use element_tree::{Plan, RegexPatterns, build};
+use plan_json::read_tree;
+use std::alloc::Global;
+use std::test::Fail;
+
+/// A loop of three rounds over two samplers, which are the elements 3 and 4.
+pub const LOOP: &[u8] =
+    b"{\"type\":\"TestPlan\",\"children\":[{\"type\":\"ThreadGroup\",\"name\":\"TG\",\"children\":[{\"type\":\"Loop\",\"props\":{\"loops\":3},\"children\":[{\"type\":\"Script\",\"name\":\"A\",\"props\":{\"replies\":[{\"ms\":5},{\"code\":500,\"message\":\"Bad\",\"ms\":7}]}},{\"type\":\"Script\",\"name\":\"B\",\"props\":{\"replies\":[{\"body\":\"hi\",\"ms\":2}]}}]}]}]}";
+
+/// One thread over two samplers, which are the elements 2 and 3.
+pub const TWO_SAMPLES: &[u8] =
+    b"{\"type\":\"TestPlan\",\"children\":[{\"type\":\"ThreadGroup\",\"name\":\"TG\",\"children\":[{\"type\":\"Script\",\"name\":\"A\",\"props\":{\"replies\":[{\"ms\":5}]}},{\"type\":\"Script\",\"name\":\"B\",\"props\":{\"replies\":[{\"ms\":2}]}}]}]}";
+
+/// Two threads over one sampler, which is the element 2.
+pub const TWO_THREADS: &[u8] =
+    b"{\"type\":\"TestPlan\",\"children\":[{\"type\":\"ThreadGroup\",\"name\":\"TG\",\"props\":{\"threads\":2},\"children\":[{\"type\":\"Script\",\"name\":\"A\",\"props\":{\"replies\":[{\"ms\":5}]}}]}]}";
+
+// A plan of so many threads, each of which makes 100 samples of 5 milliseconds: the text before and after the number.
+const BEFORE: &[u8] =
+    b"{\"type\":\"TestPlan\",\"children\":[{\"type\":\"ThreadGroup\",\"name\":\"TG\",\"props\":{\"loops\":100,\"threads\":";
+
+const AFTER: &[u8] =
+    b"},\"children\":[{\"type\":\"Script\",\"name\":\"A\",\"props\":{\"replies\":[{\"ms\":5}]}}]}]}";
+
+/// A plan of that many threads, each of which makes 100 samples of 5 milliseconds.
+pub fn many_samples(alloc: Global, threads: &[u8]) -> Result<Vec<u8>, Fail> {
+    let mut text = Vec::new(alloc);
+    for piece in [BEFORE, threads, AFTER] {
+        text.extend_from_slice(piece)?;
+    }
+    Ok(text)
+}
+
+/// The plan of a text.
+pub fn plan_of(alloc: Global, text: &[u8]) -> Result<Plan, Fail> {
+    let mut patterns = RegexPatterns::new(Vec::new(alloc));
+    let tree = read_tree(alloc, text)?;
+    Ok(build(alloc, &tree, &mut patterns)?)
+}
