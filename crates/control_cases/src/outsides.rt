@@ -113,10 +113,10 @@ fn answer(alloc: Global, outside: &mut ScriptOutside, call: &str) -> anyhow::Res
 }
 
 fn tell(alloc: Global, outside: &ScriptOutside, lines: &mut Lines) -> anyhow::Result<()> {
-    let Some(told) = outside.told() else {
+    let Some(told) = outside.told(alloc)? else {
         return lines.add(alloc, "tells nothing".to_string(alloc)?);
     };
-    for one in told {
+    for one in &told {
         let line = heard(alloc, one)?;
         lines.add(alloc, line)?;
     }

@@ -137,11 +137,11 @@ fn worked(
 }
 
 // How many calls an outside tells of.
-fn told(outside: &ScriptOutside) -> usize {
-    match outside.told() {
+fn told(alloc: Global, outside: &ScriptOutside) -> M<usize> {
+    Ok(match outside.told(alloc)? {
         Some(told) => told.len(),
         None => 0,
-    }
+    })
 }
 
 // The lines of a case `worker`.
@@ -156,7 +156,7 @@ fn worker_lines(
 {
     let mut outside = ScriptOutside::new(alloc, plan, true)?;
     let items = worked(alloc, plan, props, numbers, &mut outside, lines)?;
-    let told = told(&outside);
+    let told = told(alloc, &outside)?;
     lines.add(
         alloc,
         format!(in alloc; "= {items} items, {told} calls told")?,

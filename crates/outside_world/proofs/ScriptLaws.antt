@@ -1,6 +1,6 @@
 -- How an outside that answers from a plan's replies goes on with each call.
-use Rattle.std.proofs.Common.{◌≡◌, ℕ, ◌+◌, ◌%◌, List, [], ◌∷◌, length, Option, Some, None, refl, sym, ap}
-use Rattle.std.specs.Prelude.{slice_get, slice_index, slice_set}
+use Rattle.std.proofs.Common.{◌≡◌, ℕ, ◌+◌, ◌%◌, List, [], ◌∷◌, length, Option, Some, None, refl, sym, ap, ◌∙◌}
+use Rattle.std.specs.Prelude.{unwrap_or, slice_get, slice_index, slice_set}
 use Rattle.jm_base.specs.declared.types.ScriptReply.{ScriptReply}
 use Rattle.jm_base.specs.declared.types.Request.{Request}
 use Rattle.jm_base.specs.declared.types.Outcome.{Outcome}
@@ -10,6 +10,7 @@ use Rattle.jm_base.specs.declared.types.Heard.TheVariants.{Reading, Paused, Aske
 use Rattle.jm_base.specs.Run.{over, reading, wait, outcome_of}
 use Rattle.jm_base.specs.Outside.{Scripts, script_form, scripted_ask, later, replies_of, outcome_of_reply, Replays, at_end, by_reading, by_pause, by_asking, fault_count, faults_after, Account, Hears, Goes, here, reads, waits, asks}
 use Rattle.outside_world.specs.Scripted.{scripts, told_after}
+use Rattle.outside_world.specs.Told.{reply_outcome, outcome_at}
 
 abbrev at : Option (ℕ × ℕ) → Scripts → Option (List Heard) → ℕ → Account
 at origin v told faults = record { origin = origin; value = Some v; told = told; faults = faults }
@@ -33,6 +34,11 @@ pub goes_asking : (origin : Option (ℕ × ℕ)) (v w : Scripts) (old new : Opti
     → Goes (at origin v old m) (outcome_of s q) [] (over a) (at origin w new n)
 goes_asking origin v w old new m n s q a is told faults =
     record { heard = Asked s q a ∷ []; hears = one_heard origin v w old new m n _ (by_asking (ap Some (sym is)) at_end) told faults; path = asks here }
+
+-- a kept ask tells what the reply at the sampler's place answers
+pub told_asked : (replies : List (List ScriptReply)) (s place : ℕ) (q : Request) (a : Outcome) (r : Option ScriptReply) (old new : Option (List Heard))
+    → new ≡ told_after old (Asked s q (outcome_at replies s place q)) → slice_get (unwrap_or (slice_get replies s) []) place ≡ r → a ≡ reply_outcome q r → new ≡ told_after old (Asked s q a)
+told_asked replies s place q a r old new told reply is = told ∙ ap (λ a. told_after old (Asked s q a)) (ap (reply_outcome q) reply ∙ sym is)
 
 -- no reply is there
 pub asked_none : (v : Scripts) (s : ℕ) (q : Request) → slice_get (replies_of v s) (slice_index v.places s) ≡ None → (Null, v) ≡ scripted_ask s q v

@@ -1,3 +1,4 @@
+pub mod Told
 pub mod Scripted
 pub mod Worlds
 pub mod Tickers

@@ -1,6 +1,6 @@
 // The outsides that a world has closed.
 
-use jm_base::{Heard, Items};
+use crate::kept::Told;
 
 /// The outsides that were closed so far, the last one first. Each place was allocated when its outside was opened, so closing
 /// takes no memory.
@@ -11,7 +11,7 @@ pub(crate) enum Closed {
     /// This one was closed after others. `told` is what it was told, where it told.
     More {
         number: u16,
-        told: Option<Items<Heard>>,
+        told: Option<Told>,
         before: Box<Closed>,
     },
 }

@@ -4,8 +4,10 @@
 
 mod closed;
 pub mod copies;
+mod kept;
 pub mod mem_ticker;
 pub mod real_ticker;
+mod replies;
 pub mod script;
 pub mod script_world;
 pub mod ticker;

@@ -1,18 +1,17 @@
 // An outside that answers from the replies of a plan, with a clock of its own.
 
-ghost use Rattle.std.specs.Prelude.{option_map, ◌≡◌, ◌+◌, ◌%◌, ◌<◌, ◌++◌, Bool, true, length, slice_get, slice_index, slice_set, map, replicate, IfOk, OnOk, OnErr, unwrap_or, Some, None, [], ◌∷◌, if◌then◌else◌};
-ghost use Rattle.std.specs.Option.{option_copied};
+ghost use Rattle.std.specs.Prelude.{option_map, ◌≡◌, slice_index, slice_set, map, replicate, IfOk};
 ghost use Rattle.element_tree.specs.Tree.{replies_of_kind, replies_of_element};
-ghost use Rattle.jm_base.specs.declared.types.Outcome.{Outcome};
-ghost use Rattle.jm_base.specs.declared.types.Outcome.TheVariants.{Fault};
-ghost use Rattle.jm_base.specs.Outside.{fault_count, later, outcome_of_reply, request_text};
+ghost use Rattle.jm_base.specs.Outside.{fault_count, later};
 ghost use Rattle.outside_world.specs.Worlds.{origin_of};
-ghost use Rattle.outside_world.specs.Scripted.{scripted_account, opened_account, scripts_of, told_when, told_after};
+ghost use Rattle.outside_world.specs.Scripted.{scripted_account, opened_account, scripts_of};
 
 use crate::closed::Closed;
-use crate::copies::{copy_outcome, copy_replies, copy_request};
+use crate::copies::copy_replies;
+use crate::kept::{Kept, Told, note, note_asked, told_list};
+use crate::replies::{outcome_of_reply, replies_at, reply_at};
 use element_tree::{Element, Kind, Plan};
-use jm_base::{Heard, Items, M, Outcome, Outside, Reply, Request, ScriptReply, Text};
+use jm_base::{Heard, Items, M, Outcome, Outside, Request, ScriptReply};
 use std::alloc::Global;
 use std::marker::Model;
 
@@ -25,7 +24,7 @@ pub struct ScriptOutside {
     clock: u64,
     places: Vec<usize>,
     keep: bool,
-    heard: Vec<Heard>,
+    calls: Vec<Kept>,
     faults: u64,
     opening: Option<Opening>,
 }
@@ -41,11 +40,12 @@ pub(crate) struct Opening {
 impl Model for ScriptOutside {
     ghost use Rattle.jm_base.specs.Outside.{Account};
     ghost use Rattle.outside_world.specs.Scripted.{account_of};
+    ghost use Rattle.outside_world.specs.Told.{told_of};
     ghost use Rattle.outside_world.specs.Worlds.{origin_of};
 
     ghost Value = { Account };
 
-    ghost view = { λ o. account_of (origin_of o.opening) o.replies o.clock o.places.items o.keep o.heard.items o.faults };
+    ghost view = { λ o. account_of (origin_of o.opening) o.replies o.clock o.places.items o.keep (told_of o.replies o.calls.items) o.faults };
 }
 
 impl Outside for ScriptOutside {
@@ -53,12 +53,12 @@ impl Outside for ScriptOutside {
 
     fn now(&mut self) -> M<u64> {
         let clock = self.clock;
-        note(&mut self.heard, self.keep, Heard::Reading(clock))?;
+        note(&mut self.calls, self.keep, Kept::Reading(clock))?;
         Ok(clock)
     }
 
     fn pause(&mut self, ms: u32) -> M<()> {
-        note(&mut self.heard, self.keep, Heard::Paused(ms))?;
+        note(&mut self.calls, self.keep, Kept::Paused(ms))?;
         self.clock = later(self.clock, ms);
         Ok(())
     }
@@ -69,22 +69,22 @@ impl Outside for ScriptOutside {
         let Some(reply) = reply_at(replies, place) else {
             note_asked(
                 self.alloc,
-                &mut self.heard,
+                &mut self.calls,
                 self.keep,
                 sampler,
+                place,
                 request,
-                &Outcome::Null,
             )?;
             return Ok(Outcome::Null);
         };
         let outcome = outcome_of_reply(self.alloc, request, reply)?;
         note_asked(
             self.alloc,
-            &mut self.heard,
+            &mut self.calls,
             self.keep,
             sampler,
+            place,
             request,
-            &outcome,
         )?;
         self.faults = faults_after(self.faults, &outcome);
         self.clock = later(self.clock, reply.ms);
@@ -106,7 +106,7 @@ impl ScriptOutside {
             clock: 0,
             places: zeros(alloc, elements.len())?,
             keep,
-            heard: Vec::new(alloc),
+            calls: Vec::new(alloc),
             faults: 0,
             opening: None,
         })
@@ -122,59 +122,35 @@ impl ScriptOutside {
     }
 
     // What it was told, where it tells, and which world opened it.
-    pub(crate) fn into_told(self) -> (Option<Items<Heard>>, Option<Opening>)
+    pub(crate) fn into_told(self) -> (Option<Told>, Option<Opening>)
         ensures told { result.0 ≡ self.told }
         ensures origin { origin_of result.1 ≡ self.origin }
     {
         let ScriptOutside {
+            replies,
             keep,
-            heard,
+            calls,
             opening,
             ..
         } = self;
-        let told = if keep { Some(Items::of(heard)) } else { None };
+        let told = if keep {
+            Some(Told::of(replies, calls))
+        } else {
+            None
+        };
         (told, opening)
     }
 
-    /// What it was told, in order, where it tells.
-    pub fn told(&self) -> Option<&[Heard]>
-        ensures { option_map (λ t. t.now) result ≡ self.now.told }
+    /// What it was told, in order, where it tells. The list is made in memory of its own.
+    pub fn told(&self, alloc: Global) -> M<Option<Vec<Heard>>>
+        ensures { IfOk result (λ t. option_map (λ v. v.items) t ≡ self.now.told) }
     {
-        if self.keep { Some(&self.heard) } else { None }
+        if self.keep {
+            Ok(Some(told_list(alloc, &self.replies, &self.calls)?))
+        } else {
+            Ok(None)
+        }
     }
-}
-
-fn note(heard: &mut Vec<Heard>, keep: bool, item: Heard) -> M<()>
-    ensures ok { OnOk result (told_when keep heard.new.items ≡ told_after (told_when keep heard.old.items) item) }
-    ensures err { OnErr result (heard.new.items ≡ heard.old.items) }
-{
-    if keep {
-        heard.push(item)?;
-    }
-    Ok(())
-}
-
-fn note_asked(
-    alloc: Global,
-    heard: &mut Vec<Heard>,
-    keep: bool,
-    sampler: u16,
-    request: &Request,
-    outcome: &Outcome,
-) -> M<()>
-    ensures ok { OnOk result (told_when keep heard.new.items
-        ≡ told_after (told_when keep heard.old.items) (Heard.Asked sampler request.now outcome.now)) }
-    ensures err { OnErr result (heard.new.items ≡ heard.old.items) }
-{
-    if keep {
-        let item = Heard::Asked {
-            sampler,
-            request: copy_request(alloc, request)?,
-            outcome: copy_outcome(alloc, outcome)?,
-        };
-        note(heard, keep, item)?;
-    }
-    Ok(())
 }
 
 fn zeros(alloc: Global, count: usize) -> M<Vec<usize>>
@@ -206,21 +182,6 @@ fn replies_of(alloc: Global, element: &Element) -> M<Items<ScriptReply>>
     }
 }
 
-fn replies_at(replies: &Items<Items<ScriptReply>>, sampler: u16) -> &[ScriptReply]
-    ensures { result.now ≡ unwrap_or (slice_get replies.now sampler) [] }
-{
-    match replies.as_slice().get(usize::from(sampler)) {
-        Some(own) => own.as_slice(),
-        None => &[],
-    }
-}
-
-fn reply_at(replies: &[ScriptReply], place: usize) -> Option<&ScriptReply>
-    ensures { option_copied result ≡ slice_get replies.now place }
-{
-    replies.get(place)
-}
-
 fn later(clock: u64, ms: u32) -> u64
     ensures { result ≡ later clock ms }
 {
@@ -249,35 +210,4 @@ fn faults_after(faults: u64, outcome: &Outcome) -> u64
         Outcome::Fault => faults.saturating_add(1),
         Outcome::Reply(_) | Outcome::Null | Outcome::Broken(_) => faults,
     }
-}
-
-fn request_text(request: &Request) -> &Text
-    ensures { result.now ≡ request_text request.now }
-{
-    match request {
-        Request::Script(text) => text,
-        Request::Http { bytes, .. } => bytes,
-    }
-}
-
-fn outcome_of_reply(alloc: Global, request: &Request, reply: &ScriptReply) -> M<Outcome>
-    ensures { IfOk result (λ o. o ≡ outcome_of_reply request.now reply.now) }
-{
-    if reply.null {
-        return Ok(Outcome::Null);
-    }
-    if reply.fault {
-        return Ok(Outcome::Fault);
-    }
-    let body = if reply.echo {
-        request_text(request)
-    } else {
-        &reply.body
-    };
-    Ok(Outcome::Reply(Reply {
-        code: reply.code,
-        message: reply.message.copy(alloc)?,
-        headers: reply.headers.copy(alloc)?,
-        body: body.copy(alloc)?,
-    }))
 }
