@@ -6,8 +6,8 @@ use Rattle.jm_base.specs.Run.{over}
 use Rattle.element_tree.specs.declared.kinds.Element.{Element}
 use Rattle.element_tree.specs.declared.kinds.Kind.TheVariants.{ThreadGroup}
 use Rattle.element_tree.specs.declared.kinds.Loops.{Loops}
-use Rattle.element_tree.specs.declared.kinds.OnError.{OnError}
-use Rattle.element_tree.specs.declared.kinds.OnError.TheVariants as on_errors
+use Rattle.element_props.specs.declared.choices.OnError.{OnError}
+use Rattle.element_props.specs.declared.choices.OnError.TheVariants as on_errors
 use Rattle.element_tree.specs.Tree.{Tree, IsGroup, group_of}
 use Rattle.cursor_steps.specs.Children.{run_count, is_left}
 use Rattle.var_functions.specs.declared.state.UserState.{UserState}

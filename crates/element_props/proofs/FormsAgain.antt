@@ -1,12 +1,11 @@
 -- A value that was read under a form is written so that it is read again under it.
-use Rattle.std.proofs.Common.{◌≡◌, ℕ, zero, suc, ◌+◌, ◌<◌, ◌≤◌, ◌^◌, ℤ, pos, negsuc, Bool, true, false, not, ◌||◌, ◌&&◌, List, [], ◌∷◌, length, Option, Some, None, option_map, option_and_then, refl, sym, ap, ◌∙◌, cond, if◌then◌else◌, bytes_eq, nat_lt, nat_le, int_le, arith, decimal, unwrap_or, true≢false, IsUtf8}
-use Rattle.std.specs.Prelude.{slice_get, slice_index}
+use Rattle.std.proofs.Common.{◌≡◌, ℕ, zero, suc, ◌<◌, ◌≤◌, ◌^◌, ℤ, pos, negsuc, Bool, true, false, ◌||◌, ◌&&◌, List, [], ◌∷◌, length, Option, Some, None, option_map, option_and_then, refl, sym, ap, ◌∙◌, if◌then◌else◌, bytes_eq, nat_lt, nat_le, int_le, arith, decimal, unwrap_or, true≢false, IsUtf8}
+use Rattle.std.specs.Prelude.{slice_index}
 use Rattle.std.specs.Str.Lossy.{utf8_lossy}
-use Rattle.std.specs.List.{prefix_len}
+use Rattle.std.specs.List.{list_any}
 use Rattle.std.specs.Fmt.{signed_decimal}
 use Rattle.std.proofs.lemmas.Str.{utf8_lossy-IsUtf8, IsUtf8-append, IsUtf8-from_ascii}
 use Rattle.std.proofs.lemmas.Fmt.{IsAscii-decimal}
-use Rattle.std.proofs.lemmas.Slice.Eq.{bytes_eq-Decides}
 use Rattle.std.proofs.lemmas.Bool.Decides.{nat_tests}
 use Rattle.serde_json.specs.Data.{Num, unsigned, negative, float, Data, null, boolean, number, string, array, object, Items, no_items, item}
 use Rattle.serde_json.specs.Events.{items_len}
@@ -17,10 +16,11 @@ use Rattle.template_text.proofs.Readings.{reading_is}
 use Rattle.element_props.specs.declared.prop.Prop.{Prop}
 use Rattle.element_props.specs.declared.prop.Prop.TheVariants as props
 use Rattle.element_props.specs.declared.prop.Pair.{Pair}
+use Rattle.element_props.specs.Choices.{word_in}
 use Rattle.element_props.specs.Conditions.{bad_condition}
-use Rattle.element_props.specs.Forms.{has_long, items_have_long, number_text, template_text, filled_text, within, whole_within, place_in, pair_from, pair_in, all_of, few_of, path_text, table_text, bad_pair}
+use Rattle.element_props.specs.Forms.{has_long, items_have_long, number_text, template_text, filled_text, within, whole_within, pair_from, pair_in, all_of, few_of, path_text, table_text, bad_pair}
 use Rattle.element_props.specs.Written.{text_data, pair_data, items_by, value_data}
-use Rattle.element_props.specs.FormRows.{Form, largest}
+use Rattle.element_props.specs.FormRows.{largest}
 use Rattle.element_props.specs.Again.{HasWidth, IsJson, AreJson}
 use Rattle.element_props.proofs.FormLaws.{short_decimal, short_signed}
 use Rattle.element_props.proofs.TakenLaws.{no_fault, checked}
@@ -101,18 +101,18 @@ table_same None s t h = cc
 table_same (Some n) s t h = let k = where_some _ (Some s) t h in cc
 
 -- a text that some test lets pass is written as it was given
-pub passed_kept : (form : Form) (f : List ℕ → Option (List ℕ)) → ((s t : List ℕ) → f s ≡ Some t → t ≡ s) → (d : Data) (p : Prop)
-    → option_and_then checked (option_map props.Text (option_and_then f (as_str d))) ≡ Some p → IsJson d → value_data form p ≡ d
-passed_kept form f same d p h j =
+pub passed_kept : (f : List ℕ → Option (List ℕ)) → ((s t : List ℕ) → f s ≡ Some t → t ≡ s) → (d : Data) (p : Prop)
+    → option_and_then checked (option_map props.Text (option_and_then f (as_str d))) ≡ Some p → IsJson d → value_data p ≡ d
+passed_kept f same d p h j =
     let a = checked_of props.Text (option_and_then f (as_str d)) p h in
     let b = and_then_some f (as_str d) a.0 a.1 in
     let e : text_data a.0 ≡ d = text_kept d a.0 (b.1 ∙ ap Some (sym (same b.0 a.0 b.2))) j in
-    ap (value_data form) (sym a.2) ∙ e
+    ap value_data (sym a.2) ∙ e
 
-pub plain_kept : (form : Form) (d : Data) (p : Prop) → option_and_then checked (option_map props.Text (as_str d)) ≡ Some p → IsJson d → value_data form p ≡ d
-plain_kept form d p h j =
+pub plain_kept : (d : Data) (p : Prop) → option_and_then checked (option_map props.Text (as_str d)) ≡ Some p → IsJson d → value_data p ≡ d
+plain_kept d p h j =
     let a = checked_of props.Text (as_str d) p h in
-    ap (value_data form) (sym a.2) ∙ text_kept d a.0 a.1 j
+    ap value_data (sym a.2) ∙ text_kept d a.0 a.1 j
 
 -- ---- a template
 
@@ -195,25 +195,10 @@ bound_small (Some d) = at_most (whole_within (pos 0) largest d) (λ z h. inside 
         let b = and_true (int_le (pos 0) z) (int_le z largest) w.0 in
         b.1
 
--- ---- one text of a list
+-- ---- one text of a choice
 
-place_at : (b : Bool) (w s : List ℕ) (ws : List (List ℕ)) (n m : ℕ) → bytes_eq w s ≡ b → nat_lt (cond (not b) (1 + n) 0) (suc m) ≡ true → (nat_lt n m ≡ true → slice_get ws n ≡ Some s)
-    → slice_get (w ∷ ws) (cond (not b) (1 + n) 0) ≡ Some s
-place_at true w s ws n m is inside later = ap Some ((bytes_eq-Decides w s).0 is)
-place_at false w s ws n m is inside later =
-    let e : 1 + n ≡ suc n = omega arith in
-    let k : nat_lt n m ≡ true = grind (arith, nat_tests) in
-    rw e (later k)
-
-place_found : (words : List (List ℕ)) (s : List ℕ) → nat_lt (prefix_len (λ w. not (bytes_eq w s)) words) (length words) ≡ true → slice_get words (prefix_len (λ w. not (bytes_eq w s)) words) ≡ Some s
-place_found [] s h = cc
-place_found (w ∷ ws) s h = place_at (bytes_eq w s) w s ws _ (length ws) refl h (place_found ws s)
-
-pub place_again : (words : List (List ℕ)) (s : List ℕ) (n : ℕ) → place_in words s ≡ Some n → slice_get words n ≡ Some s
-place_again words s n h =
-    let w = where_some (nat_lt (prefix_len (λ w. not (bytes_eq w s)) words) (length words)) (Some (prefix_len (λ w. not (bytes_eq w s)) words)) n h in
-    let e : prefix_len (λ w. not (bytes_eq w s)) words ≡ n = cc in
-    ap (slice_get words) (sym e) ∙ place_found words s w.0
+pub word_same : (words : List (List ℕ)) (s t : List ℕ) → word_in words s ≡ Some t → t ≡ s
+word_same words s t h = let k = where_some (list_any (λ w. bytes_eq w s) words) (Some s) t h in cc
 
 pub string_is : (d : Data) (s : List ℕ) → as_str d ≡ Some s → string s ≡ d
 string_is (string t) s h = let e : s ≡ t = cc in ap string e

@@ -1,3 +1,4 @@
+pub mod ChoiceLaws
 pub mod ConditionLaws
 pub mod ReplyLaws
 pub mod Unique

@@ -1,9 +1,10 @@
 -- A reading refuses nothing by a pattern's size, so such a refusal has its cause in the maker of patterns.
-use Rattle.std.proofs.Common.{◌≡◌, ℕ, Bool, true, false, ◌||◌, List, [], ◌∷◌, Option, Some, None, Result, Ok, Err, IfOk, refl, sym, ap, ◌∙◌, IsSome, true≢false, if◌then◌else◌, codes, option_and_then}
+use Rattle.std.proofs.Common.{◌≡◌, ℕ, Bool, true, false, ◌||◌, List, [], ◌∷◌, Option, Some, None, Result, Ok, Err, IfOk, refl, sym, ap, ◌∙◌, IsSome, true≢false, if◌then◌else◌, option_and_then}
 use Rattle.jm_base.specs.Counts.{Rose}
 use Rattle.serde_json.specs.Data.{Data, Members}
 use Rattle.serde_json.specs.Find.{get_member, as_str, as_array}
 use Rattle.plan_json.specs.Place.{Place}
+use Rattle.element_props.specs.declared.choices.TestKind.TheVariants as kinds
 use Rattle.element_props.specs.declared.error.BuildError.{BuildError}
 use Rattle.element_props.specs.declared.error.BuildError.TheVariants as errors
 use Rattle.element_props.specs.declared.error.PatternFault.TheVariants.{Syntax, Size}
@@ -73,7 +74,7 @@ own_tests p a b ss = own_if (a || b) (regexes_checked p b ss) _ (own_regexes p b
 own_given_tests : (p : Place) (ms : Members) (d : Data) → Own (tests_given p ms d)
 unfolding tests_given
 own_given_tests p ms d = own_bind (or_refuse (option_and_then (few_of 64 as_str) (as_array d)) (errors.BadProp p)) _ (own_or_refuse (option_and_then (few_of 64 as_str) (as_array d)) (errors.BadProp p) refl)
-    (λ ss. own_tests p (is_test (codes "contains") ms) (is_test (codes "matches") ms) ss)
+    (λ ss. own_tests p (is_test kinds.Contains ms) (is_test kinds.Matches ms) ss)
 
 own_template : (p : Place) (v : Prop) (o : Option ℕ) → Own (elim o as (λ q. Reads Prop) [ None ↦ over v | Some n ↦ refuse (errors.BadCond p n) ])
 own_template p v None = tt

@@ -1,13 +1,12 @@
 -- Lists of values, one after another.
-use Rattle.std.proofs.Common.{◌≡◌, ℕ, suc, ◌+◌, ◌<◌, ◌≤◌, nat_le, ◌&&◌, List, [], ◌∷◌, ◌++◌, length, get_or, drop, map, Option, Some, None, option_map, option_and_then, refl, sym, ap, ◌∙◌, append_assoc, add-one, drop-cons, cond, not, Bool, Bor, bytes_eq, nat_lt, nat_eq, true, false, ◌||◌, arith, ap₂}
-use Rattle.std.proofs.lemmas.List.{length-map, append-nil, drop_all}
-use Rattle.std.specs.List.{position, prefix_len}
+use Rattle.std.proofs.Common.{◌≡◌, ℕ, suc, ◌+◌, ◌<◌, ◌≤◌, nat_le, ◌&&◌, List, [], ◌∷◌, ◌++◌, length, get_or, drop, Option, Some, None, option_map, option_and_then, refl, sym, ap, ◌∙◌, append_assoc, add-one, drop-cons, Bool, nat_eq, true, false, ◌||◌, arith}
+use Rattle.std.proofs.lemmas.List.{append-nil, drop_all}
 use Rattle.serde_json.specs.Data.{Data, item}
 use Rattle.serde_json.specs.View.{view, items_view}
 use Rattle.serde_json.specs.declared.value.Value.{Value}
 use Rattle.serde_json.specs.Events.{items_len}
 use Rattle.serde_json.proofs.Views.{items_len-items_view}
-use Rattle.element_props.specs.Forms.{all_of, few_of, place_in, is_no_item, has_long, items_have_long}
+use Rattle.element_props.specs.Forms.{all_of, few_of, is_no_item, has_long, items_have_long}
 
 -- what was read, before what is left
 abbrev pub before : {A : Type 0} → List A → Option (List A) → Option (List A)
@@ -47,13 +46,6 @@ few_not most read vs h = rw (items_len-items_view vs, h) refl
 
 pub list_length : (vs : List Value) → items_len (items_view vs) ≡ length vs
 list_length vs = items_len-items_view vs
-
-prefix_map : {X Y : Type 0} (p : Y → Bool) (f : X → Y) (xs : List X) → prefix_len (λ x. not (p (f x))) xs ≡ prefix_len (λ y. not (p y)) (map f xs)
-prefix_map p f [] = refl
-prefix_map p f (x ∷ xs) = ap (λ n. cond (not (p (f x))) (1 + n) 0) (prefix_map p f xs)
-
-pub place_seen : (s : List ℕ) (ws : List (Bor (List ℕ))) → position (λ w. bytes_eq w.now s) ws ≡ place_in (map (λ w. w.now) ws) s
-place_seen s ws = ap₂ (λ (n m : ℕ). cond (nat_lt n m) (Some n) None) (prefix_map (λ w. bytes_eq w s) (λ (w : Bor (List ℕ)). w.now) ws) (sym (length-map ws (λ (w : Bor (List ℕ)). w.now)))
 
 not_zero : (n : ℕ) → nat_eq (suc n) 0 ≡ false
 not_zero n = grind arith

@@ -7,6 +7,7 @@ use Rattle.serde_json.specs.Find.{get, get_member}
 use Rattle.element_props.specs.declared.error.BuildError.{BuildError}
 use Rattle.element_props.specs.declared.error.BuildError.TheVariants as errors
 use Rattle.element_props.specs.declared.prop.Prop.{Prop}
+use Rattle.element_props.specs.Named.{NamedValue, ◌holds◌}
 use Rattle.element_props.specs.declared.rows.Row.{Row}
 use Rattle.element_props.specs.FormRows as table
 use Rattle.element_props.specs.Seen.{row_seen, presence_seen}
@@ -30,18 +31,18 @@ and_right true b h = h
 and_right false b h = cc
 
 -- what was read, before what is left
-abbrev pub props_before : List Prop → Reads (List Prop) → Reads (List Prop)
+abbrev pub props_before : List NamedValue → Reads (List NamedValue) → Reads (List NamedValue)
 props_before prefix r = r >>= (λ ps. over (prefix ++ ps))
 
-bind_over : (r : Reads (List Prop)) → r ≡ props_before [] r
+bind_over : (r : Reads (List NamedValue)) → r ≡ props_before [] r
 bind_over (over ps) = refl
 bind_over (refuse e) = refl
 bind_over (ask p t r) = ap (ask p t) (bind_over r)
 
-pub rows_start : (a : Asked) (r : Reads (List Prop)) → Goes a r (props_before [] r) a
-rows_start a r = let P : Reads (List Prop) → Type 0 = λ s. Goes a r s a in subst P (bind_over r) (goes_nothing a r)
+pub rows_start : (a : Asked) (r : Reads (List NamedValue)) → Goes a r (props_before [] r) a
+rows_start a r = let P : Reads (List NamedValue) → Type 0 = λ s. Goes a r s a in subst P (bind_over r) (goes_nothing a r)
 
-shift : (prefix : List Prop) (p : Prop) (r : Reads (List Prop)) → (r >>= (λ ps. over (p ∷ ps))) >>= (λ ps. over (prefix ++ ps)) ≡ props_before (prefix ++ p ∷ []) r
+shift : (prefix : List NamedValue) (p : NamedValue) (r : Reads (List NamedValue)) → (r >>= (λ ps. over (p ∷ ps))) >>= (λ ps. over (prefix ++ ps)) ≡ props_before (prefix ++ p ∷ []) r
 shift prefix p (over ps) = ap over (sym (append_assoc prefix (p ∷ []) ps))
 shift prefix p (refuse e) = refl
 shift prefix p (ask q t r) = ap (ask q t) (shift prefix p r)
@@ -49,33 +50,33 @@ shift prefix p (ask q t r) = ap (ask q t) (shift prefix p r)
 rows_step : (rows : List Row) (i : ℕ) (row : Row) → i < length rows → row ≡ get_or rows i row → map row_seen (drop i rows) ≡ row_seen row ∷ map row_seen (drop (i + 1) rows)
 rows_step rows i row h is = rw add-one (ap (map row_seen) (drop-cons rows i row h) ∙ ap (λ r. row_seen r ∷ map row_seen (drop (suc i) rows)) (sym is))
 
-module _ (places : List ℕ) (ms : Members) (rows : List Row) (i : ℕ) (row : Row) (prefix : List Prop) (a b c : Asked) (h : i < length rows) (is : row ≡ get_or rows i row)
+module _ (places : List ℕ) (ms : Members) (rows : List Row) (i : ℕ) (row : Row) (prefix : List NamedValue) (a b c : Asked) (h : i < length rows) (is : row ≡ get_or rows i row)
     (kept : Goes a (properties places ms (map row_seen rows)) (props_before prefix (properties places ms (map row_seen (drop i rows)))) b) where
   here : Goes a (properties places ms (map row_seen rows)) (props_before prefix (properties places ms (row_seen row ∷ map row_seen (drop (i + 1) rows)))) b
   here = let P : List table.Row → Type 0 = λ rs. Goes a (properties places ms (map row_seen rows)) (props_before prefix (properties places ms rs)) b in subst P (rows_step rows i row h is) kept
 
   pub row_done : (p : Prop) → Goes b (property places ms (row_seen row)) (over p) c
-      → Goes a (properties places ms (map row_seen rows)) (props_before (prefix ++ p ∷ []) (properties places ms (map row_seen (drop (i + 1) rows)))) c
+      → Goes a (properties places ms (map row_seen rows)) (props_before (prefix ++ (row.name.now holds p) ∷ []) (properties places ms (map row_seen (drop (i + 1) rows)))) c
   unfolding properties
   row_done p g =
       let rest = properties places ms (map row_seen (drop (i + 1) rows)) in
-      let first = goes_bind (λ (q : Prop). rest >>= (λ ps. over (q ∷ ps))) g in
+      let first = goes_bind (λ (q : Prop). rest >>= (λ ps. over ((row.name.now holds q) ∷ ps))) g in
       let second = goes_bind (λ ps. over (prefix ++ ps)) first in
-      let P : Reads (List Prop) → Type 0 = λ r. Goes b (props_before prefix (properties places ms (row_seen row ∷ map row_seen (drop (i + 1) rows)))) r c in
-      goes_append here (subst P (shift prefix p rest) second)
+      let P : Reads (List NamedValue) → Type 0 = λ r. Goes b (props_before prefix (properties places ms (row_seen row ∷ map row_seen (drop (i + 1) rows)))) r c in
+      goes_append here (subst P (shift prefix (row.name.now holds p) rest) second)
 
   pub row_fails : (e : BuildError) → Fails b (property places ms (row_seen row)) e c → Fails a (properties places ms (map row_seen rows)) e c
   unfolding properties
   row_fails e s = fails_after here (fails_bind _ (fails_bind _ s))
 
-pub rows_end : (places : List ℕ) (ms : Members) (rows : List Row) (i : ℕ) (prefix : List Prop) (a b : Asked) → length rows ≤ i
+pub rows_end : (places : List ℕ) (ms : Members) (rows : List Row) (i : ℕ) (prefix : List NamedValue) (a b : Asked) → length rows ≤ i
     → Goes a (properties places ms (map row_seen rows)) (props_before prefix (properties places ms (map row_seen (drop i rows)))) b
     → Goes a (properties places ms (map row_seen rows)) (over prefix) b
 unfolding properties
 rows_end places ms rows i prefix a b h kept =
     let e : props_before prefix (properties places ms (map row_seen (drop i rows))) ≡ over prefix =
     ap (λ (rs : List Row). props_before prefix (properties places ms (map row_seen rs))) (drop_all i rows h) ∙ ap over (append-nil prefix) in
-    let P : Reads (List Prop) → Type 0 = λ r. Goes a (properties places ms (map row_seen rows)) r b in
+    let P : Reads (List NamedValue) → Type 0 = λ r. Goes a (properties places ms (map row_seen rows)) r b in
     subst P e kept
 
 pub property_given : {X : Type 0} (seen : X → Prop) (places : List ℕ) (ms : Members) (row : table.Row) (d : Data) (a b : Asked) (r : Result X BuildError) → get_member row.name ms ≡ Some d
@@ -106,7 +107,7 @@ pub missing_fails : (places : List ℕ) (ms : Members) (rows : List table.Row) (
 unfolding own_properties
 missing_fails places ms rows name a h k = rw (h, k) (fails_refuse a _)
 
-pub own_gives : {X : Type 0} (seen : X → List Prop) (places : List ℕ) (ms : Members) (rows : List table.Row) (a b : Asked) (r : Result X BuildError) → unknown rows ms ≡ None → missing ms rows ≡ None
+pub own_gives : {X : Type 0} (seen : X → List NamedValue) (places : List ℕ) (ms : Members) (rows : List table.Row) (a b : Asked) (r : Result X BuildError) → unknown rows ms ≡ None → missing ms rows ≡ None
     → Gives seen a (properties places ms rows) r b → Gives seen a (own_properties places ms rows) r b
 unfolding own_properties
 own_gives seen places ms rows a b r h k g = rw (h, k) g

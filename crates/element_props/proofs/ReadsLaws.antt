@@ -1,10 +1,11 @@
 -- Readings one after another.
 use Rattle.std.proofs.lemmas.List.{append-nil, drop_all, take_all, map-append}
-use Rattle.std.proofs.Common.{◌≡◌, ℕ, ◌+◌, ◌<◌, ◌≤◌, List, [], ◌∷◌, ◌++◌, Option, Some, None, Result, Ok, Err, refl, sym, ap, ◌∙◌, arith, append_assoc, true, false, Bool, ◌||◌, inl, inr, length, get_or, drop, take, map, Bor, OnOk, ◌⊎◌, add-one, drop-cons, subst, option_and_then, codes}
+use Rattle.std.proofs.Common.{◌≡◌, ℕ, ◌+◌, ◌<◌, ◌≤◌, List, [], ◌∷◌, ◌++◌, Option, Some, None, Result, Ok, Err, refl, sym, ap, ◌∙◌, arith, append_assoc, true, false, Bool, ◌||◌, inl, inr, length, get_or, drop, take, map, Bor, OnOk, ◌⊎◌, add-one, drop-cons, subst, option_and_then}
 use Rattle.std.proofs.Math.Seq.{take-suc}
 use Rattle.std.specs.Option.{option_map}
 use Rattle.jm_base.specs.Counts.{Rose}
 use Rattle.plan_json.specs.Place.{Place}
+use Rattle.element_props.specs.declared.choices.TestKind.TheVariants as kinds
 use Rattle.element_props.specs.declared.error.BuildError.{BuildError}
 use Rattle.element_props.specs.declared.error.BuildError.TheVariants as errors
 use Rattle.element_props.specs.declared.error.PatternFault.TheVariants.{Reference, Syntax, Size}
@@ -265,7 +266,7 @@ unfolding tests_given
 no_tests place ms d a e = rw e (fails_refuse a _)
 
 pub some_tests : (place : Place) (ms : Members) (d : Data) (a b : Asked) (regex fully : Bool) (ss texts : List (List ℕ)) (r : Result Prop BuildError)
-    → regex ≡ is_test (codes "contains") ms → fully ≡ is_test (codes "matches") ms → texts ≡ ss → option_and_then (few_of 64 as_str) (as_array d) ≡ Some ss
+    → regex ≡ is_test kinds.Contains ms → fully ≡ is_test kinds.Matches ms → texts ≡ ss → option_and_then (few_of 64 as_str) (as_array d) ≡ Some ss
     → Gives (λ p. p) a (tests_checked place regex fully texts) r b → Gives (λ p. p) a (tests_given place ms d) r b
 unfolding tests_given
 some_tests place ms d a b regex fully ss texts r p q t e g = rw e (rw (← p, ← q, ← t) g)

@@ -1,13 +1,15 @@
 -- What a reading gives where every pattern is taken as good.
-use Rattle.std.proofs.Common.{◌≡◌, ℕ, Bool, true, false, ◌||◌, List, [], ◌∷◌, Option, Some, None, Ok, option_and_then, refl, sym, ◌∙◌, if◌then◌else◌, codes}
+use Rattle.std.proofs.Common.{◌≡◌, ℕ, Bool, true, false, ◌||◌, List, [], ◌∷◌, Option, Some, None, Ok, option_and_then, refl, sym, ◌∙◌, if◌then◌else◌}
 use Rattle.serde_json.specs.Data.{Data, Members}
 use Rattle.serde_json.specs.Find.{get_member, as_str, as_array}
 use Rattle.plan_json.specs.Place.{Place}
+use Rattle.element_props.specs.declared.choices.TestKind.TheVariants as kinds
 use Rattle.element_props.specs.declared.error.BuildError.{BuildError}
 use Rattle.element_props.specs.declared.error.BuildError.TheVariants as errors
 use Rattle.element_props.specs.declared.prop.Prop.{Prop}
 use Rattle.element_props.specs.declared.prop.Prop.TheVariants as props
 use Rattle.element_props.specs.declared.prop.Pair.{Pair}
+use Rattle.element_props.specs.Named.{NamedValue, ◌holds◌}
 use Rattle.element_props.specs.Conditions.{bad_condition}
 use Rattle.element_props.specs.FormRows.{Row, Form, Presence, pattern, test_patterns}
 use Rattle.element_props.specs.Reads.{Reads, over, refuse, ask, ◌>>=◌, refuse_if, or_refuse, outcome}
@@ -116,7 +118,7 @@ tests_okay place regex fully ss = tests_at place (regex || fully) fully ss
 
 abbrev pub formed : Form → Members → Data → Option Prop
 formed pattern ms d = option_and_then (λ (s : List ℕ). pattern_taken (has_reference s) s) (as_str d)
-formed test_patterns ms d = option_and_then (tests_taken (is_test (codes "contains") ms) (is_test (codes "matches") ms)) (option_and_then (few_of 64 as_str) (as_array d))
+formed test_patterns ms d = option_and_then (tests_taken (is_test kinds.Contains ms) (is_test kinds.Matches ms)) (option_and_then (few_of 64 as_str) (as_array d))
 formed form ms d = option_and_then checked (value_of form ms d)
 
 -- what a value is under a form
@@ -133,7 +135,7 @@ unfolding tests_given
 formed_okay pattern ms place d = okay_bind (or_refuse (as_str d) (errors.BadProp place)) _ (as_str d) _ (or_refuse_okay (as_str d) _) (λ s. pattern_okay place s (has_reference s))
 formed_okay test_patterns ms place d =
     let o = option_and_then (few_of 64 as_str) (as_array d) in
-    okay_bind (or_refuse o (errors.BadProp place)) _ o _ (or_refuse_okay o _) (tests_okay place (is_test (codes "contains") ms) (is_test (codes "matches") ms))
+    okay_bind (or_refuse o (errors.BadProp place)) _ o _ (or_refuse_okay o _) (tests_okay place (is_test kinds.Contains ms) (is_test kinds.Matches ms))
 formed_okay form ms place d = okay_bind (or_refuse (value_of form ms d) (errors.BadProp place)) (finished place) (value_of form ms d) checked (or_refuse_okay (value_of form ms d) _) (finished_okay place)
 
 refuse_if_okay : {A : Type 0} (b : Bool) (e : BuildError) (f : Unit {0} → Reads A) (o : Option A) → okay (f tt) ≡ o → okay (refuse_if b e >>= f) ≡ (if b then None else o)
@@ -153,9 +155,9 @@ value_from form presence ms (Some d) = taken form ms d
 abbrev pub value_here : Members → Row → Option Prop
 value_here ms row = value_from row.form row.presence ms (get_member row.name ms)
 
-abbrev pub values : Members → List Row → Option (List Prop)
+abbrev pub values : Members → List Row → Option (List NamedValue)
 values ms [] = Some []
-values ms (row ∷ rows) = option_and_then (λ p. option_and_then (λ ps. Some (p ∷ ps)) (values ms rows)) (value_here ms row)
+values ms (row ∷ rows) = option_and_then (λ p. option_and_then (λ ps. Some ((row.name holds p) ∷ ps)) (values ms rows)) (value_here ms row)
 
 property_okay : (places : List ℕ) (ms : Members) (row : Row) (o : Option Data) → okay (property_of places ms row o) ≡ value_from row.form row.presence ms o
 property_okay places ms row None = refl
@@ -165,27 +167,27 @@ properties_okay : (places : List ℕ) (ms : Members) (rows : List Row) → okay 
 unfolding properties property
 properties_okay places ms [] = refl
 properties_okay places ms (row ∷ rows) =
-    okay_bind (property places ms row) _ (value_here ms row) (λ p. option_and_then (λ ps. Some (p ∷ ps)) (values ms rows)) (property_okay places ms row (get_member row.name ms))
-    (λ p. okay_bind (properties places ms rows) (λ ps. over (p ∷ ps)) (values ms rows) (λ ps. Some (p ∷ ps)) (properties_okay places ms rows) (λ ps. refl))
+    okay_bind (property places ms row) _ (value_here ms row) (λ p. option_and_then (λ ps. Some ((row.name holds p) ∷ ps)) (values ms rows)) (property_okay places ms row (get_member row.name ms))
+    (λ p. okay_bind (properties places ms rows) (λ ps. over ((row.name holds p) ∷ ps)) (values ms rows) (λ ps. Some ((row.name holds p) ∷ ps)) (properties_okay places ms rows) (λ ps. refl))
 
 -- what an element's properties are read as
-pub record Taken (ms : Members) (rows : List Row) (ps : List Prop) : Type 0 where
+pub record Taken (ms : Members) (rows : List Row) (ps : List NamedValue) : Type 0 where
   pub known : unknown rows ms ≡ None
   pub there : missing ms rows ≡ None
   pub read : values ms rows ≡ Some ps
 
-own_of : (places : List ℕ) (f g : Place → BuildError) (o p : Option (List ℕ)) (r : Reads (List Prop)) (v : Option (List Prop)) (ps : List Prop) → okay r ≡ v
+own_of : (places : List ℕ) (f g : Place → BuildError) (o p : Option (List ℕ)) (r : Reads (List NamedValue)) (v : Option (List NamedValue)) (ps : List NamedValue) → okay r ≡ v
     → okay (no_name f places o >>= (λ t. no_name g places p >>= (λ u. r))) ≡ Some ps → (o ≡ None) × (p ≡ None) × (v ≡ Some ps)
 own_of places f g None None r v ps is h = (refl, refl, sym is ∙ h)
 own_of places f g None (Some n) r v ps is h = cc
 own_of places f g (Some n) p r v ps is h = cc
 
-pub taken_from : (places : List ℕ) (ms : Members) (rows : List Row) (ps : List Prop) → outcome (own_properties places ms rows) ≡ Ok ps → Taken ms rows ps
+pub taken_from : (places : List ℕ) (ms : Members) (rows : List Row) (ps : List NamedValue) → outcome (own_properties places ms rows) ≡ Ok ps → Taken ms rows ps
 unfolding own_properties
 taken_from places ms rows ps h =
     let parts = own_of places errors.BadProp errors.MissingProp (unknown rows ms) (missing ms rows) (properties places ms rows) (values ms rows) ps (properties_okay places ms rows) (okay_from (own_properties places ms rows) ps h) in
     record { known = parts.0; there = parts.1; read = parts.2 }
 
-pub taken_to : (places : List ℕ) (ms : Members) (rows : List Row) (ps : List Prop) → Taken ms rows ps → outcome (own_properties places ms rows) ≡ Ok ps
+pub taken_to : (places : List ℕ) (ms : Members) (rows : List Row) (ps : List NamedValue) → Taken ms rows ps → outcome (own_properties places ms rows) ≡ Ok ps
 unfolding own_properties
 taken_to places ms rows ps t = rw (t.known, t.there) (okay_to (properties places ms rows) ps (properties_okay places ms rows ∙ t.read))

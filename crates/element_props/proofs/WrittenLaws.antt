@@ -9,9 +9,9 @@ use Rattle.serde_json.proofs.Views.{Entry, members_view-insert_entry}
 use Rattle.element_props.specs.declared.prop.Pair.{Pair}
 use Rattle.element_props.specs.Written.{items_by, no_pair, written}
 use Rattle.element_props.specs.declared.rows.Row.{Row}
-use Rattle.element_props.specs.declared.written.Shown.{Shown}
+use Rattle.element_props.specs.declared.written.NamedShown.{NamedShown}
 use Rattle.element_props.specs.Seen.{row_seen}
-use Rattle.element_props.specs.Shown.{shown_seen}
+use Rattle.element_props.specs.Shown.{named_shown_seen}
 
 -- one list after another
 abbrev pub joined : Items → Items → Items
@@ -45,8 +45,8 @@ no_pair_empty [] = refl
 no_pair_empty (p ∷ ps) = not_zero (length ps)
 
 -- where one of the lists has come to its end, there is nothing to write
-pub written_none : (rows : List Row) (vs : List Shown) (n : ℕ) → n ≡ min (length rows) (length vs) → written (map row_seen (drop n rows)) (map shown_seen (drop n vs)) ≡ no_members
-written_none [] vs n is = let over : drop n [] ≡ [] = drop_all {X = Row} n [] (omega arith) in ap (λ (rs : List Row). written (map row_seen rs) (map shown_seen (drop n vs))) over
+pub written_none : (rows : List Row) (vs : List NamedShown) (n : ℕ) → n ≡ min (length rows) (length vs) → written (map row_seen (drop n rows)) (map named_shown_seen (drop n vs)) ≡ no_members
+written_none [] vs n is = let over : drop n [] ≡ [] = drop_all {X = Row} n [] (omega arith) in ap (λ (rs : List Row). written (map row_seen rs) (map named_shown_seen (drop n vs))) over
 written_none (r ∷ rows) [] n is = let none : n ≡ 0 = omega (arith, is) in rw none refl
 written_none (r ∷ rows) (v ∷ vs) zero is = absurd (omega (arith, is))
 written_none (r ∷ rows) (v ∷ vs) (suc n) is = written_none rows vs n (omega (arith, is))

@@ -1,10 +1,11 @@
 -- When what is written of an element's properties is read again as the same properties.
-use Rattle.std.specs.Prelude.{◌≡◌, ℕ, ◌<◌, ◌^◌, pos, Bool, true, not, ◌&&◌, List, [], ◌∷◌, Option, Some, None, Ok, if◌then◌else◌, bytes_eq, int_le, codes, IsUtf8, FitsSigned}
+use Rattle.std.specs.Prelude.{◌≡◌, ℕ, ◌<◌, ◌^◌, pos, Bool, true, not, ◌&&◌, List, [], ◌∷◌, Option, Some, None, Ok, if◌then◌else◌, bytes_eq, int_le, map, codes, IsUtf8, FitsSigned}
 use Rattle.std.specs.Int.{w64}
 use Rattle.std.specs.List.{AllByRecursion}
 use Rattle.serde_json.specs.Data.{Num, unsigned, negative, float, Data, null, boolean, number, string, array, object, Items, no_items, item, Members, no_members, member}
-use Rattle.element_props.specs.declared.prop.Prop.{Prop}
-use Rattle.element_props.specs.FormRows.{Row, Form, whole, up_to, csv, texts, test_patterns, choice, tests, number_default, required, largest, ◌is◌otherwise◌}
+use Rattle.element_props.specs.Named.{NamedValue}
+use Rattle.element_props.specs.Choices.{test_word, tests}
+use Rattle.element_props.specs.FormRows.{Row, Form, whole, up_to, csv, texts, test_patterns, choice, number_default, required, largest, ◌is◌otherwise◌}
 use Rattle.element_props.specs.Props.{has_row, own_properties}
 use Rattle.element_props.specs.Reads.{outcome}
 use Rattle.element_props.specs.Written.{written}
@@ -47,7 +48,7 @@ abbrev pub Stands : List Row → Form → Type 0
 Stands rows (whole low high) = int_le high largest ≡ true
 Stands rows (up_to name) = row_named name rows ≡ Some (name is whole (pos 0) largest otherwise number_default largest)
 Stands rows (csv names) = row_named names rows ≡ Some (names is texts otherwise required)
-Stands rows test_patterns = row_named (codes "test") rows ≡ Some (codes "test" is choice tests otherwise required)
+Stands rows test_patterns = row_named (codes "test") rows ≡ Some (codes "test" is choice (map test_word tests) otherwise required)
 Stands rows form = Unit {0}
 
 -- rows of a table
@@ -57,5 +58,5 @@ pub record AreRows (rows : List Row) : Type 0 where
 
 -- What is written of properties that were read is read again as these properties, wherever the element stands.
 abbrev pub ReadsAgain : Type 0
-ReadsAgain = (rows : List Row) (ms : Members) (ps : List Prop) (places other : List ℕ) → AreRows rows → HoldJson ms
+ReadsAgain = (rows : List Row) (ms : Members) (ps : List NamedValue) (places other : List ℕ) → AreRows rows → HoldJson ms
     → outcome (own_properties places ms rows) ≡ Ok ps → outcome (own_properties other (written rows ps) rows) ≡ Ok ps

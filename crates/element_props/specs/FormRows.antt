@@ -1,5 +1,5 @@
 -- The rows of a type's table: each of its properties, with the form of its value and what stands for it where it is absent.
-use Rattle.std.specs.Prelude.{ℕ, ◌-◌, ◌^◌, ℤ, pos, Bool, true, ◌&&◌, nat_le, length, List, [], ◌∷◌, codes}
+use Rattle.std.specs.Prelude.{ℕ, ◌-◌, ◌^◌, ℤ, pos, Bool, true, ◌&&◌, nat_le, length, List, [], ◌∷◌, slice_get, unwrap_or}
 
 -- the form of a property's value
 pub data Form : Type 0 where
@@ -50,25 +50,10 @@ abbrev pub are_short : List Row → Bool
 are_short [] = true
 are_short (row ∷ rows) = is_short row.presence && are_short rows
 
--- ---- lists of texts, of which a property's value is one
+-- the texts of a choice, and the first of them
+abbrev pub words_of : Form → List (List ℕ)
+words_of (choice words) = words
+words_of form = []
 
-abbrev pub on_errors : List (List ℕ)
-on_errors = codes "continue" ∷ codes "nextLoop" ∷ codes "stopThread" ∷ codes "stopTest" ∷ []
-
-abbrev pub methods : List (List ℕ)
-methods = codes "GET" ∷ codes "POST" ∷ codes "PUT" ∷ codes "DELETE" ∷ codes "HEAD" ∷ []
-
-abbrev pub at_ends : List (List ℕ)
-at_ends = codes "recycle" ∷ codes "stop" ∷ codes "eof" ∷ []
-
-abbrev pub shares : List (List ℕ)
-shares = codes "thread" ∷ []
-
-abbrev pub fields : List (List ℕ)
-fields = codes "body" ∷ codes "headers" ∷ codes "code" ∷ codes "message" ∷ []
-
-abbrev pub tests : List (List ℕ)
-tests = codes "contains" ∷ codes "matches" ∷ codes "equals" ∷ codes "substring" ∷ []
-
-abbrev pub comparisons : List (List ℕ)
-comparisons = codes "=" ∷ codes "!=" ∷ codes ">" ∷ codes "<" ∷ codes ">=" ∷ codes "<=" ∷ []
+abbrev pub first_word : Form → List ℕ
+first_word form = unwrap_or (slice_get (words_of form) 0) []

@@ -1,11 +1,14 @@
 -- What a JSON value is under the form of a property, and what of it must be refused.
-use Rattle.std.specs.Prelude.{ℕ, ◌≤◌, ◌==◌, ℤ, pos, Bool, true, false, ◌&&◌, ◌||◌, List, [], ◌∷◌, ◌++◌, map, Option, Some, None, if◌then◌else◌, nat_lt, nat_le, length, unwrap_or, option_map, option_and_then, codes, decimal, bytes_eq, int_le, position}
+use Rattle.std.specs.Prelude.{ℕ, ◌≤◌, ◌==◌, ℤ, pos, Bool, true, false, ◌&&◌, ◌||◌, List, [], ◌∷◌, ◌++◌, map, Option, Some, None, if◌then◌else◌, nat_lt, nat_le, length, unwrap_or, option_map, option_and_then, codes, decimal, bytes_eq, int_le}
 use Rattle.std.specs.Fmt.{signed_decimal}
 use Rattle.std.specs.Option.{option_map_or}
 use Rattle.serde_json.specs.Data.{Num, unsigned, negative, float, Data, null, boolean, number, string, array, object, Items, no_items, item, Members, no_members, member}
 use Rattle.serde_json.specs.Find.{get_member, as_str, as_bool, as_array, as_number, as_i64}
 use Rattle.template_text.specs.Pieces.{Pieces}
 use Rattle.template_text.specs.Scan.{reading}
+use Rattle.element_props.specs.declared.choices.TestKind.{TestKind}
+use Rattle.element_props.specs.declared.choices.TestKind.TheVariants as kinds
+use Rattle.element_props.specs.Choices.{word_in, test_word}
 use Rattle.element_props.specs.Conditions.{first_of, bad_condition, plain_bytes}
 use Rattle.serde_json.specs.Events.{items_len}
 use Rattle.json_path.specs.Machine.{path_of}
@@ -65,10 +68,6 @@ within low high z = if int_le low z && int_le z high then Some z else None
 abbrev pub whole_within : ℤ → ℤ → Data → Option ℤ
 whole_within low high d = option_and_then (within low high) (option_and_then as_i64 (as_number d))
 
--- the place of a text in a list
-abbrev pub place_in : List (List ℕ) → List ℕ → Option ℕ
-place_in words s = position (λ w. bytes_eq w s) words
-
 -- a list of a text and a value, and nothing else
 abbrev pub pair_from : Data → Data → Option Pair
 pair_from n d = option_and_then (λ (name : List ℕ). option_map (λ (t : List ℕ). record { name = name; value = reading t }) (template_text d)) (as_str n)
@@ -123,7 +122,7 @@ value_of lock ms d = option_map props.Text (option_and_then filled_text (as_str 
 value_of (whole low high) ms d = option_map props.Number (whole_within low high d)
 value_of (up_to name) ms d = option_map props.Number (whole_within (pos 0) (up_to_bound name ms) d)
 value_of flag ms d = option_map props.Truth (as_bool d)
-value_of (choice words) ms d = option_map props.Choice (option_and_then (place_in words) (as_str d))
+value_of (choice words) ms d = option_map props.Word (option_and_then (word_in words) (as_str d))
 value_of pattern ms d = option_map props.Text (as_str d)
 value_of test_patterns ms d = option_map props.Texts (option_and_then (few_of 64 as_str) (as_array d))
 value_of pairs ms d = option_map props.Pairs (option_and_then (all_of pair_in) (as_array d))
@@ -184,9 +183,9 @@ unfoldable pub each_asked : Place → Bool → List (List ℕ) → Reads (Unit {
 each_asked place fully [] = over tt
 each_asked place fully (s ∷ ss) = one_asked place fully s >>= (λ t. each_asked place fully ss)
 
--- whether the property `test` is this word
-abbrev pub is_test : List ℕ → Members → Bool
-is_test word ms = option_map_or (λ (s : List ℕ). bytes_eq s word) (option_and_then as_str (get_member (codes "test") ms)) false
+-- whether the property `test` is the text of this kind
+abbrev pub is_test : TestKind → Members → Bool
+is_test kind ms = option_map_or (λ (s : List ℕ). bytes_eq s (test_word kind)) (option_and_then as_str (get_member (codes "test") ms)) false
 
 abbrev pub whole_of : Bool → List (List ℕ) → List (List ℕ)
 whole_of true ss = map around ss
@@ -205,7 +204,7 @@ tests_checked place regex fully ss =
 unfoldable pub tests_given : Place → Members → Data → Reads Prop
 tests_given place ms d =
     or_refuse (option_and_then (few_of 64 as_str) (as_array d)) (BadProp place)
-    >>= (λ ss. tests_checked place (is_test (codes "contains") ms) (is_test (codes "matches") ms) ss)
+    >>= (λ ss. tests_checked place (is_test kinds.Contains ms) (is_test kinds.Matches ms) ss)
 
 abbrev pub is_pattern : Form → Bool
 is_pattern pattern = true

@@ -1,9 +1,11 @@
+pub mod Choices
 pub mod Conditions
 pub mod PieceViews
 pub mod Patterns
 pub mod FormRows
 pub mod Seen
 pub mod Makers
+pub mod Named
 pub mod Reads
 pub mod Answers
 pub mod Replies

@@ -7,7 +7,8 @@ use Rattle.element_props.specs.declared.error.BuildError.{BuildError}
 use Rattle.element_props.specs.declared.error.BuildError.TheVariants.{BadProp, MissingProp}
 use Rattle.element_props.specs.declared.prop.Prop.{Prop}
 use Rattle.element_props.specs.declared.prop.Prop.TheVariants as props
-use Rattle.element_props.specs.FormRows.{Form, template, Presence, required, optional, text_default, number_default, truth_default, first_choice, no_pairs, Row}
+use Rattle.element_props.specs.FormRows.{Form, template, Presence, required, optional, text_default, number_default, truth_default, first_choice, no_pairs, Row, first_word}
+use Rattle.element_props.specs.Named.{NamedValue, ◌holds◌}
 use Rattle.template_text.specs.Scan.{reading}
 use Rattle.element_props.specs.Reads.{Reads, over, refuse, ◌>>=◌}
 use Rattle.element_props.specs.Forms.{given}
@@ -26,7 +27,7 @@ absent_value form optional = props.Absent
 absent_value form (text_default s) = if is_template form then props.Template (reading s) else props.Text s
 absent_value form (number_default n) = props.Number n
 absent_value form (truth_default b) = props.Truth b
-absent_value form first_choice = props.Choice 0
+absent_value form first_choice = props.Word (first_word form)
 absent_value form no_pairs = props.Pairs []
 
 abbrev pub property_of : List ℕ → Members → Row → Option Data → Reads Prop
@@ -36,10 +37,10 @@ property_of places ms row (Some d) = given row.form ms (prop_at places row.name)
 unfoldable pub property : List ℕ → Members → Row → Reads Prop
 property places ms row = property_of places ms row (get_member row.name ms)
 
--- the properties of these rows, in their order
-unfoldable pub properties : List ℕ → Members → List Row → Reads (List Prop)
+-- the properties of these rows, in their order, each by the name of its row
+unfoldable pub properties : List ℕ → Members → List Row → Reads (List NamedValue)
 properties places ms [] = over []
-properties places ms (row ∷ rows) = property places ms row >>= (λ p. properties places ms rows >>= (λ ps. over (p ∷ ps)))
+properties places ms (row ∷ rows) = property places ms row >>= (λ p. properties places ms rows >>= (λ ps. over ((row.name holds p) ∷ ps)))
 
 abbrev pub has_row : List ℕ → List Row → Bool
 has_row name [] = false
@@ -64,7 +65,7 @@ no_name fault places None = over tt
 no_name fault places (Some name) = refuse (fault (prop_at places name))
 
 -- the properties of an element: none that the type doesn't have, then none missing, then each in byte order
-unfoldable pub own_properties : List ℕ → Members → List Row → Reads (List Prop)
+unfoldable pub own_properties : List ℕ → Members → List Row → Reads (List NamedValue)
 own_properties places ms rows =
     no_name BadProp places (unknown rows ms)
     >>= (λ _. no_name MissingProp places (missing ms rows)

@@ -1,5 +1,5 @@
 -- What contracts see of a row of the code's rows.
-use Rattle.std.specs.Prelude.{ℕ, List}
+use Rattle.std.specs.Prelude.{ℕ, List, map}
 use Rattle.element_props.specs.declared.rows.Row.{Row}
 use Rattle.element_props.specs.declared.rows.Form.{Form}
 use Rattle.element_props.specs.declared.rows.Form.TheVariants as forms
@@ -7,16 +7,17 @@ use Rattle.element_props.specs.declared.rows.Presence.{Presence}
 use Rattle.element_props.specs.declared.rows.Presence.TheVariants as presences
 use Rattle.element_props.specs.declared.rows.Words.{Words}
 use Rattle.element_props.specs.declared.rows.Words.TheVariants as words
+use Rattle.element_props.specs.Choices.{on_error_word, on_errors, method_word, methods, at_end_word, at_ends, share_word, shares, field_word, fields, test_word, tests, comparison_word, comparisons}
 use Rattle.element_props.specs.FormRows as rows
 
 abbrev pub words_seen : Words → List (List ℕ)
-words_seen words.OnError = rows.on_errors
-words_seen words.Method = rows.methods
-words_seen words.AtEnd = rows.at_ends
-words_seen words.Share = rows.shares
-words_seen words.Field = rows.fields
-words_seen words.Test = rows.tests
-words_seen words.Comparison = rows.comparisons
+words_seen words.OnError = map on_error_word on_errors
+words_seen words.Method = map method_word methods
+words_seen words.AtEnd = map at_end_word at_ends
+words_seen words.Share = map share_word shares
+words_seen words.Field = map field_word fields
+words_seen words.Test = map test_word tests
+words_seen words.Comparison = map comparison_word comparisons
 
 abbrev pub form_seen : Form → rows.Form
 form_seen forms.Template = rows.template

@@ -1,14 +1,15 @@
 -- The properties of an element as they are written: those that are not what stands for them when absent, in the order of their rows.
-use Rattle.std.specs.Prelude.{ℕ, ℤ, pos, negsuc, Bool, true, false, not, List, [], ◌∷◌, Option, Some, None, if◌then◌else◌, nat_eq, bytes_eq, slice_get, unwrap_or, codes}
+use Rattle.std.specs.Prelude.{ℕ, ℤ, pos, negsuc, Bool, true, false, not, List, [], ◌∷◌, Option, Some, None, if◌then◌else◌, nat_eq, bytes_eq, codes}
 use Rattle.std.specs.Str.Lossy.{utf8_lossy}
 use Rattle.jm_base.specs.declared.types.ScriptReply.{ScriptReply}
 use Rattle.serde_json.specs.Data.{Data, null, boolean, number, unsigned, string, array, object, Items, no_items, item, Members, no_members, put}
 use Rattle.serde_json.specs.Find.{of_integer}
 use Rattle.template_text.specs.Pieces.{spelling}
 use Rattle.element_props.specs.declared.prop.Prop.{Prop}
-use Rattle.element_props.specs.declared.prop.Prop.TheVariants.{Absent, Template, Text, Number, Truth, Choice, Pattern, Pairs, Replies, Texts, Patterns}
+use Rattle.element_props.specs.declared.prop.Prop.TheVariants.{Absent, Template, Text, Number, Truth, Word, Pattern, Pairs, Replies, Texts, Patterns}
 use Rattle.element_props.specs.declared.prop.Pair.{Pair}
-use Rattle.element_props.specs.FormRows.{Form, choice, Presence, required, optional, text_default, number_default, truth_default, first_choice, no_pairs, Row}
+use Rattle.element_props.specs.Named.{NamedValue}
+use Rattle.element_props.specs.FormRows.{Form, Presence, required, optional, text_default, number_default, truth_default, first_choice, no_pairs, Row, first_word}
 
 -- A text as JSON, which is UTF-8: the text itself where it is UTF-8, and else with U+FFFD for each sequence that isn't.
 abbrev pub text_data : List ℕ → Data
@@ -50,23 +51,19 @@ abbrev pub items_by : {A : Type 0} → (A → Data) → List A → Items
 items_by f [] = no_items
 items_by f (x ∷ xs) = item (f x) (items_by f xs)
 
-abbrev pub words_of : Form → List (List ℕ)
-words_of (choice words) = words
-words_of form = []
-
--- a property's value as JSON, a template as its spelling, and a choice as its word
-abbrev pub value_data : Form → Prop → Data
-value_data form Absent = null
-value_data form (Template ps) = text_data (spelling ps)
-value_data form (Text s) = text_data s
-value_data form (Number z) = number (of_integer z)
-value_data form (Truth b) = boolean b
-value_data form (Choice n) = string (unwrap_or (slice_get (words_of form) n) [])
-value_data form (Pattern s) = text_data s
-value_data form (Pairs ps) = array (items_by pair_data ps)
-value_data form (Replies rs) = array (items_by reply_data rs)
-value_data form (Texts ss) = array (items_by text_data ss)
-value_data form (Patterns ss regexes whole) = array (items_by text_data ss)
+-- a property's value as JSON, a template as its spelling, and a choice as its text
+abbrev pub value_data : Prop → Data
+value_data Absent = null
+value_data (Template ps) = text_data (spelling ps)
+value_data (Text s) = text_data s
+value_data (Number z) = number (of_integer z)
+value_data (Truth b) = boolean b
+value_data (Word w) = string w
+value_data (Pattern s) = text_data s
+value_data (Pairs ps) = array (items_by pair_data ps)
+value_data (Replies rs) = array (items_by reply_data rs)
+value_data (Texts ss) = array (items_by text_data ss)
+value_data (Patterns ss regexes whole) = array (items_by text_data ss)
 
 abbrev pub int_eq : ℤ → ℤ → Bool
 int_eq (pos m) (pos n) = nat_eq m n
@@ -93,9 +90,9 @@ abbrev pub is_truth : Bool → Prop → Bool
 is_truth b (Truth c) = same_truth c b
 is_truth b p = false
 
-abbrev pub is_first : Prop → Bool
-is_first (Choice n) = nat_eq n 0
-is_first p = false
+abbrev pub is_first : Form → Prop → Bool
+is_first form (Word w) = bytes_eq w (first_word form)
+is_first form p = false
 
 abbrev pub is_no_pairs : Prop → Bool
 is_no_pairs (Pairs ps) = no_pair ps
@@ -105,21 +102,21 @@ abbrev pub is_nothing : Prop → Bool
 is_nothing Absent = true
 is_nothing p = false
 
-abbrev pub is_default : Presence → Prop → Bool
-is_default required p = false
-is_default optional p = is_nothing p
-is_default (text_default s) p = is_text s p
-is_default (number_default n) p = is_number n p
-is_default (truth_default b) p = is_truth b p
-is_default first_choice p = is_first p
-is_default no_pairs p = is_no_pairs p
+abbrev pub is_default : Form → Presence → Prop → Bool
+is_default form required p = false
+is_default form optional p = is_nothing p
+is_default form (text_default s) p = is_text s p
+is_default form (number_default n) p = is_number n p
+is_default form (truth_default b) p = is_truth b p
+is_default form first_choice p = is_first form p
+is_default form no_pairs p = is_no_pairs p
 
 -- what is written of a property
 abbrev pub entry : Row → Prop → Option Data
-entry row p = unless (is_default row.presence p) (value_data row.form p)
+entry row p = unless (is_default row.form row.presence p) (value_data p)
 
--- exactly the properties whose value differs from its default
-abbrev pub written : List Row → List Prop → Members
+-- exactly the properties whose value differs from its default, each under its name
+abbrev pub written : List Row → List NamedValue → Members
 written [] ps = no_members
 written (row ∷ rows) [] = no_members
-written (row ∷ rows) (p ∷ ps) = with_entry row.name (entry row p) (written rows ps)
+written (row ∷ rows) (p ∷ ps) = with_entry p.name (entry row p.value) (written rows ps)

@@ -10,6 +10,8 @@ ghost use Rattle.element_props.specs.Reads.{Gives, over, ask};
 ghost use Rattle.element_props.specs.Forms.{pattern_asked, pattern_checked, around, around_asked, one_asked, regexes_checked, tests_checked, tests_given, whole_of, has_reference, is_test};
 ghost use Rattle.element_props.specs.Props.{prop_at};
 
+use crate::choice::Choice;
+use crate::choices::TestKind;
 use crate::error::{BuildError, PatternFault};
 use crate::forms::{copies, has_reference, strings_in};
 use crate::patterns::{MakeError, Pattern, Patterns};
@@ -218,12 +220,12 @@ fn tests_prop<G: Patterns>(
     Ok(prop)
 }
 
-/// Whether the property `test` is this word.
-fn is_test(props: &Value, word: &str) -> bool
-    ensures { result ≡ is_test word.now (members_in (view props.now)) }
+/// Whether the property `test` is the text of this kind.
+fn is_test(props: &Value, test: TestKind) -> bool
+    ensures { result ≡ is_test test (members_in (view props.now)) }
 {
     match props.get("test") {
-        Some(value) => is_text(value, word),
+        Some(value) => is_text(value, test.word()),
         None => false,
     }
 }
@@ -252,8 +254,8 @@ pub(crate) fn tests_given<G: Patterns>(
     let strings = strings_in(alloc, value)?;
     match strings {
         Some(texts) => {
-            let regex = is_test(props, "contains");
-            let fully = is_test(props, "matches");
+            let regex = is_test(props, TestKind::Contains);
+            let fully = is_test(props, TestKind::Matches);
             tests_prop(alloc, places, name, &texts, regex, fully, patterns)
         }
         None => Err(BuildError::BadProp {

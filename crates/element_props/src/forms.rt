@@ -1,6 +1,6 @@
 // The forms of a property's value.
 
-ghost use Rattle.std.specs.Prelude.{◌≡◌, ◌≤◌, ◌<◌, length, nat_lt, nat_le, ℕ, IfOk, IfSome, false, ◌||◌, ◌&&◌, position, bytes_eq, map, option_map, option_and_then, decimal, pos, List};
+ghost use Rattle.std.specs.Prelude.{◌≡◌, ◌≤◌, ◌<◌, length, nat_lt, nat_le, ℕ, IfOk, IfSome, false, ◌||◌, ◌&&◌, map, option_map, option_and_then, decimal, pos, List};
 ghost use Rattle.std.specs.Option.{option_map_or};
 ghost use Rattle.std.specs.Fmt.{signed_decimal};
 ghost use Rattle.serde_json.specs.View.{view, items_view, members_view};
@@ -8,14 +8,15 @@ ghost use Rattle.serde_json.specs.Find.{as_str, as_array};
 ghost use Rattle.serde_json.specs.Data.{Data};
 ghost use Rattle.plan_json.specs.Shape.{members_in};
 ghost use Rattle.template_text.specs.Scan.{reading};
-ghost use Rattle.element_props.specs.Forms.{has_long, is_too_long, template_text, whole_within, place_in, value_of, all_of, few_of, path_text, table_text, list_len, has_reference, filled_text, up_to_bound, pair_in, pair_from, pair_items, pair_with, is_no_item, items_have_long, AreShort, IsShort};
+ghost use Rattle.element_props.specs.Forms.{has_long, is_too_long, template_text, whole_within, value_of, all_of, few_of, path_text, table_text, list_len, has_reference, filled_text, up_to_bound, pair_in, pair_from, pair_items, pair_with, is_no_item, items_have_long, AreShort, IsShort};
+ghost use Rattle.element_props.specs.Choices.{word_in};
 ghost use Rattle.element_props.specs.Conditions.{plain_bytes};
 ghost use Rattle.element_props.specs.Replies.{reply_in};
 ghost use Rattle.element_props.specs.Seen.{form_seen, words_seen};
 
-use crate::prop::{Pair, Prop};
+use crate::prop::{Pair, Prop, Word};
 use crate::replies::reply_in;
-use crate::rows::{Form, Words, texts};
+use crate::rows::{Form, Words, word_in};
 use crate::tables::is_table;
 use jm_base::{Items, M, NoMemory, ScriptReply, Text};
 use json_path::{PathError, parse_path};
@@ -100,7 +101,7 @@ pub fn value_of(alloc: Global, form: Form, props: &Value, value: &Value) -> M<Op
         Form::Whole(low, high) => Ok(whole_within(low, high, value).map(Prop::Number)),
         Form::UpTo(name) => Ok(whole_within(0, bound(props, name), value).map(Prop::Number)),
         Form::Flag => Ok(value.as_bool().map(Prop::Truth)),
-        Form::Choice(words) => Ok(chosen(words, value).map(Prop::Choice)),
+        Form::Choice(words) => Ok(chosen(words, value).map(Prop::Word)),
         Form::Pattern => Ok(plain_text(alloc, value)?.map(Prop::Text)),
         Form::TestPatterns => Ok(texts_in(alloc, value)?.map(Prop::Texts)),
         Form::Pairs => Ok(pairs(alloc, value)?.map(Prop::Pairs)),
@@ -199,18 +200,12 @@ fn bound(props: &Value, name: &str) -> i64
     }
 }
 
-/// Which of the texts the value is.
-pub fn chosen(words: Words, value: &Value) -> Option<usize>
-    ensures { result ≡ option_and_then (place_in (words_seen words)) (as_str (view value.now)) }
+/// The value, where it is one of the texts.
+fn chosen(words: Words, value: &Value) -> Option<Word>
+    ensures { result ≡ option_and_then (word_in (words_seen words)) (as_str (view value.now)) }
 {
     let text = value.as_str()?;
-    place_among(texts(words), text)
-}
-
-fn place_among(words: &[&str], text: &str) -> Option<usize>
-    ensures { result ≡ position (λ w. bytes_eq w.now text.now) words.now }
-{
-    words.iter().position(|word| *word == text)
+    word_in(words, text)
 }
 
 /// A list of pairs of a name and a value.

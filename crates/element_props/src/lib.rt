@@ -4,9 +4,12 @@
 
 mod again;
 mod asking;
+mod choice;
+mod choices;
 mod conditions;
 mod error;
 mod forms;
+mod named;
 mod patterns;
 mod place;
 mod prop;
@@ -18,12 +21,15 @@ mod tables;
 mod written;
 
 pub use again::written_is_read_again;
+pub use choice::{Choice, choice_of};
+pub use choices::{AtEnd, Comparison, Field, OnError, Share, TestKind};
 pub use conditions::bad_condition;
 pub use error::{BuildError, PatternFault, What};
+pub use named::NamedProp;
 pub use patterns::{MakeError, Pattern, Patterns};
 pub use place::prop_path;
-pub use prop::{Pair, Prop};
+pub use prop::{Pair, Prop, Word};
 pub use props::own_properties;
 pub use regex_patterns::RegexPatterns;
-pub use rows::{Form, Presence, Row, Words, texts};
-pub use written::{Shown, written_members};
+pub use rows::{Form, Presence, Row, Words, text_at};
+pub use written::{NamedShown, Shown, written_members};

@@ -1,7 +1,10 @@
 // The value of one property.
 
+ghost use Rattle.std.specs.Prelude.{◌≡◌};
+
 use crate::patterns::Pattern;
 use jm_base::{Items, ScriptReply, Text};
+use std::marker::Model;
 use template_text::Template;
 
 /// A name and its value.
@@ -9,6 +12,36 @@ use template_text::Template;
 pub struct Pair {
     pub name: Text,
     pub value: Template,
+}
+
+/// The text of a choice.
+#[derive(Drop)]
+pub struct Word {
+    text: &'static str,
+}
+
+impl Model for Word {
+    ghost use Rattle.std.specs.Prelude.{List, ℕ};
+
+    ghost Value = { List ℕ };
+
+    ghost view = { λ w. w.text.now };
+}
+
+impl Word {
+    /// The word that this text is.
+    pub fn of(text: &'static str) -> Word
+        ensures { result ≡ text.now }
+    {
+        Word { text }
+    }
+
+    /// The text.
+    pub fn text(&self) -> &'static str
+        ensures { result.now ≡ self.now }
+    {
+        self.text
+    }
 }
 
 /// The value of one property.
@@ -20,8 +53,8 @@ pub enum Prop {
     Text(Text),
     Number(i64),
     Truth(bool),
-    /// The place of the text in its list, counted from 0.
-    Choice(usize),
+    /// One of the texts of a choice.
+    Word(Word),
     Pattern(Pattern),
     Pairs(Items<Pair>),
     Replies(Items<ScriptReply>),

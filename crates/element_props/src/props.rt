@@ -20,10 +20,11 @@ use crate::asking::{pattern_prop, tests_given};
 use crate::conditions::bad_condition;
 use crate::error::{BuildError, What};
 use crate::forms::{is_too_long, value_of};
+use crate::named::NamedProp;
 use crate::patterns::Patterns;
 use crate::place::prop_path;
-use crate::prop::{Pair, Prop};
-use crate::rows::{Form, Presence, Row};
+use crate::prop::{Pair, Prop, Word};
+use crate::rows::{Form, Presence, Row, first_word};
 use jm_base::{Items, M, Text};
 use serde_json::Value;
 use std::alloc::Global;
@@ -91,7 +92,7 @@ fn finished(alloc: Global, places: &[u64], name: &str, prop: Prop) -> Result<Pro
         Prop::Text(text) => Ok(Prop::Text(text)),
         Prop::Number(n) => Ok(Prop::Number(n)),
         Prop::Truth(b) => Ok(Prop::Truth(b)),
-        Prop::Choice(n) => Ok(Prop::Choice(n)),
+        Prop::Word(word) => Ok(Prop::Word(word)),
         Prop::Pattern(pattern) => Ok(Prop::Pattern(pattern)),
         Prop::Replies(replies) => Ok(Prop::Replies(replies)),
         Prop::Texts(texts) => Ok(Prop::Texts(texts)),
@@ -190,7 +191,7 @@ fn absent(alloc: Global, row: &Row) -> M<Prop>
         }
         Presence::Number(n) => Ok(Prop::Number(n)),
         Presence::Truth(b) => Ok(Prop::Truth(b)),
-        Presence::First => Ok(Prop::Choice(0)),
+        Presence::First => Ok(Prop::Word(Word::of(first_word(row.form)))),
         Presence::NoPairs => Ok(Prop::Pairs(Items::of(Vec::new(alloc)))),
     }
 }
@@ -230,7 +231,7 @@ fn property<G: Patterns>(
     }
 }
 
-/// The properties of these rows, in their order.
+/// The properties of these rows, in their order, each by the name of its row.
 #[tactic(auto, using(crate::proofs::ReadsLaws::no_memory))]
 fn properties<G: Patterns>(
     alloc: Global,
@@ -238,13 +239,13 @@ fn properties<G: Patterns>(
     places: &[u64],
     props: &Value,
     patterns: &mut G,
-) -> Result<Vec<Prop>, BuildError>
+) -> Result<Vec<NamedProp>, BuildError>
     requires { are_short (map row_seen rows.now) ≡ true }
     ensures { Gives (λ v. v.items) (G.account patterns.old) (properties places.now (members_in (view props.now)) (map row_seen rows.now)) result (G.account patterns.new) }
 {
     let mut found = Vec::new(alloc);
     'rows: for row in rows {
-        found.push(property(alloc, row, places, props, patterns)?)?;
+        found.push(NamedProp::of(row.name, property(alloc, row, places, props, patterns)?))?;
     }
     Ok(found)
 }
@@ -307,7 +308,7 @@ fn read_own<G: Patterns>(
     places: &[u64],
     props: &Value,
     patterns: &mut G,
-) -> Result<Vec<Prop>, BuildError>
+) -> Result<Vec<NamedProp>, BuildError>
     requires { are_short (map row_seen rows.now) ≡ true }
     ensures { Gives (λ v. v.items) (G.account patterns.old) (own_properties places.now (members_in (view props.now)) (map row_seen rows.now)) result (G.account patterns.new) }
 {
@@ -324,8 +325,8 @@ fn read_own<G: Patterns>(
     properties(alloc, rows, places, props, patterns)
 }
 
-/// The properties of an element, under the rows of its type, which stand in byte order of their names: a value for each row, in
-/// the same order. The first of these faults is the answer, each with the path of its property: `BadProp` of the least property
+/// The properties of an element, under the rows of its type, which stand in byte order of their names: a value for each row,
+/// by its name, in the same order. The first of these faults is the answer, each with the path of its property: `BadProp` of the least property
 /// that has no row; `MissingProp` of the least required one that is absent; and then, property by property, `TooMany` where a
 /// text of the value, at any depth, has more than 65,536 bytes, or a lock more than 256, `BadProp` where the value doesn't have
 /// the form of its row, `BadPattern` where a pattern holds `${` or is not made, and `BadCond` where a condition can't be read.
@@ -335,7 +336,7 @@ pub fn own_properties<G: Patterns>(
     places: &[u64],
     props: &Value,
     patterns: &mut G,
-) -> Result<Vec<Prop>, BuildError>
+) -> Result<Vec<NamedProp>, BuildError>
     requires { are_short (map row_seen rows.now) ≡ true }
     // The whole answer: how far the reading came, and which patterns were asked for on the way.
     ensures gives { Gives (λ v. v.items) (G.account patterns.old) (own_properties places.now (members_in (view props.now)) (map row_seen rows.now)) result (G.account patterns.new) }

@@ -1,24 +1,31 @@
 // The rows of a type's table: each of its properties, with the form of its value and what stands for it where it is absent.
 
-ghost use Rattle.std.specs.Prelude.{◌≡◌, map};
-ghost use Rattle.element_props.specs.Seen.{words_seen};
+ghost use Rattle.std.specs.Prelude.{◌≡◌, option_map, slice_get};
+ghost use Rattle.element_props.specs.Choices.{word_in};
+ghost use Rattle.element_props.specs.FormRows.{first_word};
+ghost use Rattle.element_props.specs.Seen.{form_seen, words_seen};
 
-/// Lists of texts, of which a property's value is one.
+use crate::choice::{word_at, word_of};
+use crate::choices::{AtEnd, Comparison, Field, OnError, Share, TestKind};
+use crate::prop::Word;
+use jm_base::Method;
+
+/// Lists of texts, of which a property's value is one: the texts of a type of choice, in its order.
 #[derive(Clone, Copy, PartialEq, Eq, Debug)]
 pub enum Words {
-    /// `continue`, `nextLoop`, `stopThread`, `stopTest`
+    /// Of the type `OnError`.
     OnError,
-    /// `GET`, `POST`, `PUT`, `DELETE`, `HEAD`
+    /// Of the type `Method`.
     Method,
-    /// `recycle`, `stop`, `eof`
+    /// Of the type `AtEnd`.
     AtEnd,
-    /// `thread`
+    /// Of the type `Share`.
     Share,
-    /// `body`, `headers`, `code`, `message`
+    /// Of the type `Field`.
     Field,
-    /// `contains`, `matches`, `equals`, `substring`
+    /// Of the type `TestKind`.
     Test,
-    /// `=`, `!=`, `>`, `<`, `>=`, `<=`
+    /// Of the type `Comparison`.
     Comparison,
 }
 
@@ -86,31 +93,54 @@ pub struct Row {
     pub presence: Presence,
 }
 
-static ON_ERROR: [&str; 4] = ["continue", "nextLoop", "stopThread", "stopTest"];
-
-static METHODS: [&str; 5] = ["GET", "POST", "PUT", "DELETE", "HEAD"];
-
-static AT_END: [&str; 3] = ["recycle", "stop", "eof"];
-
-static SHARES: [&str; 1] = ["thread"];
-
-static FIELDS: [&str; 4] = ["body", "headers", "code", "message"];
-
-static TESTS: [&str; 4] = ["contains", "matches", "equals", "substring"];
-
-static COMPARISONS: [&str; 6] = ["=", "!=", ">", "<", ">=", "<="];
-
-/// The texts of a list, in the order in which `Prop::Choice` counts them.
-pub fn texts(words: Words) -> &'static [&'static str]
-    ensures { map (λ w. w.now) result.now ≡ words_seen words }
+/// The text of this place in a list, counted from 0.
+pub fn text_at(words: Words, place: usize) -> Option<&'static str>
+    ensures { option_map (λ w. w.now) result ≡ slice_get (words_seen words) place }
 {
     match words {
-        Words::OnError => &ON_ERROR,
-        Words::Method => &METHODS,
-        Words::AtEnd => &AT_END,
-        Words::Share => &SHARES,
-        Words::Field => &FIELDS,
-        Words::Test => &TESTS,
-        Words::Comparison => &COMPARISONS,
+        Words::OnError => word_at::<OnError>(place),
+        Words::Method => word_at::<Method>(place),
+        Words::AtEnd => word_at::<AtEnd>(place),
+        Words::Share => word_at::<Share>(place),
+        Words::Field => word_at::<Field>(place),
+        Words::Test => word_at::<TestKind>(place),
+        Words::Comparison => word_at::<Comparison>(place),
+    }
+}
+
+/// A text itself, where it is in a list.
+pub(crate) fn word_in(words: Words, text: &str) -> Option<Word>
+    ensures { result ≡ word_in (words_seen words) text.now }
+{
+    match words {
+        Words::OnError => word_of::<OnError>(text),
+        Words::Method => word_of::<Method>(text),
+        Words::AtEnd => word_of::<AtEnd>(text),
+        Words::Share => word_of::<Share>(text),
+        Words::Field => word_of::<Field>(text),
+        Words::Test => word_of::<TestKind>(text),
+        Words::Comparison => word_of::<Comparison>(text),
+    }
+}
+
+/// The first text of the list of a choice; of another form an empty text.
+pub(crate) fn first_word(form: Form) -> &'static str
+    ensures { result.now ≡ first_word (form_seen form) }
+{
+    match form {
+        Form::Choice(words) => match text_at(words, 0) {
+            Some(text) => text,
+            None => "",
+        },
+        Form::Template | Form::Plain | Form::Filled | Form::Lock | Form::Flag => "",
+        Form::Pattern
+        | Form::TestPatterns
+        | Form::Pairs
+        | Form::Replies
+        | Form::Texts
+        | Form::JsonPath => "",
+        Form::Csv(_) => "",
+        Form::Whole(_, _) => "",
+        Form::UpTo(_) => "",
     }
 }

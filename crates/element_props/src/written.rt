@@ -1,17 +1,17 @@
 // Properties as they are written.
 
-ghost use Rattle.std.specs.Prelude.{◌≡◌, true, [], IfOk, OnOk, map, nat_eq, not, slice_get, unwrap_or, bytes_eq};
+ghost use Rattle.std.specs.Prelude.{◌≡◌, true, [], IfOk, OnOk, map, nat_eq, not, bytes_eq};
 ghost use Rattle.serde_json.specs.View.{view, members_view};
 ghost use Rattle.serde_json.specs.Data.{string, boolean, number, unsigned, array, put};
 ghost use Rattle.serde_json.specs.Find.{of_integer};
 ghost use Rattle.template_text.specs.Pieces.{spelling};
 ghost use Rattle.element_props.specs.Seen.{form_seen, presence_seen, row_seen};
-ghost use Rattle.element_props.specs.Shown.{shown_seen};
-ghost use Rattle.element_props.specs.Written.{entry, is_default, is_first, is_no_pairs, is_nothing, is_number, is_text, is_truth, items_by, no_pair, pair_data, reply_data, reply_members, text_data, unless, value_data, with_entry, words_of, written};
+ghost use Rattle.element_props.specs.Shown.{named_shown_seen, shown_seen};
+ghost use Rattle.element_props.specs.Written.{entry, is_default, is_first, is_no_pairs, is_nothing, is_number, is_text, is_truth, items_by, no_pair, pair_data, reply_data, reply_members, text_data, unless, value_data, with_entry, written};
 
 use crate::patterns::Pattern;
 use crate::prop::Pair;
-use crate::rows::{Form, Presence, Row, texts};
+use crate::rows::{Form, Presence, Row, first_word};
 use jm_base::{M, ScriptReply, Text};
 use serde_json::{Map, Number, Value};
 use std::alloc::Global;
@@ -26,8 +26,8 @@ pub enum Shown<'a> {
     Text(&'a Text),
     Number(i64),
     Truth(bool),
-    /// The place of the text in its list, counted from 0.
-    Choice(usize),
+    /// One of the texts of a choice.
+    Word(&'static str),
     Pattern(&'a Pattern),
     Pairs(&'a [Pair]),
     Replies(&'a [ScriptReply]),
@@ -38,6 +38,13 @@ pub enum Shown<'a> {
         regexes: &'a [Pattern],
         whole_regexes: &'a [Pattern],
     },
+}
+
+/// A property where it is kept, to be written: its name and its value.
+#[derive(Clone, Copy)]
+pub struct NamedShown<'a> {
+    pub name: &'static str,
+    pub value: Shown<'a>,
 }
 
 fn text_value(alloc: Global, text: &[u8]) -> M<Value>
@@ -177,45 +184,16 @@ fn replies_value(alloc: Global, replies: &[ScriptReply]) -> M<Value>
     Ok(Value::Array(values))
 }
 
-/// The text of this place in the list of a choice.
-fn word(form: Form, place: usize) -> &'static str
-    ensures { result.now ≡ unwrap_or (slice_get (words_of (form_seen form)) place) [] }
+fn word_value(alloc: Global, word: &str) -> M<Value>
+    ensures { IfOk result (λ v. view v ≡ string word.now) }
 {
-    match form {
-        Form::Choice(words) => word_at(texts(words), place),
-        Form::Template | Form::Plain | Form::Filled | Form::Lock | Form::Flag => "",
-        Form::Pattern
-        | Form::TestPatterns
-        | Form::Pairs
-        | Form::Replies
-        | Form::Texts
-        | Form::JsonPath => "",
-        Form::Csv(_) => "",
-        Form::Whole(_, _) => "",
-        Form::UpTo(_) => "",
-    }
-}
-
-fn word_at(words: &[&'static str], place: usize) -> &'static str
-    ensures { result.now ≡ unwrap_or (slice_get (map (λ w. w.now) words.now) place) [] }
-{
-    if place < words.len() {
-        words[place]
-    } else {
-        ""
-    }
-}
-
-fn word_value(alloc: Global, form: Form, place: usize) -> M<Value>
-    ensures { IfOk result (λ v. view v ≡ string (unwrap_or (slice_get (words_of (form_seen form)) place) [])) }
-{
-    let own = String::from_str(alloc, word(form, place))?;
+    let own = String::from_str(alloc, word)?;
     Ok(Value::String(own))
 }
 
 /// The value of a property as JSON.
-fn shown_value(alloc: Global, form: Form, value: &Shown<'_>) -> M<Value>
-    ensures { IfOk result (λ v. view v ≡ value_data (form_seen form) (shown_seen value.now)) }
+fn shown_value(alloc: Global, value: &Shown<'_>) -> M<Value>
+    ensures { IfOk result (λ v. view v ≡ value_data (shown_seen value.now)) }
 {
     match value {
         Shown::Absent => Ok(Value::Null),
@@ -223,7 +201,7 @@ fn shown_value(alloc: Global, form: Form, value: &Shown<'_>) -> M<Value>
         Shown::Text(text) => text_value(alloc, text.bytes()),
         Shown::Number(n) => Ok(number_value(*n)),
         Shown::Truth(b) => Ok(Value::Bool(*b)),
-        Shown::Choice(place) => word_value(alloc, form, *place),
+        Shown::Word(word) => word_value(alloc, word),
         Shown::Pattern(pattern) => text_value(alloc, pattern.text().bytes()),
         Shown::Pairs(pairs) => pairs_value(alloc, pairs),
         Shown::Replies(replies) => replies_value(alloc, replies),
@@ -242,7 +220,7 @@ fn is_text(alloc: Global, text: &str, value: &Shown<'_>) -> M<bool>
             Ok(spelled.bytes() == text.as_bytes())
         }
         Shown::Text(own) => Ok(own.bytes() == text.as_bytes()),
-        Shown::Absent | Shown::Number(_) | Shown::Truth(_) | Shown::Choice(_) => Ok(false),
+        Shown::Absent | Shown::Number(_) | Shown::Truth(_) | Shown::Word(_) => Ok(false),
         Shown::Pattern(_) | Shown::Pairs(_) | Shown::Replies(_) | Shown::Texts(_) => Ok(false),
         Shown::Patterns { .. } => Ok(false),
     }
@@ -253,7 +231,7 @@ fn is_number(n: i64, value: &Shown<'_>) -> bool
 {
     match value {
         Shown::Number(own) => *own == n,
-        Shown::Absent | Shown::Truth(_) | Shown::Choice(_) => false,
+        Shown::Absent | Shown::Truth(_) | Shown::Word(_) => false,
         Shown::Template(_) | Shown::Text(_) | Shown::Pattern(_) => false,
         Shown::Pairs(_) | Shown::Replies(_) | Shown::Texts(_) => false,
         Shown::Patterns { .. } => false,
@@ -265,18 +243,18 @@ fn is_truth(truth: bool, value: &Shown<'_>) -> bool
 {
     match value {
         Shown::Truth(own) => *own == truth,
-        Shown::Absent | Shown::Number(_) | Shown::Choice(_) => false,
+        Shown::Absent | Shown::Number(_) | Shown::Word(_) => false,
         Shown::Template(_) | Shown::Text(_) | Shown::Pattern(_) => false,
         Shown::Pairs(_) | Shown::Replies(_) | Shown::Texts(_) => false,
         Shown::Patterns { .. } => false,
     }
 }
 
-fn is_first(value: &Shown<'_>) -> bool
-    ensures { result ≡ is_first (shown_seen value.now) }
+fn is_first(form: Form, value: &Shown<'_>) -> bool
+    ensures { result ≡ is_first (form_seen form) (shown_seen value.now) }
 {
     match value {
-        Shown::Choice(place) => *place == 0,
+        Shown::Word(word) => *word == first_word(form),
         Shown::Absent | Shown::Number(_) | Shown::Truth(_) => false,
         Shown::Template(_) | Shown::Text(_) | Shown::Pattern(_) => false,
         Shown::Pairs(_) | Shown::Replies(_) | Shown::Texts(_) => false,
@@ -289,7 +267,7 @@ fn is_no_pairs(value: &Shown<'_>) -> bool
 {
     match value {
         Shown::Pairs(pairs) => has_no_pair(pairs),
-        Shown::Absent | Shown::Number(_) | Shown::Truth(_) | Shown::Choice(_) => false,
+        Shown::Absent | Shown::Number(_) | Shown::Truth(_) | Shown::Word(_) => false,
         Shown::Template(_) | Shown::Text(_) | Shown::Pattern(_) => false,
         Shown::Replies(_) | Shown::Texts(_) => false,
         Shown::Patterns { .. } => false,
@@ -308,7 +286,7 @@ fn is_nothing(value: &Shown<'_>) -> bool
 {
     match value {
         Shown::Absent => true,
-        Shown::Number(_) | Shown::Truth(_) | Shown::Choice(_) => false,
+        Shown::Number(_) | Shown::Truth(_) | Shown::Word(_) => false,
         Shown::Template(_) | Shown::Text(_) | Shown::Pattern(_) => false,
         Shown::Pairs(_) | Shown::Replies(_) | Shown::Texts(_) => false,
         Shown::Patterns { .. } => false,
@@ -316,8 +294,8 @@ fn is_nothing(value: &Shown<'_>) -> bool
 }
 
 /// Whether the value is what stands for the property when it is absent.
-fn is_default(alloc: Global, presence: Presence, value: &Shown<'_>) -> M<bool>
-    ensures { IfOk result (λ b. b ≡ is_default (presence_seen presence) (shown_seen value.now)) }
+fn is_default(alloc: Global, form: Form, presence: Presence, value: &Shown<'_>) -> M<bool>
+    ensures { IfOk result (λ b. b ≡ is_default (form_seen form) (presence_seen presence) (shown_seen value.now)) }
 {
     match presence {
         Presence::Required => Ok(false),
@@ -325,29 +303,33 @@ fn is_default(alloc: Global, presence: Presence, value: &Shown<'_>) -> M<bool>
         Presence::Text(text) => is_text(alloc, text, value),
         Presence::Number(n) => Ok(is_number(n, value)),
         Presence::Truth(b) => Ok(is_truth(b, value)),
-        Presence::First => Ok(is_first(value)),
+        Presence::First => Ok(is_first(form, value)),
         Presence::NoPairs => Ok(is_no_pairs(value)),
     }
 }
 
 /// Puts what is written of a property.
-fn put_prop(alloc: Global, map: &mut Map<String, Value>, row: &Row, value: &Shown<'_>) -> M<()>
-    ensures { OnOk result (members_view map.new.entries ≡ with_entry row.now.name.now (entry (row_seen row.now) (shown_seen value.now)) (members_view map.old.entries)) }
+fn put_prop(alloc: Global, map: &mut Map<String, Value>, row: &Row, prop: &NamedShown<'_>) -> M<()>
+    ensures { OnOk result (members_view map.new.entries ≡ with_entry prop.now.name.now (entry (row_seen row.now) (shown_seen prop.now.value)) (members_view map.old.entries)) }
 {
-    let left_out = is_default(alloc, row.presence, value)?;
+    let left_out = is_default(alloc, row.form, row.presence, &prop.value)?;
     if left_out {
         return Ok(());
     }
-    let json = shown_value(alloc, row.form, value)?;
-    put(alloc, map, row.name, json)
+    let json = shown_value(alloc, &prop.value)?;
+    put(alloc, map, prop.name, json)
 }
 
 /// The properties of an element as they are written: in byte order of the names exactly those whose value differs from its
 /// default, a required one always, a template as its spelling, and a reply with exactly the keys whose value differs from its
-/// default. The values are those of the rows, in their order; where the lists differ in length, what goes beyond the shorter one
-/// is left out. A text that isn't UTF-8 is written with U+FFFD for each sequence that isn't, as `String::from_utf8_lossy` gives it.
-pub fn written_members(alloc: Global, rows: &[Row], values: &[Shown<'_>]) -> M<Map<String, Value>>
-    ensures { IfOk result (λ m. members_view m.entries ≡ written (map row_seen rows.now) (map shown_seen values.now)) }
+/// default. The values are those of the rows, in their order, and each is written under its own name; where the lists differ in
+/// length, what goes beyond the shorter one is left out. A text that isn't UTF-8 is written with U+FFFD for each sequence that isn't, as `String::from_utf8_lossy` gives it.
+pub fn written_members(
+    alloc: Global,
+    rows: &[Row],
+    values: &[NamedShown<'_>],
+) -> M<Map<String, Value>>
+    ensures { IfOk result (λ m. members_view m.entries ≡ written (map row_seen rows.now) (map named_shown_seen values.now)) }
 {
     let mut map = Map::new(alloc);
     let mut left = rows.len().min(values.len());

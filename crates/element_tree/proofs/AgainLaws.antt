@@ -10,7 +10,7 @@ use Rattle.plan_json.specs.Shape.{Raw, raw, Raws, no_raws, raw_then, shape, shap
 use Rattle.element_props.specs.declared.error.BuildError.{BuildError}
 use Rattle.element_props.specs.declared.error.BuildError.TheVariants.{UnknownType, BadProp, TooMany, TooDeep, WrongPlace}
 use Rattle.element_props.specs.declared.error.What.TheVariants as what
-use Rattle.element_props.specs.declared.prop.Prop.{Prop}
+use Rattle.element_props.specs.Named.{NamedValue}
 use Rattle.element_props.specs.Again.{HoldJson, ReadsAgain}
 use Rattle.element_props.specs.Props.{own_properties}
 use Rattle.element_props.specs.Reads.{over, ◌>>=◌, refuse_if, or_refuse, outcome}
@@ -38,7 +38,7 @@ use Rattle.element_tree.proofs.RebuiltLaws.{OwnAgain, spot, height, heights, ele
 
 -- What is written of properties that were read is read again as these properties, wherever the element stands.
 abbrev pub PropsAgain : Type 0
-PropsAgain = (version : ℕ) (t : ElementType) (ms : Members) (ps : List Prop) (places places' : List ℕ) → HoldJson ms
+PropsAgain = (version : ℕ) (t : ElementType) (ms : Members) (ps : List NamedValue) (places places' : List ℕ) → HoldJson ms
     → outcome (own_properties places ms (rows version t)) ≡ Ok ps → outcome (own_properties places' (written (rows version t) ps) (rows version t)) ≡ Ok ps
 
 pub props_again : ReadsAgain → PropsAgain
@@ -102,7 +102,7 @@ own_same again above depth inside parent version w places places' n kind name en
     let fault = BadProp (at places') in
     let values = values_of made in
     let props_of_it = written_props w made in
-    let made_of = λ (u : ElementType) (ps : List Prop). or_refuse (kind_of u ps) fault >>= (λ k. over (u, k)) in
+    let made_of = λ (u : ElementType) (ps : List NamedValue). or_refuse (kind_of u ps) fault >>= (λ k. over (u, k)) in
     let read_of = λ (u : ElementType). own_properties places' props_of_it (rows version u) >>= made_of u in
     bind_again (placed s' n (type_name t) name true cs') read_of t (t, made) (placed_again above depth inside parent version places places' n kind name enabled cs cs' t p none)
     (bind_again (own_properties places' props_of_it (rows version t)) (made_of t) values (t, made) read

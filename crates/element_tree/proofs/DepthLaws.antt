@@ -8,9 +8,10 @@ use Rattle.serde_json.specs.Data.{Data, boolean, number, unsigned, Items, item, 
 use Rattle.serde_json.specs.Read.{read}
 use Rattle.plan_json.specs.Shape.{Raw, reading_of}
 use Rattle.element_props.specs.declared.prop.Pair.{Pair}
+use Rattle.element_props.specs.Named.{NamedValue}
 use Rattle.element_props.specs.declared.prop.Prop.{Prop}
-use Rattle.element_props.specs.declared.prop.Prop.TheVariants.{Absent, Template, Text, Number, Truth, Choice, Pattern, Pairs, Replies, Texts, Patterns}
-use Rattle.element_props.specs.FormRows.{Form, Row}
+use Rattle.element_props.specs.declared.prop.Prop.TheVariants.{Absent, Template, Text, Number, Truth, Word, Pattern, Pairs, Replies, Texts, Patterns}
+use Rattle.element_props.specs.FormRows.{Row}
 use Rattle.element_props.specs.Written.{text_data, with_entry, unless, reply_members, pair_data, reply_data, items_by, value_data, is_default, entry, written}
 use Rattle.element_tree.specs.declared.kinds.Element.{Element}
 use Rattle.element_tree.specs.Table.{rows}
@@ -78,23 +79,23 @@ under_object ms m h = omega arith
 under_list : (ds : Items) (m : ℕ) → items_depth ds ≤ m → suc (items_depth ds) ≤ suc m
 under_list ds m h = omega arith
 
-value_within : (form : Form) (p : Prop) → depth (value_data form p) ≤ 2
-value_within form Absent = omega arith
-value_within form (Template ps) = omega arith
-value_within form (Text s) = omega arith
-value_within form (Number z) = omega arith
-value_within form (Truth b) = omega arith
-value_within form (Choice n) = omega arith
-value_within form (Pattern s) = omega arith
-value_within form (Pairs ps) = under_list (items_by pair_data ps) 1 (items_within pair_data 1 flat_pair ps)
-value_within form (Replies rs) = under_list (items_by reply_data rs) 1 (items_within reply_data 1 (λ r. under_object (reply_members r) 0 (flat_reply r)) rs)
-value_within form (Texts ss) = under_list (items_by text_data ss) 1 (items_within text_data 1 (λ s. omega arith) ss)
-value_within form (Patterns ss regexes whole) = under_list (items_by text_data ss) 1 (items_within text_data 1 (λ s. omega arith) ss)
+value_within : (p : Prop) → depth (value_data p) ≤ 2
+value_within Absent = omega arith
+value_within (Template ps) = omega arith
+value_within (Text s) = omega arith
+value_within (Number z) = omega arith
+value_within (Truth b) = omega arith
+value_within (Word w) = omega arith
+value_within (Pattern s) = omega arith
+value_within (Pairs ps) = under_list (items_by pair_data ps) 1 (items_within pair_data 1 flat_pair ps)
+value_within (Replies rs) = under_list (items_by reply_data rs) 1 (items_within reply_data 1 (λ r. under_object (reply_members r) 0 (flat_reply r)) rs)
+value_within (Texts ss) = under_list (items_by text_data ss) 1 (items_within text_data 1 (λ s. omega arith) ss)
+value_within (Patterns ss regexes whole) = under_list (items_by text_data ss) 1 (items_within text_data 1 (λ s. omega arith) ss)
 
-written_within : (rs : List Row) (ps : List Prop) → members_depth (written rs ps) ≤ 2
+written_within : (rs : List Row) (ps : List NamedValue) → members_depth (written rs ps) ≤ 2
 written_within [] ps = omega arith
 written_within (row ∷ rs) [] = omega arith
-written_within (row ∷ rs) (p ∷ ps) = entry_within row.name (is_default row.presence p) (value_data row.form p) (written rs ps) 2 (value_within row.form p) (written_within rs ps)
+written_within (row ∷ rs) (p ∷ ps) = entry_within p.name (is_default row.form row.presence p.value) (value_data p.value) (written rs ps) 2 (value_within p.value) (written_within rs ps)
 
 trees_within : (below : ℕ → Raw) (m : ℕ) → ((n : ℕ) → depth (data_of (below n)) ≤ m) → (ns : List ℕ) → items_depth (items_of (trees below ns)) ≤ m
 trees_within below m h [] = omega arith

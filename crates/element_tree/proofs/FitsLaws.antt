@@ -1,6 +1,6 @@
 -- What was read of an element's properties fits the rows of its type.
-use Rattle.std.proofs.Common.{◌≡◌, ℕ, Bool, true, false, ◌&&◌, ◌||◌, List, [], ◌∷◌, length, Option, Some, None, Ok, refl, sym, ap, ◌∙◌, subst, true≢false, arith, cond, nat_lt, ℤ, pos, negsuc, int_le, is_some, unwrap_or, option_map, option_and_then}
-use Rattle.std.specs.List.{prefix_len}
+use Rattle.std.proofs.Common.{◌≡◌, ℕ, Bool, true, false, ◌&&◌, ◌||◌, List, [], ◌∷◌, length, Option, Some, None, Ok, refl, sym, ap, ◌∙◌, subst, true≢false, arith, cond, bytes_eq, nat_lt, ℤ, pos, negsuc, int_le, is_some, unwrap_or, option_map, option_and_then}
+use Rattle.std.specs.List.{list_any}
 use Rattle.std.specs.Result.{is_ok}
 use Rattle.std.proofs.lemmas.Bool.Decides.{nat_tests}
 use Rattle.serde_json.specs.Data.{Data, null, boolean, number, string, array, object, Members}
@@ -9,11 +9,13 @@ use Rattle.json_path.specs.Machine.{path_of}
 use Rattle.plan_json.specs.Place.{Place}
 use Rattle.element_props.specs.declared.error.BuildError.{BuildError}
 use Rattle.element_props.specs.declared.error.BuildError.TheVariants.{BadProp, MissingProp}
+use Rattle.element_props.specs.Named.{NamedValue, ◌holds◌}
 use Rattle.element_props.specs.declared.prop.Prop.{Prop}
 use Rattle.element_props.specs.declared.prop.Prop.TheVariants as props
 use Rattle.element_props.specs.FormRows.{Form, template, plain, filled, lock, whole, up_to, flag, choice, pattern, test_patterns, pairs, replies, texts, csv, json_path, largest, Row}
 use Rattle.element_props.specs.Reads.{◌>>=◌, refuse_if, or_refuse, outcome}
-use Rattle.element_props.specs.Forms.{given, value_of, finished, cond_checked, pairs_checked, pattern_checked, pattern_asked, tests_given, tests_checked, regexes_checked, each_asked, whole_of, has_long, is_too_long, text_limit, whole_within, within, up_to_bound, place_in, filled_text, path_text, table_text, bad_pair, has_reference, few_of, is_pattern, is_test_patterns}
+use Rattle.element_props.specs.Forms.{given, value_of, finished, cond_checked, pairs_checked, pattern_checked, pattern_asked, tests_given, tests_checked, regexes_checked, each_asked, whole_of, has_long, is_too_long, text_limit, whole_within, within, up_to_bound, filled_text, path_text, table_text, bad_pair, has_reference, few_of, is_pattern, is_test_patterns}
+use Rattle.element_props.specs.Choices.{word_in}
 use Rattle.element_props.specs.Conditions.{bad_condition}
 use Rattle.element_props.specs.Props.{prop_at, absent_value, property, property_of, properties, own_properties, missing, unknown, is_required, no_name}
 use Rattle.element_tree.specs.Fits.{FitsForm, FitsRow, FitsAll, IsShort, IsFilled}
@@ -93,11 +95,11 @@ bound_low name ms = bound_of (option_and_then (whole_within (pos 0) largest) (ge
 
 -- ---- a choice
 
-prefix_short : {X : Type 0} (f : X → Bool) (xs : List X) (n : ℕ) → cond (nat_lt (prefix_len f xs) (length xs)) (Some (prefix_len f xs)) None ≡ Some n → nat_lt n (length xs) ≡ true
-prefix_short f xs n h =
-    let c = if_some (nat_lt (prefix_len f xs) (length xs)) (Some (prefix_len f xs)) n h in
-    let P : ℕ → Type 0 = λ m. nat_lt m (length xs) ≡ true in
-    subst P (same (prefix_len f xs) n c.1) c.0
+word_fits : (words : List (List ℕ)) (s t : List ℕ) → word_in words s ≡ Some t → list_any (λ w. bytes_eq w t) words ≡ true
+word_fits words s t h =
+    let c = if_some (list_any (λ w. bytes_eq w s) words) (Some s) t h in
+    let P : List ℕ → Type 0 = λ u. list_any (λ w. bytes_eq w u) words ≡ true in
+    subst P (same s t c.1) c.0
 
 -- ---- a value of a form
 
@@ -148,9 +150,9 @@ module _ (ms : Members) (d : Data) (p : Prop) where
       fits_as (up_to name) (props.Number x.0) p x.2 (and_both (int_le (pos 0) x.0) (int_le x.0 (up_to_bound name ms)) (int_le x.0 largest) within_it (λ k. below_trans x.0 (up_to_bound name ms) largest k (bound_low name ms)))
   value_fits flag other long h = let x = map_some props.Truth (as_bool d) p h in fits_as flag (props.Truth x.0) p x.2 tt
   value_fits (choice words) other long h =
-      let x = map_some props.Choice (option_and_then (place_in words) (as_str d)) p h in
-      let y = then_some (place_in words) (as_str d) x.0 x.1 in
-      fits_as (choice words) (props.Choice x.0) p x.2 (prefix_short _ words x.0 y.2)
+      let x = map_some props.Word (option_and_then (word_in words) (as_str d)) p h in
+      let y = then_some (word_in words) (as_str d) x.0 x.1 in
+      fits_as (choice words) (props.Word x.0) p x.2 (word_fits words y.0 x.0 y.2)
   value_fits pattern other long h = absurd (true≢false other)
   value_fits test_patterns other long h = absurd (true≢false other)
   value_fits pairs other long h = let x = map_some props.Pairs _ p h in fits_as pairs (props.Pairs x.0) p x.2 tt
@@ -273,21 +275,21 @@ present row rows ms true None e k h = cc
 present row rows ms true (Some d) e k h = record { here = λ none. let f : ◌≡◌ {A = Option Data} (Some d) None = sym k ∙ none in cc; later = h }
 present row rows ms false o e k h = record { here = λ none. e; later = h }
 
-pub properties_fit : (places : List ℕ) (ms : Members) (rows : List Row) (ps : List Prop) → DefaultsFit rows → missing ms rows ≡ None → outcome (properties places ms rows) ≡ Ok ps → FitsAll rows ps
+pub properties_fit : (places : List ℕ) (ms : Members) (rows : List Row) (ps : List NamedValue) → DefaultsFit rows → missing ms rows ≡ None → outcome (properties places ms rows) ≡ Ok ps → FitsAll rows ps
 unfolding properties
-properties_fit places ms [] ps defaults here h = let e = over_ok [] ps h in let Q : List Prop → Type 0 = λ qs. FitsAll [] qs in subst Q e tt
+properties_fit places ms [] ps defaults here h = let e = over_ok [] ps h in let Q : List NamedValue → Type 0 = λ qs. FitsAll [] qs in subst Q e tt
 properties_fit places ms (row ∷ rows) ps defaults here h =
     let a = bind_ok (property places ms row) _ ps h in
     let b = bind_ok (properties places ms rows) _ ps a.2 in
     let p = present row rows ms (is_required row.presence) (get_member row.name ms) refl refl here in
-    let Q : List Prop → Type 0 = λ qs. FitsAll (row ∷ rows) qs in
-    subst Q (over_ok (a.0 ∷ b.0) ps b.2) (property_fits places ms row a.0 (λ none. defaults.0 (p.here none)) a.1, properties_fit places ms rows b.0 defaults.1 p.later b.1)
+    let Q : List NamedValue → Type 0 = λ qs. FitsAll (row ∷ rows) qs in
+    subst Q (over_ok ((row.name holds a.0) ∷ b.0) ps b.2) (refl, property_fits places ms row a.0 (λ none. defaults.0 (p.here none)) a.1, properties_fit places ms rows b.0 defaults.1 p.later b.1)
 
 none_named : (fault : Place → BuildError) (places : List ℕ) (o : Option (List ℕ)) (u : Unit {0}) → outcome (no_name fault places o) ≡ Ok u → o ≡ None
 none_named fault places None u h = refl
 none_named fault places (Some name) u h = cc
 
-pub own_fit : (places : List ℕ) (ms : Members) (rows : List Row) (ps : List Prop) → DefaultsFit rows → outcome (own_properties places ms rows) ≡ Ok ps → FitsAll rows ps
+pub own_fit : (places : List ℕ) (ms : Members) (rows : List Row) (ps : List NamedValue) → DefaultsFit rows → outcome (own_properties places ms rows) ≡ Ok ps → FitsAll rows ps
 unfolding own_properties
 own_fit places ms rows ps defaults h =
     let a = bind_ok (no_name BadProp places (unknown rows ms)) _ ps h in

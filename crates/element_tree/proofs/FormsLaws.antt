@@ -4,7 +4,7 @@ use Rattle.std.specs.List.{AllByRecursion, list_any}
 use Rattle.std.proofs.lemmas.Bool.Decides.{nat_tests}
 use Rattle.serde_json.specs.Data.{Members}
 use Rattle.plan_json.specs.Shape.{Raws}
-use Rattle.element_props.specs.declared.prop.Prop.{Prop}
+use Rattle.element_props.specs.Named.{NamedValue}
 use Rattle.element_props.specs.Props.{own_properties}
 use Rattle.element_props.specs.Reads.{or_refuse, outcome}
 use Rattle.element_tree.specs.declared.kinds.Kind.{Kind}
@@ -51,14 +51,14 @@ own_values s n kind name enabled ms cs made h =
     let same = same_kind (kind_of a.0 b.0) m.kind c.0 m.made (or_ok (kind_of a.0 b.0) _ c.0 c.1) in
     let values : b.0 ≡ values_of made = sym m.values ∙ ap values_of (same ∙ k) in
     let P : ElementType → Type 0 = λ u. FitsAll (rows s.version u) b.0 in
-    let Q : List Prop → Type 0 = λ ps. FitsAll (rows s.version (type_of made)) ps in
+    let Q : List NamedValue → Type 0 = λ ps. FitsAll (rows s.version (type_of made)) ps in
     record {
       fits = subst Q values (subst P t fits);
-      read = (let R : List Prop → Type 0 = λ ps. outcome (own_properties s.places ms (rows s.version (type_of made))) ≡ Ok ps in
+      read = (let R : List NamedValue → Type 0 = λ ps. outcome (own_properties s.places ms (rows s.version (type_of made))) ≡ Ok ps in
           let S : ElementType → Type 0 = λ u. outcome (own_properties s.places ms (rows s.version u)) ≡ Ok b.0 in
           subst R values (subst S t b.1));
       again = (let M : ElementType → Type 0 = λ u. kind_of u b.0 ≡ Some made in
-          let V : List Prop → Type 0 = λ ps. kind_of (type_of made) ps ≡ Some made in
+          let V : List NamedValue → Type 0 = λ ps. kind_of (type_of made) ps ≡ Some made in
           subst V values (subst M t (or_ok (kind_of a.0 b.0) _ c.0 c.1 ∙ ap Some k)));
     }
 
@@ -86,7 +86,7 @@ mutual
 group_has : (kind : Kind) → HasForms kind → (n : ℕ) → group_size kind ≡ Some n → 1 ≤ n
 group_has (kinds.ThreadGroup loops on_error ramp_ms threads) f n h =
     let same : threads ≡ n = cc in
-    let low = both (nat_le 1 threads) (nat_le threads 64) f.1.1.1.1.0 in
+    let low = both (nat_le 1 threads) (nat_le threads 64) f.1.2.2.2.1 in
     let k : 1 ≤ threads = at_least threads low.0 in
     let P : ℕ → Type 0 = λ m. 1 ≤ m in subst P same k where
       at_least : (m : ℕ) → nat_le 1 m ≡ true → 1 ≤ m

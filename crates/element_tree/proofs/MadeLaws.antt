@@ -1,53 +1,42 @@
--- Values that fit the rows of a type make a kind of it, whose values they are.
-use Rattle.std.proofs.Common.{◌≡◌, ℕ, zero, suc, ◌<◌, ◌≤◌, ◌-◌, ◌^◌, Bool, true, false, ◌&&◌, List, [], ◌∷◌, Option, Some, None, refl, sym, ap, ◌∙◌, subst, true≢false, arith, nat_lt, nat_le, ℤ, pos, negsuc, codes}
+-- Properties that fit the rows of a type make a kind of it, whose properties they are.
+use Rattle.std.proofs.Common.{◌≡◌, ℕ, ◌<◌, ◌≤◌, ◌-◌, ◌^◌, Bool, true, false, ◌&&◌, List, [], ◌∷◌, Option, Some, None, refl, sym, ap, ◌∙◌, subst, true≢false, arith, nat_lt, nat_le, map, ℤ, pos, negsuc, codes}
 use Rattle.std.proofs.lemmas.Bool.Decides.{nat_tests}
 use Rattle.template_text.specs.Pieces.{Pieces}
 use Rattle.element_props.specs.declared.prop.Pair.{Pair}
+use Rattle.element_props.specs.Choices.{on_error_word, on_errors, field_word, fields, method_word, methods, at_end_word, at_ends, share_word, shares, test_word, tests, comparison_word, comparisons}
+use Rattle.element_props.proofs.ChoiceLaws.{choice_takes}
+use Rattle.element_props.specs.Named.{NamedValue, ◌holds◌}
 use Rattle.element_props.specs.FormRows.{Form, template, plain, filled, lock, whole, up_to, flag, choice, pattern, test_patterns, pairs, replies, texts, csv, json_path, largest, Presence, required, optional, text_default, number_default, truth_default, first_choice, no_pairs, Row, ◌is◌otherwise◌}
-use Rattle.element_props.specs.FormRows as words
 use Rattle.element_props.specs.declared.prop.Prop.{Prop}
-use Rattle.element_props.specs.declared.prop.Prop.TheVariants.{Absent, Template, Text, Number, Truth, Choice, Pattern, Pairs, Replies, Texts, Patterns}
+use Rattle.element_props.specs.declared.prop.Prop.TheVariants.{Absent, Template, Text, Number, Truth, Word, Pattern, Pairs, Replies, Texts, Patterns}
 use Rattle.jm_base.specs.declared.types.ScriptReply.{ScriptReply}
-use Rattle.jm_base.specs.declared.types.Method.{Method}
-use Rattle.jm_base.specs.declared.types.Method.TheVariants as methods
 use Rattle.element_tree.specs.declared.kinds.Kind.{Kind}
 use Rattle.element_tree.specs.declared.kinds.Kind.TheVariants as kinds
 use Rattle.element_tree.specs.declared.kinds.Assertion.TheVariants.{Response, Duration, Size}
 use Rattle.element_tree.specs.declared.kinds.Loops.{Loops}
 use Rattle.element_tree.specs.declared.kinds.Loops.TheVariants.{Forever, Times}
-use Rattle.element_tree.specs.declared.kinds.OnError.{OnError}
-use Rattle.element_tree.specs.declared.kinds.OnError.TheVariants as on_errors
-use Rattle.element_tree.specs.declared.kinds.Field.{Field}
-use Rattle.element_tree.specs.declared.kinds.Field.TheVariants as fields
-use Rattle.element_tree.specs.declared.kinds.AtEnd.{AtEnd}
-use Rattle.element_tree.specs.declared.kinds.AtEnd.TheVariants as at_ends
-use Rattle.element_tree.specs.declared.kinds.Share.{Share}
-use Rattle.element_tree.specs.declared.kinds.Share.TheVariants as shares
-use Rattle.element_tree.specs.declared.kinds.TestKind.{TestKind}
-use Rattle.element_tree.specs.declared.kinds.TestKind.TheVariants as tests
-use Rattle.element_tree.specs.declared.kinds.Comparison.{Comparison}
-use Rattle.element_tree.specs.declared.kinds.Comparison.TheVariants as comparisons
+use Rattle.element_props.specs.declared.choices.Field.{Field}
 use Rattle.element_tree.specs.declared.types.ElementType.{ElementType}
 use Rattle.element_tree.specs.declared.types.ElementType.TheVariants as types
 use Rattle.element_tree.specs.Table.{rows}
-use Rattle.element_tree.specs.Kinds.{Tried, template_in, text_in, maybe_in, number_in, signed_in, loops_in, truth_in, pattern_in, pairs_in, texts_in, replies_in, maybe_replies_in, patterns_in, on_error_in, field_in, method_in, at_end_in, share_in, test_in, comparison_in, kind_of}
-use Rattle.element_tree.specs.Values.{maybe, maybe_replies, loops_number, on_error_place, field_place, method_place, at_end_place, share_place, test_place, comparison_place, values_of}
+use Rattle.element_tree.specs.Kinds.{Tried, template_in, text_in, maybe_in, number_in, signed_in, loops_in, truth_in, pattern_in, pairs_in, texts_in, replies_in, maybe_replies_in, patterns_in, choice_in, kind_of, ◌>>=◌}
+use Rattle.element_tree.specs.Values.{maybe, maybe_replies, loops_number, values_of}
 use Rattle.element_tree.specs.Fits.{FitsForm, FitsRow, FitsAll, is_optional}
 use Rattle.element_tree.proofs.StandLaws.{both}
 
--- the first value and the others
-record Taken (row : Row) (rows : List Row) (ps : List Prop) : Type 0 where
+-- the value of the first property, which has the name of the row, and the others
+record Taken (row : Row) (rows : List Row) (ps : List NamedValue) : Type 0 where
   p : Prop
-  rest : List Prop
-  same : ps ≡ p ∷ rest
+  rest : List NamedValue
+  same : ps ≡ (row.name holds p) ∷ rest
   fits : FitsRow row p
   later : FitsAll rows rest
 
-take_one : (row : Row) (rows : List Row) (ps : List Prop) → FitsAll (row ∷ rows) ps → Taken row rows ps
+take_one : (row : Row) (rows : List Row) (ps : List NamedValue) → FitsAll (row ∷ rows) ps → Taken row rows ps
 take_one row rows [] f = absurd f
-take_one row rows (p ∷ ps) f = record { p = p; rest = ps; same = refl; fits = f.0; later = f.1 }
+take_one row rows (p ∷ ps) f = record { p = p.value; rest = ps; same = ap (λ n. (n holds p.value) ∷ ps) f.0; fits = f.1; later = f.2 }
 
-take_none : (ps : List Prop) → FitsAll [] ps → ps ≡ []
+take_none : (ps : List NamedValue) → FitsAll [] ps → ps ≡ []
 take_none [] f = refl
 take_none (p ∷ ps) f = absurd f
 
@@ -141,495 +130,551 @@ loops_takes high (Number (pos n)) h f = let e = low_enough n high (2 ^ 32) f h i
 loops_takes high (Number (negsuc n)) h f = let e = least n _ f in (Forever, refl, ap (λ (m : ℕ). Number (negsuc m)) (sym e))
 loops_takes high p h f = absurd f
 
-far : {A : Type 0} (m limit : ℕ) → limit ≤ m → nat_lt m limit ≡ true → A
-far m limit h k = absurd (let e : m < limit = grind (arith, nat_tests) in omega arith)
+choice_fits : {C : Type 0} (word : C → List ℕ) (all : List C) (p : Prop) → FitsForm (choice (map word all)) p → (v : C) × (choice_in word all p ≡ Some v) × (Word (word v) ≡ p)
+choice_fits word all (Word text) f = let c = choice_takes word text all f in (c.0, c.1, ap Word c.2)
+choice_fits word all p f = absurd f
 
-on_error_takes : (p : Prop) → FitsForm (choice words.on_errors) p → (v : OnError) × (on_error_in p ≡ Some v) × (Choice (on_error_place v) ≡ p)
-on_error_takes (Choice zero) f = (on_errors.Continue, refl, refl)
-on_error_takes (Choice (suc zero)) f = (on_errors.NextLoop, refl, refl)
-on_error_takes (Choice (suc (suc zero))) f = (on_errors.StopThread, refl, refl)
-on_error_takes (Choice (suc (suc (suc zero)))) f = (on_errors.StopTest, refl, refl)
-on_error_takes (Choice (suc (suc (suc (suc n))))) f = far (suc (suc (suc (suc n)))) 4 (omega arith) f
-on_error_takes p f = absurd f
+-- ---- a type by the number of its properties
 
-field_takes : (p : Prop) → FitsForm (choice words.fields) p → (v : Field) × (field_in p ≡ Some v) × (Choice (field_place v) ≡ p)
-field_takes (Choice zero) f = (fields.Body, refl, refl)
-field_takes (Choice (suc zero)) f = (fields.Headers, refl, refl)
-field_takes (Choice (suc (suc zero))) f = (fields.Code, refl, refl)
-field_takes (Choice (suc (suc (suc zero)))) f = (fields.Message, refl, refl)
-field_takes (Choice (suc (suc (suc (suc n))))) f = far (suc (suc (suc (suc n)))) 4 (omega arith) f
-field_takes p f = absurd f
-
-method_takes : (p : Prop) → FitsForm (choice words.methods) p → (v : Method) × (method_in p ≡ Some v) × (Choice (method_place v) ≡ p)
-method_takes (Choice zero) f = (methods.Get, refl, refl)
-method_takes (Choice (suc zero)) f = (methods.Post, refl, refl)
-method_takes (Choice (suc (suc zero))) f = (methods.Put, refl, refl)
-method_takes (Choice (suc (suc (suc zero)))) f = (methods.Delete, refl, refl)
-method_takes (Choice (suc (suc (suc (suc zero))))) f = (methods.Head, refl, refl)
-method_takes (Choice (suc (suc (suc (suc (suc n)))))) f = far (suc (suc (suc (suc (suc n))))) 5 (omega arith) f
-method_takes p f = absurd f
-
-at_end_takes : (p : Prop) → FitsForm (choice words.at_ends) p → (v : AtEnd) × (at_end_in p ≡ Some v) × (Choice (at_end_place v) ≡ p)
-at_end_takes (Choice zero) f = (at_ends.Recycle, refl, refl)
-at_end_takes (Choice (suc zero)) f = (at_ends.Stop, refl, refl)
-at_end_takes (Choice (suc (suc zero))) f = (at_ends.Eof, refl, refl)
-at_end_takes (Choice (suc (suc (suc n)))) f = far (suc (suc (suc n))) 3 (omega arith) f
-at_end_takes p f = absurd f
-
-share_takes : (p : Prop) → FitsForm (choice words.shares) p → (v : Share) × (share_in p ≡ Some v) × (Choice (share_place v) ≡ p)
-share_takes (Choice zero) f = (shares.Thread, refl, refl)
-share_takes (Choice (suc n)) f = far (suc n) 1 (omega arith) f
-share_takes p f = absurd f
-
-test_takes : (p : Prop) → FitsForm (choice words.tests) p → (v : TestKind) × (test_in p ≡ Some v) × (Choice (test_place v) ≡ p)
-test_takes (Choice zero) f = (tests.Contains, refl, refl)
-test_takes (Choice (suc zero)) f = (tests.Matches, refl, refl)
-test_takes (Choice (suc (suc zero))) f = (tests.Equals, refl, refl)
-test_takes (Choice (suc (suc (suc zero)))) f = (tests.Substring, refl, refl)
-test_takes (Choice (suc (suc (suc (suc n))))) f = far (suc (suc (suc (suc n)))) 4 (omega arith) f
-test_takes p f = absurd f
-
-comparison_takes : (p : Prop) → FitsForm (choice words.comparisons) p → (v : Comparison) × (comparison_in p ≡ Some v) × (Choice (comparison_place v) ≡ p)
-comparison_takes (Choice zero) f = (comparisons.Equal, refl, refl)
-comparison_takes (Choice (suc zero)) f = (comparisons.NotEqual, refl, refl)
-comparison_takes (Choice (suc (suc zero))) f = (comparisons.Above, refl, refl)
-comparison_takes (Choice (suc (suc (suc zero)))) f = (comparisons.Below, refl, refl)
-comparison_takes (Choice (suc (suc (suc (suc zero))))) f = (comparisons.AtLeast, refl, refl)
-comparison_takes (Choice (suc (suc (suc (suc (suc zero)))))) f = (comparisons.AtMost, refl, refl)
-comparison_takes (Choice (suc (suc (suc (suc (suc (suc n))))))) f = far (suc (suc (suc (suc (suc (suc n)))))) 6 (omega arith) f
-comparison_takes p f = absurd f
-
--- ---- each type
-
-pub record Made (t : ElementType) (ps : List Prop) : Type 0 where
+pub record Made (t : ElementType) (ps : List NamedValue) : Type 0 where
   pub kind : Kind
   pub made : kind_of t ps ≡ Some kind
   pub values : values_of kind ≡ ps
 
-test_plan_with : (p0 : Prop) (v0 : ℕ) → number_in (2 ^ 8) p0 ≡ Some v0 → Number (pos v0) ≡ p0 → Made types.TestPlan (p0 ∷ [])
+-- a property: its row, how its value is read and given, and that each value that fits the row is read and given again
+record Property (A : Type 0) : Type 0 where
+  row : Row
+  reads : Prop → Option A
+  gives : A → Prop
+  takes : (p : Prop) → FitsRow row p → (v : A) × (reads p ≡ Some v) × (gives v ≡ p)
+
+made0 : (t : ElementType) (kind : Kind) → kind_of t [] ≡ Some kind → values_of kind ≡ [] → (ps : List NamedValue) → FitsAll [] ps → Made t ps
+made0 t kind reads gives ps f = subst (Made t) (sym (take_none ps f)) (record { kind = kind; made = reads; values = gives })
+
+made1 : {A : Type 0} (a : Property A) (t : ElementType) (make : A → Kind)
+    → ((p : Prop) → kind_of t ((a.row.name holds p) ∷ []) ≡ (a.reads p >>= λ x0. Some (make x0)))
+    → ((x0 : A) → values_of (make x0) ≡ (a.row.name holds a.gives x0) ∷ [])
+    → (ps : List NamedValue) → FitsAll (a.row ∷ []) ps → Made t ps
+made1 a t make reads gives ps fit =
+    let i0 = take_one a.row [] ps fit in
+    let x0 = a.takes i0.p i0.fits in
+    let same : ps ≡ (a.row.name holds i0.p) ∷ [] =
+    i0.same ∙ ap (λ (qs : List NamedValue). (a.row.name holds i0.p) ∷ qs) (take_none i0.rest i0.later) in
+    subst (Made t) (sym same) (record {
+      kind = make x0.0;
+      made = reads i0.p ∙ rw (x0.1) refl;
+      values = gives x0.0 ∙ rw (x0.2) refl;
+    })
+
+made2 : {A B : Type 0} (a : Property A) (b : Property B) (t : ElementType) (make : A → B → Kind)
+    → ((p q : Prop) → kind_of t ((a.row.name holds p) ∷ (b.row.name holds q) ∷ []) ≡ (a.reads p >>= λ x0. b.reads q >>= λ x1. Some (make x0 x1)))
+    → ((x0 : A) (x1 : B) → values_of (make x0 x1) ≡ (a.row.name holds a.gives x0) ∷ (b.row.name holds b.gives x1) ∷ [])
+    → (ps : List NamedValue) → FitsAll (a.row ∷ b.row ∷ []) ps → Made t ps
+made2 a b t make reads gives ps fit =
+    let i0 = take_one a.row (b.row ∷ []) ps fit in
+    let i1 = take_one b.row [] i0.rest i0.later in
+    let x0 = a.takes i0.p i0.fits in
+    let x1 = b.takes i1.p i1.fits in
+    let same : ps ≡ (a.row.name holds i0.p) ∷ (b.row.name holds i1.p) ∷ [] =
+    i0.same ∙ ap (λ (qs : List NamedValue). (a.row.name holds i0.p) ∷ qs) (i1.same ∙ ap (λ (qs : List NamedValue). (b.row.name holds i1.p) ∷ qs) (take_none i1.rest i1.later)) in
+    subst (Made t) (sym same) (record {
+      kind = make x0.0 x1.0;
+      made = reads i0.p i1.p ∙ rw (x0.1, x1.1) refl;
+      values = gives x0.0 x1.0 ∙ rw (x0.2, x1.2) refl;
+    })
+
+made3 : {A B C : Type 0} (a : Property A) (b : Property B) (c : Property C) (t : ElementType) (make : A → B → C → Kind)
+    → ((p q r : Prop) → kind_of t ((a.row.name holds p) ∷ (b.row.name holds q) ∷ (c.row.name holds r) ∷ []) ≡ (a.reads p >>= λ x0. b.reads q >>= λ x1. c.reads r >>= λ x2. Some (make x0 x1 x2)))
+    → ((x0 : A) (x1 : B) (x2 : C) → values_of (make x0 x1 x2) ≡ (a.row.name holds a.gives x0) ∷ (b.row.name holds b.gives x1) ∷ (c.row.name holds c.gives x2) ∷ [])
+    → (ps : List NamedValue) → FitsAll (a.row ∷ b.row ∷ c.row ∷ []) ps → Made t ps
+made3 a b c t make reads gives ps fit =
+    let i0 = take_one a.row (b.row ∷ c.row ∷ []) ps fit in
+    let i1 = take_one b.row (c.row ∷ []) i0.rest i0.later in
+    let i2 = take_one c.row [] i1.rest i1.later in
+    let x0 = a.takes i0.p i0.fits in
+    let x1 = b.takes i1.p i1.fits in
+    let x2 = c.takes i2.p i2.fits in
+    let same : ps ≡ (a.row.name holds i0.p) ∷ (b.row.name holds i1.p) ∷ (c.row.name holds i2.p) ∷ [] =
+    i0.same ∙ ap (λ (qs : List NamedValue). (a.row.name holds i0.p) ∷ qs) (i1.same ∙ ap (λ (qs : List NamedValue). (b.row.name holds i1.p) ∷ qs) (i2.same ∙ ap (λ (qs : List NamedValue). (c.row.name holds i2.p) ∷ qs) (take_none i2.rest i2.later))) in
+    subst (Made t) (sym same) (record {
+      kind = make x0.0 x1.0 x2.0;
+      made = reads i0.p i1.p i2.p ∙ rw (x0.1, x1.1, x2.1) refl;
+      values = gives x0.0 x1.0 x2.0 ∙ rw (x0.2, x1.2, x2.2) refl;
+    })
+
+made4 : {A B C D : Type 0} (a : Property A) (b : Property B) (c : Property C) (d : Property D) (t : ElementType) (make : A → B → C → D → Kind)
+    → ((p q r s : Prop) → kind_of t ((a.row.name holds p) ∷ (b.row.name holds q) ∷ (c.row.name holds r) ∷ (d.row.name holds s) ∷ []) ≡ (a.reads p >>= λ x0. b.reads q >>= λ x1. c.reads r >>= λ x2. d.reads s >>= λ x3. Some (make x0 x1 x2 x3)))
+    → ((x0 : A) (x1 : B) (x2 : C) (x3 : D) → values_of (make x0 x1 x2 x3) ≡ (a.row.name holds a.gives x0) ∷ (b.row.name holds b.gives x1) ∷ (c.row.name holds c.gives x2) ∷ (d.row.name holds d.gives x3) ∷ [])
+    → (ps : List NamedValue) → FitsAll (a.row ∷ b.row ∷ c.row ∷ d.row ∷ []) ps → Made t ps
+made4 a b c d t make reads gives ps fit =
+    let i0 = take_one a.row (b.row ∷ c.row ∷ d.row ∷ []) ps fit in
+    let i1 = take_one b.row (c.row ∷ d.row ∷ []) i0.rest i0.later in
+    let i2 = take_one c.row (d.row ∷ []) i1.rest i1.later in
+    let i3 = take_one d.row [] i2.rest i2.later in
+    let x0 = a.takes i0.p i0.fits in
+    let x1 = b.takes i1.p i1.fits in
+    let x2 = c.takes i2.p i2.fits in
+    let x3 = d.takes i3.p i3.fits in
+    let same : ps ≡ (a.row.name holds i0.p) ∷ (b.row.name holds i1.p) ∷ (c.row.name holds i2.p) ∷ (d.row.name holds i3.p) ∷ [] =
+    i0.same ∙ ap (λ (qs : List NamedValue). (a.row.name holds i0.p) ∷ qs) (i1.same ∙ ap (λ (qs : List NamedValue). (b.row.name holds i1.p) ∷ qs) (i2.same ∙ ap (λ (qs : List NamedValue). (c.row.name holds i2.p) ∷ qs) (i3.same ∙ ap (λ (qs : List NamedValue). (d.row.name holds i3.p) ∷ qs) (take_none i3.rest i3.later)))) in
+    subst (Made t) (sym same) (record {
+      kind = make x0.0 x1.0 x2.0 x3.0;
+      made = reads i0.p i1.p i2.p i3.p ∙ rw (x0.1, x1.1, x2.1, x3.1) refl;
+      values = gives x0.0 x1.0 x2.0 x3.0 ∙ rw (x0.2, x1.2, x2.2, x3.2) refl;
+    })
+
+made5 : {A B C D E : Type 0} (a : Property A) (b : Property B) (c : Property C) (d : Property D) (h : Property E) (t : ElementType) (make : A → B → C → D → E → Kind)
+    → ((p q r s u : Prop) → kind_of t ((a.row.name holds p) ∷ (b.row.name holds q) ∷ (c.row.name holds r) ∷ (d.row.name holds s) ∷ (h.row.name holds u) ∷ []) ≡ (a.reads p >>= λ x0. b.reads q >>= λ x1. c.reads r >>= λ x2. d.reads s >>= λ x3. h.reads u >>= λ x4. Some (make x0 x1 x2 x3 x4)))
+    → ((x0 : A) (x1 : B) (x2 : C) (x3 : D) (x4 : E) → values_of (make x0 x1 x2 x3 x4) ≡ (a.row.name holds a.gives x0) ∷ (b.row.name holds b.gives x1) ∷ (c.row.name holds c.gives x2) ∷ (d.row.name holds d.gives x3) ∷ (h.row.name holds h.gives x4) ∷ [])
+    → (ps : List NamedValue) → FitsAll (a.row ∷ b.row ∷ c.row ∷ d.row ∷ h.row ∷ []) ps → Made t ps
+made5 a b c d h t make reads gives ps fit =
+    let i0 = take_one a.row (b.row ∷ c.row ∷ d.row ∷ h.row ∷ []) ps fit in
+    let i1 = take_one b.row (c.row ∷ d.row ∷ h.row ∷ []) i0.rest i0.later in
+    let i2 = take_one c.row (d.row ∷ h.row ∷ []) i1.rest i1.later in
+    let i3 = take_one d.row (h.row ∷ []) i2.rest i2.later in
+    let i4 = take_one h.row [] i3.rest i3.later in
+    let x0 = a.takes i0.p i0.fits in
+    let x1 = b.takes i1.p i1.fits in
+    let x2 = c.takes i2.p i2.fits in
+    let x3 = d.takes i3.p i3.fits in
+    let x4 = h.takes i4.p i4.fits in
+    let same : ps ≡ (a.row.name holds i0.p) ∷ (b.row.name holds i1.p) ∷ (c.row.name holds i2.p) ∷ (d.row.name holds i3.p) ∷ (h.row.name holds i4.p) ∷ [] =
+    i0.same ∙ ap (λ (qs : List NamedValue). (a.row.name holds i0.p) ∷ qs) (i1.same ∙ ap (λ (qs : List NamedValue). (b.row.name holds i1.p) ∷ qs) (i2.same ∙ ap (λ (qs : List NamedValue). (c.row.name holds i2.p) ∷ qs) (i3.same ∙ ap (λ (qs : List NamedValue). (d.row.name holds i3.p) ∷ qs) (i4.same ∙ ap (λ (qs : List NamedValue). (h.row.name holds i4.p) ∷ qs) (take_none i4.rest i4.later))))) in
+    subst (Made t) (sym same) (record {
+      kind = make x0.0 x1.0 x2.0 x3.0 x4.0;
+      made = reads i0.p i1.p i2.p i3.p i4.p ∙ rw (x0.1, x1.1, x2.1, x3.1, x4.1) refl;
+      values = gives x0.0 x1.0 x2.0 x3.0 x4.0 ∙ rw (x0.2, x1.2, x2.2, x3.2, x4.2) refl;
+    })
+
+made6 : {A B C D E F : Type 0} (a : Property A) (b : Property B) (c : Property C) (d : Property D) (h : Property E) (k : Property F) (t : ElementType) (make : A → B → C → D → E → F → Kind)
+    → ((p q r s u v : Prop) → kind_of t ((a.row.name holds p) ∷ (b.row.name holds q) ∷ (c.row.name holds r) ∷ (d.row.name holds s) ∷ (h.row.name holds u) ∷ (k.row.name holds v) ∷ []) ≡ (a.reads p >>= λ x0. b.reads q >>= λ x1. c.reads r >>= λ x2. d.reads s >>= λ x3. h.reads u >>= λ x4. k.reads v >>= λ x5. Some (make x0 x1 x2 x3 x4 x5)))
+    → ((x0 : A) (x1 : B) (x2 : C) (x3 : D) (x4 : E) (x5 : F) → values_of (make x0 x1 x2 x3 x4 x5) ≡ (a.row.name holds a.gives x0) ∷ (b.row.name holds b.gives x1) ∷ (c.row.name holds c.gives x2) ∷ (d.row.name holds d.gives x3) ∷ (h.row.name holds h.gives x4) ∷ (k.row.name holds k.gives x5) ∷ [])
+    → (ps : List NamedValue) → FitsAll (a.row ∷ b.row ∷ c.row ∷ d.row ∷ h.row ∷ k.row ∷ []) ps → Made t ps
+made6 a b c d h k t make reads gives ps fit =
+    let i0 = take_one a.row (b.row ∷ c.row ∷ d.row ∷ h.row ∷ k.row ∷ []) ps fit in
+    let i1 = take_one b.row (c.row ∷ d.row ∷ h.row ∷ k.row ∷ []) i0.rest i0.later in
+    let i2 = take_one c.row (d.row ∷ h.row ∷ k.row ∷ []) i1.rest i1.later in
+    let i3 = take_one d.row (h.row ∷ k.row ∷ []) i2.rest i2.later in
+    let i4 = take_one h.row (k.row ∷ []) i3.rest i3.later in
+    let i5 = take_one k.row [] i4.rest i4.later in
+    let x0 = a.takes i0.p i0.fits in
+    let x1 = b.takes i1.p i1.fits in
+    let x2 = c.takes i2.p i2.fits in
+    let x3 = d.takes i3.p i3.fits in
+    let x4 = h.takes i4.p i4.fits in
+    let x5 = k.takes i5.p i5.fits in
+    let same : ps ≡ (a.row.name holds i0.p) ∷ (b.row.name holds i1.p) ∷ (c.row.name holds i2.p) ∷ (d.row.name holds i3.p) ∷ (h.row.name holds i4.p) ∷ (k.row.name holds i5.p) ∷ [] =
+    i0.same ∙ ap (λ (qs : List NamedValue). (a.row.name holds i0.p) ∷ qs) (i1.same ∙ ap (λ (qs : List NamedValue). (b.row.name holds i1.p) ∷ qs) (i2.same ∙ ap (λ (qs : List NamedValue). (c.row.name holds i2.p) ∷ qs) (i3.same ∙ ap (λ (qs : List NamedValue). (d.row.name holds i3.p) ∷ qs) (i4.same ∙ ap (λ (qs : List NamedValue). (h.row.name holds i4.p) ∷ qs) (i5.same ∙ ap (λ (qs : List NamedValue). (k.row.name holds i5.p) ∷ qs) (take_none i5.rest i5.later)))))) in
+    subst (Made t) (sym same) (record {
+      kind = make x0.0 x1.0 x2.0 x3.0 x4.0 x5.0;
+      made = reads i0.p i1.p i2.p i3.p i4.p i5.p ∙ rw (x0.1, x1.1, x2.1, x3.1, x4.1, x5.1) refl;
+      values = gives x0.0 x1.0 x2.0 x3.0 x4.0 x5.0 ∙ rw (x0.2, x1.2, x2.2, x3.2, x4.2, x5.2) refl;
+    })
+
+made7 : {A B C D E F G : Type 0} (a : Property A) (b : Property B) (c : Property C) (d : Property D) (h : Property E) (k : Property F) (l : Property G) (t : ElementType) (make : A → B → C → D → E → F → G → Kind)
+    → ((p q r s u v w : Prop) → kind_of t ((a.row.name holds p) ∷ (b.row.name holds q) ∷ (c.row.name holds r) ∷ (d.row.name holds s) ∷ (h.row.name holds u) ∷ (k.row.name holds v) ∷ (l.row.name holds w) ∷ []) ≡ (a.reads p >>= λ x0. b.reads q >>= λ x1. c.reads r >>= λ x2. d.reads s >>= λ x3. h.reads u >>= λ x4. k.reads v >>= λ x5. l.reads w >>= λ x6. Some (make x0 x1 x2 x3 x4 x5 x6)))
+    → ((x0 : A) (x1 : B) (x2 : C) (x3 : D) (x4 : E) (x5 : F) (x6 : G) → values_of (make x0 x1 x2 x3 x4 x5 x6) ≡ (a.row.name holds a.gives x0) ∷ (b.row.name holds b.gives x1) ∷ (c.row.name holds c.gives x2) ∷ (d.row.name holds d.gives x3) ∷ (h.row.name holds h.gives x4) ∷ (k.row.name holds k.gives x5) ∷ (l.row.name holds l.gives x6) ∷ [])
+    → (ps : List NamedValue) → FitsAll (a.row ∷ b.row ∷ c.row ∷ d.row ∷ h.row ∷ k.row ∷ l.row ∷ []) ps → Made t ps
+made7 a b c d h k l t make reads gives ps fit =
+    let i0 = take_one a.row (b.row ∷ c.row ∷ d.row ∷ h.row ∷ k.row ∷ l.row ∷ []) ps fit in
+    let i1 = take_one b.row (c.row ∷ d.row ∷ h.row ∷ k.row ∷ l.row ∷ []) i0.rest i0.later in
+    let i2 = take_one c.row (d.row ∷ h.row ∷ k.row ∷ l.row ∷ []) i1.rest i1.later in
+    let i3 = take_one d.row (h.row ∷ k.row ∷ l.row ∷ []) i2.rest i2.later in
+    let i4 = take_one h.row (k.row ∷ l.row ∷ []) i3.rest i3.later in
+    let i5 = take_one k.row (l.row ∷ []) i4.rest i4.later in
+    let i6 = take_one l.row [] i5.rest i5.later in
+    let x0 = a.takes i0.p i0.fits in
+    let x1 = b.takes i1.p i1.fits in
+    let x2 = c.takes i2.p i2.fits in
+    let x3 = d.takes i3.p i3.fits in
+    let x4 = h.takes i4.p i4.fits in
+    let x5 = k.takes i5.p i5.fits in
+    let x6 = l.takes i6.p i6.fits in
+    let same : ps ≡ (a.row.name holds i0.p) ∷ (b.row.name holds i1.p) ∷ (c.row.name holds i2.p) ∷ (d.row.name holds i3.p) ∷ (h.row.name holds i4.p) ∷ (k.row.name holds i5.p) ∷ (l.row.name holds i6.p) ∷ [] =
+    i0.same ∙ ap (λ (qs : List NamedValue). (a.row.name holds i0.p) ∷ qs) (i1.same ∙ ap (λ (qs : List NamedValue). (b.row.name holds i1.p) ∷ qs) (i2.same ∙ ap (λ (qs : List NamedValue). (c.row.name holds i2.p) ∷ qs) (i3.same ∙ ap (λ (qs : List NamedValue). (d.row.name holds i3.p) ∷ qs) (i4.same ∙ ap (λ (qs : List NamedValue). (h.row.name holds i4.p) ∷ qs) (i5.same ∙ ap (λ (qs : List NamedValue). (k.row.name holds i5.p) ∷ qs) (i6.same ∙ ap (λ (qs : List NamedValue). (l.row.name holds i6.p) ∷ qs) (take_none i6.rest i6.later))))))) in
+    subst (Made t) (sym same) (record {
+      kind = make x0.0 x1.0 x2.0 x3.0 x4.0 x5.0 x6.0;
+      made = reads i0.p i1.p i2.p i3.p i4.p i5.p i6.p ∙ rw (x0.1, x1.1, x2.1, x3.1, x4.1, x5.1, x6.1) refl;
+      values = gives x0.0 x1.0 x2.0 x3.0 x4.0 x5.0 x6.0 ∙ rw (x0.2, x1.2, x2.2, x3.2, x4.2, x5.2, x6.2) refl;
+    })
+
+-- ---- properties by their forms
+
+-- one that has always a value
+abbrev given : {A : Type 0} (row : Row) (reads : Prop → Option A) (gives : A → Prop) → is_optional row.presence ≡ false → ((p : Prop) → FitsForm row.form p → (v : A) × (reads p ≡ Some v) × (gives v ≡ p)) → Property A
+given row reads gives always takes = record { row = row; reads = reads; gives = gives; takes = λ p f. takes p (solid row p always f) }
+
+-- a whole number from 0
+abbrev number : (name : List ℕ) (low high bound : ℕ) (presence : Presence) → is_optional presence ≡ false → nat_lt high bound ≡ true → Property ℕ
+number name low high bound presence always small = given (name is whole (pos low) (pos high) otherwise presence) (number_in bound) (λ n. Number (pos n)) always (λ p f. whole_takes low high bound p small f)
+
+-- one of the values of a choice
+abbrev one_of : {C : Type 0} (name : List ℕ) (word : C → List ℕ) (all : List C) (presence : Presence) → is_optional presence ≡ false → Property C
+one_of name word all presence always = given (name is choice (map word all) otherwise presence) (choice_in word all) (λ x. Word (word x)) always (choice_fits word all)
+
+-- the number of a match
+abbrev match_number : Property ℤ
+match_number = given (codes "match" is whole (negsuc 0) (pos 65536) otherwise number_default (pos 1)) signed_in Number refl (λ p f. signed_takes 65536 p refl f)
+
+abbrev a_template : (name : List ℕ) (presence : Presence) → is_optional presence ≡ false → Property Pieces
+a_template name presence always = given (name is template otherwise presence) template_in Template always template_takes
+
+abbrev filled_text : (name : List ℕ) → Property (List ℕ)
+filled_text name = given (name is filled otherwise required) text_in Text refl filled_takes
+
+abbrev plain_text : (name : List ℕ) (presence : Presence) → is_optional presence ≡ false → Property (List ℕ)
+plain_text name presence always = given (name is plain otherwise presence) text_in Text always plain_takes
+
+abbrev truth : (name : List ℕ) (default : Bool) → Property Bool
+truth name default = given (name is flag otherwise truth_default default) truth_in Truth refl truth_takes
+
+abbrev some_pairs : (name : List ℕ) (presence : Presence) → is_optional presence ≡ false → Property (List Pair)
+some_pairs name presence always = given (name is pairs otherwise presence) pairs_in Pairs always pairs_takes
+
+abbrev default_text : Property (Option (List ℕ))
+default_text = record { row = codes "default" is plain otherwise optional; reads = maybe_in; gives = maybe; takes = maybe_takes (codes "default") }
+
+abbrev reply_field : Property Field
+reply_field = one_of (codes "field") field_word fields first_choice refl
+
+-- ---- each type
+
+test_plan_reads : (p : Prop) → kind_of types.TestPlan ((codes "version" holds p) ∷ [])
+    ≡ (number_in (2 ^ 8) p >>= λ x0. Some (kinds.TestPlan x0))
 unfolding kind_of
-test_plan_with p0 v0 e0 h0 = record { kind = kinds.TestPlan v0; made = rw (e0) refl; values = rw (h0) refl }
+test_plan_reads p = refl
 
-test_plan_made : (version : ℕ) (ps : List Prop) → FitsAll (rows version types.TestPlan) ps → Made types.TestPlan ps
-test_plan_made version ps f =
-    let a0 = take_one (codes "version" is whole (pos 1) (pos 1) otherwise number_default (pos 1)) ([]) ps f in
-    let v0 = whole_takes 1 1 (2 ^ 8) a0.p refl (solid (codes "version" is whole (pos 1) (pos 1) otherwise number_default (pos 1)) a0.p refl a0.fits) in
-    let e : ps ≡ a0.p ∷ [] = a0.same ∙ ap (λ (qs : List Prop). a0.p ∷ qs) (take_none a0.rest a0.later) in
-    let P : List Prop → Type 0 = λ qs. Made types.TestPlan qs in
-    subst P (sym e) (test_plan_with a0.p v0.0 v0.1 v0.2)
+test_plan_made : (version : ℕ) (ps : List NamedValue) → FitsAll (rows version types.TestPlan) ps → Made types.TestPlan ps
+test_plan_made version =
+    made1
+    (number (codes "version") 1 1 (2 ^ 8) (number_default (pos 1)) refl refl)
+    types.TestPlan kinds.TestPlan test_plan_reads (λ x0. refl)
 
-thread_group_with : (p0 p1 p2 p3 : Prop) (v0 : Loops) (v1 : OnError) (v2 : ℕ) (v3 : ℕ) → loops_in p0 ≡ Some v0 → Number (loops_number v0) ≡ p0 → on_error_in p1 ≡ Some v1 → Choice (on_error_place v1) ≡ p1 → number_in (2 ^ 32) p2 ≡ Some v2 → Number (pos v2) ≡ p2 → number_in (2 ^ 16) p3 ≡ Some v3 → Number (pos v3) ≡ p3 → Made types.ThreadGroup (p0 ∷ p1 ∷ p2 ∷ p3 ∷ [])
+thread_group_reads : (p q r s : Prop) → kind_of types.ThreadGroup ((codes "loops" holds p) ∷ (codes "onError" holds q) ∷ (codes "rampMs" holds r) ∷ (codes "threads" holds s) ∷ [])
+    ≡ (loops_in p >>= λ x0. choice_in on_error_word on_errors q >>= λ x1. number_in (2 ^ 32) r >>= λ x2. number_in (2 ^ 16) s >>= λ x3. Some (kinds.ThreadGroup x0 x1 x2 x3))
 unfolding kind_of
-thread_group_with p0 p1 p2 p3 v0 v1 v2 v3 e0 h0 e1 h1 e2 h2 e3 h3 = record { kind = kinds.ThreadGroup v0 v1 v2 v3; made = rw (e0, e1, e2, e3) refl; values = rw (h0, h1, h2, h3) refl }
+thread_group_reads p q r s = refl
 
-thread_group_made : (version : ℕ) (ps : List Prop) → FitsAll (rows version types.ThreadGroup) ps → Made types.ThreadGroup ps
-thread_group_made version ps f =
-    let a0 = take_one (codes "loops" is whole (negsuc 0) (pos 2147483647) otherwise number_default (pos 1)) ((codes "onError" is choice words.on_errors otherwise first_choice) ∷ (codes "rampMs" is whole (pos 0) (pos 86400000) otherwise number_default (pos 0)) ∷ (codes "threads" is whole (pos 1) (pos 64) otherwise number_default (pos 1)) ∷ []) ps f in
-    let v0 = loops_takes 2147483647 a0.p refl (solid (codes "loops" is whole (negsuc 0) (pos 2147483647) otherwise number_default (pos 1)) a0.p refl a0.fits) in
-    let a1 = take_one (codes "onError" is choice words.on_errors otherwise first_choice) ((codes "rampMs" is whole (pos 0) (pos 86400000) otherwise number_default (pos 0)) ∷ (codes "threads" is whole (pos 1) (pos 64) otherwise number_default (pos 1)) ∷ []) a0.rest a0.later in
-    let v1 = on_error_takes a1.p (solid (codes "onError" is choice words.on_errors otherwise first_choice) a1.p refl a1.fits) in
-    let a2 = take_one (codes "rampMs" is whole (pos 0) (pos 86400000) otherwise number_default (pos 0)) ((codes "threads" is whole (pos 1) (pos 64) otherwise number_default (pos 1)) ∷ []) a1.rest a1.later in
-    let v2 = whole_takes 0 86400000 (2 ^ 32) a2.p refl (solid (codes "rampMs" is whole (pos 0) (pos 86400000) otherwise number_default (pos 0)) a2.p refl a2.fits) in
-    let a3 = take_one (codes "threads" is whole (pos 1) (pos 64) otherwise number_default (pos 1)) ([]) a2.rest a2.later in
-    let v3 = whole_takes 1 64 (2 ^ 16) a3.p refl (solid (codes "threads" is whole (pos 1) (pos 64) otherwise number_default (pos 1)) a3.p refl a3.fits) in
-    let e : ps ≡ a0.p ∷ a1.p ∷ a2.p ∷ a3.p ∷ [] = a0.same ∙ ap (λ (qs : List Prop). a0.p ∷ qs) (a1.same ∙ ap (λ (qs : List Prop). a1.p ∷ qs) (a2.same ∙ ap (λ (qs : List Prop). a2.p ∷ qs) (a3.same ∙ ap (λ (qs : List Prop). a3.p ∷ qs) (take_none a3.rest a3.later)))) in
-    let P : List Prop → Type 0 = λ qs. Made types.ThreadGroup qs in
-    subst P (sym e) (thread_group_with a0.p a1.p a2.p a3.p v0.0 v1.0 v2.0 v3.0 v0.1 v0.2 v1.1 v1.2 v2.1 v2.2 v3.1 v3.2)
+thread_group_made : (version : ℕ) (ps : List NamedValue) → FitsAll (rows version types.ThreadGroup) ps → Made types.ThreadGroup ps
+thread_group_made version =
+    made4
+    (given (codes "loops" is whole (negsuc 0) (pos 2147483647) otherwise number_default (pos 1)) loops_in (λ v. Number (loops_number v)) refl (λ p f. loops_takes 2147483647 p refl f))
+    (one_of (codes "onError") on_error_word on_errors first_choice refl)
+    (number (codes "rampMs") 0 86400000 (2 ^ 32) (number_default (pos 0)) refl refl)
+    (number (codes "threads") 1 64 (2 ^ 16) (number_default (pos 1)) refl refl)
+    types.ThreadGroup kinds.ThreadGroup thread_group_reads (λ x0 x1 x2 x3. refl)
 
-simple_made : (version : ℕ) (ps : List Prop) → FitsAll (rows version types.Simple) ps → Made types.Simple ps
+simple_made : (version : ℕ) (ps : List NamedValue) → FitsAll (rows version types.Simple) ps → Made types.Simple ps
 unfolding kind_of
-simple_made version ps f =
-    let e : ps ≡ [] = take_none ps f in
-    let P : List Prop → Type 0 = λ qs. Made types.Simple qs in
-    subst P (sym e) (record { kind = kinds.Simple; made = refl; values = refl })
+simple_made version = made0 types.Simple kinds.Simple refl refl
 
-once_only_made : (version : ℕ) (ps : List Prop) → FitsAll (rows version types.OnceOnly) ps → Made types.OnceOnly ps
+once_only_made : (version : ℕ) (ps : List NamedValue) → FitsAll (rows version types.OnceOnly) ps → Made types.OnceOnly ps
 unfolding kind_of
-once_only_made version ps f =
-    let e : ps ≡ [] = take_none ps f in
-    let P : List Prop → Type 0 = λ qs. Made types.OnceOnly qs in
-    subst P (sym e) (record { kind = kinds.OnceOnly; made = refl; values = refl })
+once_only_made version = made0 types.OnceOnly kinds.OnceOnly refl refl
 
-interleave_made : (version : ℕ) (ps : List Prop) → FitsAll (rows version types.Interleave) ps → Made types.Interleave ps
+interleave_made : (version : ℕ) (ps : List NamedValue) → FitsAll (rows version types.Interleave) ps → Made types.Interleave ps
 unfolding kind_of
-interleave_made version ps f =
-    let e : ps ≡ [] = take_none ps f in
-    let P : List Prop → Type 0 = λ qs. Made types.Interleave qs in
-    subst P (sym e) (record { kind = kinds.Interleave; made = refl; values = refl })
+interleave_made version = made0 types.Interleave kinds.Interleave refl refl
 
-random_made : (version : ℕ) (ps : List Prop) → FitsAll (rows version types.Random) ps → Made types.Random ps
+random_made : (version : ℕ) (ps : List NamedValue) → FitsAll (rows version types.Random) ps → Made types.Random ps
 unfolding kind_of
-random_made version ps f =
-    let e : ps ≡ [] = take_none ps f in
-    let P : List Prop → Type 0 = λ qs. Made types.Random qs in
-    subst P (sym e) (record { kind = kinds.Random; made = refl; values = refl })
+random_made version = made0 types.Random kinds.Random refl refl
 
-random_order_made : (version : ℕ) (ps : List Prop) → FitsAll (rows version types.RandomOrder) ps → Made types.RandomOrder ps
+random_order_made : (version : ℕ) (ps : List NamedValue) → FitsAll (rows version types.RandomOrder) ps → Made types.RandomOrder ps
 unfolding kind_of
-random_order_made version ps f =
-    let e : ps ≡ [] = take_none ps f in
-    let P : List Prop → Type 0 = λ qs. Made types.RandomOrder qs in
-    subst P (sym e) (record { kind = kinds.RandomOrder; made = refl; values = refl })
+random_order_made version = made0 types.RandomOrder kinds.RandomOrder refl refl
 
-transaction_made : (version : ℕ) (ps : List Prop) → FitsAll (rows version types.Transaction) ps → Made types.Transaction ps
+transaction_made : (version : ℕ) (ps : List NamedValue) → FitsAll (rows version types.Transaction) ps → Made types.Transaction ps
 unfolding kind_of
-transaction_made version ps f =
-    let e : ps ≡ [] = take_none ps f in
-    let P : List Prop → Type 0 = λ qs. Made types.Transaction qs in
-    subst P (sym e) (record { kind = kinds.Transaction; made = refl; values = refl })
+transaction_made version = made0 types.Transaction kinds.Transaction refl refl
 
-loop_with : (p0 : Prop) (v0 : Pieces) → template_in p0 ≡ Some v0 → Template v0 ≡ p0 → Made types.Loop (p0 ∷ [])
+loop_reads : (p : Prop) → kind_of types.Loop ((codes "loops" holds p) ∷ [])
+    ≡ (template_in p >>= λ x0. Some (kinds.Loop x0))
 unfolding kind_of
-loop_with p0 v0 e0 h0 = record { kind = kinds.Loop v0; made = rw (e0) refl; values = rw (h0) refl }
+loop_reads p = refl
 
-loop_made : (version : ℕ) (ps : List Prop) → FitsAll (rows version types.Loop) ps → Made types.Loop ps
-loop_made version ps f =
-    let a0 = take_one (codes "loops" is template otherwise text_default (codes "1")) ([]) ps f in
-    let v0 = template_takes a0.p (solid (codes "loops" is template otherwise text_default (codes "1")) a0.p refl a0.fits) in
-    let e : ps ≡ a0.p ∷ [] = a0.same ∙ ap (λ (qs : List Prop). a0.p ∷ qs) (take_none a0.rest a0.later) in
-    let P : List Prop → Type 0 = λ qs. Made types.Loop qs in
-    subst P (sym e) (loop_with a0.p v0.0 v0.1 v0.2)
+loop_made : (version : ℕ) (ps : List NamedValue) → FitsAll (rows version types.Loop) ps → Made types.Loop ps
+loop_made version =
+    made1
+    (a_template (codes "loops") (text_default (codes "1")) refl)
+    types.Loop kinds.Loop loop_reads (λ x0. refl)
 
-if_with : (p0 p1 : Prop) (v0 : Bool) (v1 : Pieces) → truth_in p0 ≡ Some v0 → Truth v0 ≡ p0 → template_in p1 ≡ Some v1 → Template v1 ≡ p1 → Made types.If (p0 ∷ p1 ∷ [])
+if_reads : (p q : Prop) → kind_of types.If ((codes "all" holds p) ∷ (codes "condition" holds q) ∷ [])
+    ≡ (truth_in p >>= λ x0. template_in q >>= λ x1. Some (kinds.If x0 x1))
 unfolding kind_of
-if_with p0 p1 v0 v1 e0 h0 e1 h1 = record { kind = kinds.If v0 v1; made = rw (e0, e1) refl; values = rw (h0, h1) refl }
+if_reads p q = refl
 
-if_made : (version : ℕ) (ps : List Prop) → FitsAll (rows version types.If) ps → Made types.If ps
-if_made version ps f =
-    let a0 = take_one (codes "all" is flag otherwise truth_default false) ((codes "condition" is template otherwise required) ∷ []) ps f in
-    let v0 = truth_takes a0.p (solid (codes "all" is flag otherwise truth_default false) a0.p refl a0.fits) in
-    let a1 = take_one (codes "condition" is template otherwise required) ([]) a0.rest a0.later in
-    let v1 = template_takes a1.p (solid (codes "condition" is template otherwise required) a1.p refl a1.fits) in
-    let e : ps ≡ a0.p ∷ a1.p ∷ [] = a0.same ∙ ap (λ (qs : List Prop). a0.p ∷ qs) (a1.same ∙ ap (λ (qs : List Prop). a1.p ∷ qs) (take_none a1.rest a1.later)) in
-    let P : List Prop → Type 0 = λ qs. Made types.If qs in
-    subst P (sym e) (if_with a0.p a1.p v0.0 v1.0 v0.1 v0.2 v1.1 v1.2)
+if_made : (version : ℕ) (ps : List NamedValue) → FitsAll (rows version types.If) ps → Made types.If ps
+if_made version =
+    made2
+    (truth (codes "all") false)
+    (a_template (codes "condition") required refl)
+    types.If kinds.If if_reads (λ x0 x1. refl)
 
-while_with : (p0 : Prop) (v0 : Pieces) → template_in p0 ≡ Some v0 → Template v0 ≡ p0 → Made types.While (p0 ∷ [])
+while_reads : (p : Prop) → kind_of types.While ((codes "condition" holds p) ∷ [])
+    ≡ (template_in p >>= λ x0. Some (kinds.While x0))
 unfolding kind_of
-while_with p0 v0 e0 h0 = record { kind = kinds.While v0; made = rw (e0) refl; values = rw (h0) refl }
+while_reads p = refl
 
-while_made : (version : ℕ) (ps : List Prop) → FitsAll (rows version types.While) ps → Made types.While ps
-while_made version ps f =
-    let a0 = take_one (codes "condition" is template otherwise text_default []) ([]) ps f in
-    let v0 = template_takes a0.p (solid (codes "condition" is template otherwise text_default []) a0.p refl a0.fits) in
-    let e : ps ≡ a0.p ∷ [] = a0.same ∙ ap (λ (qs : List Prop). a0.p ∷ qs) (take_none a0.rest a0.later) in
-    let P : List Prop → Type 0 = λ qs. Made types.While qs in
-    subst P (sym e) (while_with a0.p v0.0 v0.1 v0.2)
+while_made : (version : ℕ) (ps : List NamedValue) → FitsAll (rows version types.While) ps → Made types.While ps
+while_made version =
+    made1
+    (a_template (codes "condition") (text_default []) refl)
+    types.While kinds.While while_reads (λ x0. refl)
 
-switch_with : (p0 : Prop) (v0 : Pieces) → template_in p0 ≡ Some v0 → Template v0 ≡ p0 → Made types.Switch (p0 ∷ [])
+switch_reads : (p : Prop) → kind_of types.Switch ((codes "value" holds p) ∷ [])
+    ≡ (template_in p >>= λ x0. Some (kinds.Switch x0))
 unfolding kind_of
-switch_with p0 v0 e0 h0 = record { kind = kinds.Switch v0; made = rw (e0) refl; values = rw (h0) refl }
+switch_reads p = refl
 
-switch_made : (version : ℕ) (ps : List Prop) → FitsAll (rows version types.Switch) ps → Made types.Switch ps
-switch_made version ps f =
-    let a0 = take_one (codes "value" is template otherwise text_default []) ([]) ps f in
-    let v0 = template_takes a0.p (solid (codes "value" is template otherwise text_default []) a0.p refl a0.fits) in
-    let e : ps ≡ a0.p ∷ [] = a0.same ∙ ap (λ (qs : List Prop). a0.p ∷ qs) (take_none a0.rest a0.later) in
-    let P : List Prop → Type 0 = λ qs. Made types.Switch qs in
-    subst P (sym e) (switch_with a0.p v0.0 v0.1 v0.2)
+switch_made : (version : ℕ) (ps : List NamedValue) → FitsAll (rows version types.Switch) ps → Made types.Switch ps
+switch_made version =
+    made1
+    (a_template (codes "value") (text_default []) refl)
+    types.Switch kinds.Switch switch_reads (λ x0. refl)
 
-for_each_with : (p0 p1 p2 p3 p4 : Prop) (v0 : ℕ) (v1 : List ℕ) (v2 : List ℕ) (v3 : Bool) (v4 : ℕ) → number_in (2 ^ 32) p0 ≡ Some v0 → Number (pos v0) ≡ p0 → text_in p1 ≡ Some v1 → Text v1 ≡ p1 → text_in p2 ≡ Some v2 → Text v2 ≡ p2 → truth_in p3 ≡ Some v3 → Truth v3 ≡ p3 → number_in (2 ^ 32) p4 ≡ Some v4 → Number (pos v4) ≡ p4 → Made types.ForEach (p0 ∷ p1 ∷ p2 ∷ p3 ∷ p4 ∷ [])
+for_each_reads : (p q r s u : Prop) → kind_of types.ForEach ((codes "end" holds p) ∷ (codes "input" holds q) ∷ (codes "output" holds r) ∷ (codes "separator" holds s) ∷ (codes "start" holds u) ∷ [])
+    ≡ (number_in (2 ^ 32) p >>= λ x0. text_in q >>= λ x1. text_in r >>= λ x2. truth_in s >>= λ x3. number_in (2 ^ 32) u >>= λ x4. Some (kinds.ForEach x0 x1 x2 x3 x4))
 unfolding kind_of
-for_each_with p0 p1 p2 p3 p4 v0 v1 v2 v3 v4 e0 h0 e1 h1 e2 h2 e3 h3 e4 h4 = record { kind = kinds.ForEach v0 v1 v2 v3 v4; made = rw (e0, e1, e2, e3, e4) refl; values = rw (h0, h1, h2, h3, h4) refl }
+for_each_reads p q r s u = refl
 
-for_each_made : (version : ℕ) (ps : List Prop) → FitsAll (rows version types.ForEach) ps → Made types.ForEach ps
-for_each_made version ps f =
-    let a0 = take_one (codes "end" is whole (pos 0) (pos 4294967295) otherwise number_default (pos 4294967295)) ((codes "input" is filled otherwise required) ∷ (codes "output" is filled otherwise required) ∷ (codes "separator" is flag otherwise truth_default true) ∷ (codes "start" is whole (pos 0) (pos 4294967295) otherwise number_default (pos 0)) ∷ []) ps f in
-    let v0 = whole_takes 0 4294967295 (2 ^ 32) a0.p refl (solid (codes "end" is whole (pos 0) (pos 4294967295) otherwise number_default (pos 4294967295)) a0.p refl a0.fits) in
-    let a1 = take_one (codes "input" is filled otherwise required) ((codes "output" is filled otherwise required) ∷ (codes "separator" is flag otherwise truth_default true) ∷ (codes "start" is whole (pos 0) (pos 4294967295) otherwise number_default (pos 0)) ∷ []) a0.rest a0.later in
-    let v1 = filled_takes a1.p (solid (codes "input" is filled otherwise required) a1.p refl a1.fits) in
-    let a2 = take_one (codes "output" is filled otherwise required) ((codes "separator" is flag otherwise truth_default true) ∷ (codes "start" is whole (pos 0) (pos 4294967295) otherwise number_default (pos 0)) ∷ []) a1.rest a1.later in
-    let v2 = filled_takes a2.p (solid (codes "output" is filled otherwise required) a2.p refl a2.fits) in
-    let a3 = take_one (codes "separator" is flag otherwise truth_default true) ((codes "start" is whole (pos 0) (pos 4294967295) otherwise number_default (pos 0)) ∷ []) a2.rest a2.later in
-    let v3 = truth_takes a3.p (solid (codes "separator" is flag otherwise truth_default true) a3.p refl a3.fits) in
-    let a4 = take_one (codes "start" is whole (pos 0) (pos 4294967295) otherwise number_default (pos 0)) ([]) a3.rest a3.later in
-    let v4 = whole_takes 0 4294967295 (2 ^ 32) a4.p refl (solid (codes "start" is whole (pos 0) (pos 4294967295) otherwise number_default (pos 0)) a4.p refl a4.fits) in
-    let e : ps ≡ a0.p ∷ a1.p ∷ a2.p ∷ a3.p ∷ a4.p ∷ [] = a0.same ∙ ap (λ (qs : List Prop). a0.p ∷ qs) (a1.same ∙ ap (λ (qs : List Prop). a1.p ∷ qs) (a2.same ∙ ap (λ (qs : List Prop). a2.p ∷ qs) (a3.same ∙ ap (λ (qs : List Prop). a3.p ∷ qs) (a4.same ∙ ap (λ (qs : List Prop). a4.p ∷ qs) (take_none a4.rest a4.later))))) in
-    let P : List Prop → Type 0 = λ qs. Made types.ForEach qs in
-    subst P (sym e) (for_each_with a0.p a1.p a2.p a3.p a4.p v0.0 v1.0 v2.0 v3.0 v4.0 v0.1 v0.2 v1.1 v1.2 v2.1 v2.2 v3.1 v3.2 v4.1 v4.2)
+for_each_made : (version : ℕ) (ps : List NamedValue) → FitsAll (rows version types.ForEach) ps → Made types.ForEach ps
+for_each_made version =
+    made5
+    (number (codes "end") 0 4294967295 (2 ^ 32) (number_default (pos 4294967295)) refl refl)
+    (filled_text (codes "input"))
+    (filled_text (codes "output"))
+    (truth (codes "separator") true)
+    (number (codes "start") 0 4294967295 (2 ^ 32) (number_default (pos 0)) refl refl)
+    types.ForEach kinds.ForEach for_each_reads (λ x0 x1 x2 x3 x4. refl)
 
-critical_section_with : (p0 : Prop) (v0 : List ℕ) → text_in p0 ≡ Some v0 → Text v0 ≡ p0 → Made types.CriticalSection (p0 ∷ [])
+critical_section_reads : (p : Prop) → kind_of types.CriticalSection ((codes "lock" holds p) ∷ [])
+    ≡ (text_in p >>= λ x0. Some (kinds.CriticalSection x0))
 unfolding kind_of
-critical_section_with p0 v0 e0 h0 = record { kind = kinds.CriticalSection v0; made = rw (e0) refl; values = rw (h0) refl }
+critical_section_reads p = refl
 
-critical_section_made : (version : ℕ) (ps : List Prop) → FitsAll (rows version types.CriticalSection) ps → Made types.CriticalSection ps
-critical_section_made version ps f =
-    let a0 = take_one (codes "lock" is lock otherwise required) ([]) ps f in
-    let v0 = lock_takes a0.p (solid (codes "lock" is lock otherwise required) a0.p refl a0.fits) in
-    let e : ps ≡ a0.p ∷ [] = a0.same ∙ ap (λ (qs : List Prop). a0.p ∷ qs) (take_none a0.rest a0.later) in
-    let P : List Prop → Type 0 = λ qs. Made types.CriticalSection qs in
-    subst P (sym e) (critical_section_with a0.p v0.0 v0.1 v0.2)
+critical_section_made : (version : ℕ) (ps : List NamedValue) → FitsAll (rows version types.CriticalSection) ps → Made types.CriticalSection ps
+critical_section_made version =
+    made1
+    (given (codes "lock" is lock otherwise required) text_in Text refl lock_takes)
+    types.CriticalSection kinds.CriticalSection critical_section_reads (λ x0. refl)
 
-script_with : (p0 p1 : Prop) (v0 : List ScriptReply) (v1 : Pieces) → replies_in p0 ≡ Some v0 → Replies v0 ≡ p0 → template_in p1 ≡ Some v1 → Template v1 ≡ p1 → Made types.Script (p0 ∷ p1 ∷ [])
+script_reads : (p q : Prop) → kind_of types.Script ((codes "replies" holds p) ∷ (codes "request" holds q) ∷ [])
+    ≡ (replies_in p >>= λ x0. template_in q >>= λ x1. Some (kinds.Script x0 x1))
 unfolding kind_of
-script_with p0 p1 v0 v1 e0 h0 e1 h1 = record { kind = kinds.Script v0 v1; made = rw (e0, e1) refl; values = rw (h0, h1) refl }
+script_reads p q = refl
 
-script_made : (version : ℕ) (ps : List Prop) → FitsAll (rows version types.Script) ps → Made types.Script ps
-script_made version ps f =
-    let a0 = take_one (codes "replies" is replies otherwise required) ((codes "request" is template otherwise text_default []) ∷ []) ps f in
-    let v0 = replies_takes a0.p (solid (codes "replies" is replies otherwise required) a0.p refl a0.fits) in
-    let a1 = take_one (codes "request" is template otherwise text_default []) ([]) a0.rest a0.later in
-    let v1 = template_takes a1.p (solid (codes "request" is template otherwise text_default []) a1.p refl a1.fits) in
-    let e : ps ≡ a0.p ∷ a1.p ∷ [] = a0.same ∙ ap (λ (qs : List Prop). a0.p ∷ qs) (a1.same ∙ ap (λ (qs : List Prop). a1.p ∷ qs) (take_none a1.rest a1.later)) in
-    let P : List Prop → Type 0 = λ qs. Made types.Script qs in
-    subst P (sym e) (script_with a0.p a1.p v0.0 v1.0 v0.1 v0.2 v1.1 v1.2)
+script_made : (version : ℕ) (ps : List NamedValue) → FitsAll (rows version types.Script) ps → Made types.Script ps
+script_made version =
+    made2
+    (given (codes "replies" is replies otherwise required) replies_in Replies refl replies_takes)
+    (a_template (codes "request") (text_default []) refl)
+    types.Script kinds.Script script_reads (λ x0 x1. refl)
 
-http_with : (p0 p1 p2 p3 p4 p5 p6 : Prop) (v0 : Pieces) (v1 : Pieces) (v2 : Method) (v3 : List Pair) (v4 : Pieces) (v5 : Pieces) (v6 : Option (List ScriptReply)) → template_in p0 ≡ Some v0 → Template v0 ≡ p0 → template_in p1 ≡ Some v1 → Template v1 ≡ p1 → method_in p2 ≡ Some v2 → Choice (method_place v2) ≡ p2 → pairs_in p3 ≡ Some v3 → Pairs v3 ≡ p3 → template_in p4 ≡ Some v4 → Template v4 ≡ p4 → template_in p5 ≡ Some v5 → Template v5 ≡ p5 → maybe_replies_in p6 ≡ Some v6 → maybe_replies v6 ≡ p6 → Made types.Http (p0 ∷ p1 ∷ p2 ∷ p3 ∷ p4 ∷ p5 ∷ p6 ∷ [])
+http_reads : (p q r s u v w : Prop) → kind_of types.Http ((codes "body" holds p) ∷ (codes "host" holds q) ∷ (codes "method" holds r) ∷ (codes "params" holds s) ∷ (codes "path" holds u) ∷ (codes "port" holds v) ∷ (codes "replies" holds w) ∷ [])
+    ≡ (template_in p >>= λ x0. template_in q >>= λ x1. choice_in method_word methods r >>= λ x2. pairs_in s >>= λ x3. template_in u >>= λ x4. template_in v >>= λ x5. maybe_replies_in w >>= λ x6. Some (kinds.Http x0 x1 x2 x3 x4 x5 x6))
 unfolding kind_of
-http_with p0 p1 p2 p3 p4 p5 p6 v0 v1 v2 v3 v4 v5 v6 e0 h0 e1 h1 e2 h2 e3 h3 e4 h4 e5 h5 e6 h6 = record { kind = kinds.Http v0 v1 v2 v3 v4 v5 v6; made = rw (e0, e1, e2, e3, e4, e5, e6) refl; values = rw (h0, h1, h2, h3, h4, h5, h6) refl }
+http_reads p q r s u v w = refl
 
-http_made : (version : ℕ) (ps : List Prop) → FitsAll (rows version types.Http) ps → Made types.Http ps
-http_made version ps f =
-    let a0 = take_one (codes "body" is template otherwise text_default []) ((codes "host" is template otherwise text_default []) ∷ (codes "method" is choice words.methods otherwise first_choice) ∷ (codes "params" is pairs otherwise no_pairs) ∷ (codes "path" is template otherwise text_default []) ∷ (codes "port" is template otherwise text_default []) ∷ (codes "replies" is replies otherwise optional) ∷ []) ps f in
-    let v0 = template_takes a0.p (solid (codes "body" is template otherwise text_default []) a0.p refl a0.fits) in
-    let a1 = take_one (codes "host" is template otherwise text_default []) ((codes "method" is choice words.methods otherwise first_choice) ∷ (codes "params" is pairs otherwise no_pairs) ∷ (codes "path" is template otherwise text_default []) ∷ (codes "port" is template otherwise text_default []) ∷ (codes "replies" is replies otherwise optional) ∷ []) a0.rest a0.later in
-    let v1 = template_takes a1.p (solid (codes "host" is template otherwise text_default []) a1.p refl a1.fits) in
-    let a2 = take_one (codes "method" is choice words.methods otherwise first_choice) ((codes "params" is pairs otherwise no_pairs) ∷ (codes "path" is template otherwise text_default []) ∷ (codes "port" is template otherwise text_default []) ∷ (codes "replies" is replies otherwise optional) ∷ []) a1.rest a1.later in
-    let v2 = method_takes a2.p (solid (codes "method" is choice words.methods otherwise first_choice) a2.p refl a2.fits) in
-    let a3 = take_one (codes "params" is pairs otherwise no_pairs) ((codes "path" is template otherwise text_default []) ∷ (codes "port" is template otherwise text_default []) ∷ (codes "replies" is replies otherwise optional) ∷ []) a2.rest a2.later in
-    let v3 = pairs_takes a3.p (solid (codes "params" is pairs otherwise no_pairs) a3.p refl a3.fits) in
-    let a4 = take_one (codes "path" is template otherwise text_default []) ((codes "port" is template otherwise text_default []) ∷ (codes "replies" is replies otherwise optional) ∷ []) a3.rest a3.later in
-    let v4 = template_takes a4.p (solid (codes "path" is template otherwise text_default []) a4.p refl a4.fits) in
-    let a5 = take_one (codes "port" is template otherwise text_default []) ((codes "replies" is replies otherwise optional) ∷ []) a4.rest a4.later in
-    let v5 = template_takes a5.p (solid (codes "port" is template otherwise text_default []) a5.p refl a5.fits) in
-    let a6 = take_one (codes "replies" is replies otherwise optional) ([]) a5.rest a5.later in
-    let v6 = maybe_replies_takes (codes "replies") a6.p a6.fits in
-    let e : ps ≡ a0.p ∷ a1.p ∷ a2.p ∷ a3.p ∷ a4.p ∷ a5.p ∷ a6.p ∷ [] = a0.same ∙ ap (λ (qs : List Prop). a0.p ∷ qs) (a1.same ∙ ap (λ (qs : List Prop). a1.p ∷ qs) (a2.same ∙ ap (λ (qs : List Prop). a2.p ∷ qs) (a3.same ∙ ap (λ (qs : List Prop). a3.p ∷ qs) (a4.same ∙ ap (λ (qs : List Prop). a4.p ∷ qs) (a5.same ∙ ap (λ (qs : List Prop). a5.p ∷ qs) (a6.same ∙ ap (λ (qs : List Prop). a6.p ∷ qs) (take_none a6.rest a6.later))))))) in
-    let P : List Prop → Type 0 = λ qs. Made types.Http qs in
-    subst P (sym e) (http_with a0.p a1.p a2.p a3.p a4.p a5.p a6.p v0.0 v1.0 v2.0 v3.0 v4.0 v5.0 v6.0 v0.1 v0.2 v1.1 v1.2 v2.1 v2.2 v3.1 v3.2 v4.1 v4.2 v5.1 v5.2 v6.1 v6.2)
+http_made : (version : ℕ) (ps : List NamedValue) → FitsAll (rows version types.Http) ps → Made types.Http ps
+http_made version =
+    made7
+    (a_template (codes "body") (text_default []) refl)
+    (a_template (codes "host") (text_default []) refl)
+    (one_of (codes "method") method_word methods first_choice refl)
+    (some_pairs (codes "params") no_pairs refl)
+    (a_template (codes "path") (text_default []) refl)
+    (a_template (codes "port") (text_default []) refl)
+    (record { row = codes "replies" is replies otherwise optional; reads = maybe_replies_in; gives = maybe_replies; takes = maybe_replies_takes (codes "replies") })
+    types.Http kinds.Http http_reads (λ x0 x1 x2 x3 x4 x5 x6. refl)
 
-user_variables_with : (p0 : Prop) (v0 : List Pair) → pairs_in p0 ≡ Some v0 → Pairs v0 ≡ p0 → Made types.UserVariables (p0 ∷ [])
+user_variables_reads : (p : Prop) → kind_of types.UserVariables ((codes "vars" holds p) ∷ [])
+    ≡ (pairs_in p >>= λ x0. Some (kinds.UserVariables x0))
 unfolding kind_of
-user_variables_with p0 v0 e0 h0 = record { kind = kinds.UserVariables v0; made = rw (e0) refl; values = rw (h0) refl }
+user_variables_reads p = refl
 
-user_variables_made : (version : ℕ) (ps : List Prop) → FitsAll (rows version types.UserVariables) ps → Made types.UserVariables ps
-user_variables_made version ps f =
-    let a0 = take_one (codes "vars" is pairs otherwise required) ([]) ps f in
-    let v0 = pairs_takes a0.p (solid (codes "vars" is pairs otherwise required) a0.p refl a0.fits) in
-    let e : ps ≡ a0.p ∷ [] = a0.same ∙ ap (λ (qs : List Prop). a0.p ∷ qs) (take_none a0.rest a0.later) in
-    let P : List Prop → Type 0 = λ qs. Made types.UserVariables qs in
-    subst P (sym e) (user_variables_with a0.p v0.0 v0.1 v0.2)
+user_variables_made : (version : ℕ) (ps : List NamedValue) → FitsAll (rows version types.UserVariables) ps → Made types.UserVariables ps
+user_variables_made version =
+    made1
+    (some_pairs (codes "vars") required refl)
+    types.UserVariables kinds.UserVariables user_variables_reads (λ x0. refl)
 
-http_defaults_with : (p0 p1 p2 : Prop) (v0 : Pieces) (v1 : Pieces) (v2 : Pieces) → template_in p0 ≡ Some v0 → Template v0 ≡ p0 → template_in p1 ≡ Some v1 → Template v1 ≡ p1 → template_in p2 ≡ Some v2 → Template v2 ≡ p2 → Made types.HttpDefaults (p0 ∷ p1 ∷ p2 ∷ [])
+http_defaults_reads : (p q r : Prop) → kind_of types.HttpDefaults ((codes "host" holds p) ∷ (codes "path" holds q) ∷ (codes "port" holds r) ∷ [])
+    ≡ (template_in p >>= λ x0. template_in q >>= λ x1. template_in r >>= λ x2. Some (kinds.HttpDefaults x0 x1 x2))
 unfolding kind_of
-http_defaults_with p0 p1 p2 v0 v1 v2 e0 h0 e1 h1 e2 h2 = record { kind = kinds.HttpDefaults v0 v1 v2; made = rw (e0, e1, e2) refl; values = rw (h0, h1, h2) refl }
+http_defaults_reads p q r = refl
 
-http_defaults_made : (version : ℕ) (ps : List Prop) → FitsAll (rows version types.HttpDefaults) ps → Made types.HttpDefaults ps
-http_defaults_made version ps f =
-    let a0 = take_one (codes "host" is template otherwise text_default []) ((codes "path" is template otherwise text_default []) ∷ (codes "port" is template otherwise text_default []) ∷ []) ps f in
-    let v0 = template_takes a0.p (solid (codes "host" is template otherwise text_default []) a0.p refl a0.fits) in
-    let a1 = take_one (codes "path" is template otherwise text_default []) ((codes "port" is template otherwise text_default []) ∷ []) a0.rest a0.later in
-    let v1 = template_takes a1.p (solid (codes "path" is template otherwise text_default []) a1.p refl a1.fits) in
-    let a2 = take_one (codes "port" is template otherwise text_default []) ([]) a1.rest a1.later in
-    let v2 = template_takes a2.p (solid (codes "port" is template otherwise text_default []) a2.p refl a2.fits) in
-    let e : ps ≡ a0.p ∷ a1.p ∷ a2.p ∷ [] = a0.same ∙ ap (λ (qs : List Prop). a0.p ∷ qs) (a1.same ∙ ap (λ (qs : List Prop). a1.p ∷ qs) (a2.same ∙ ap (λ (qs : List Prop). a2.p ∷ qs) (take_none a2.rest a2.later))) in
-    let P : List Prop → Type 0 = λ qs. Made types.HttpDefaults qs in
-    subst P (sym e) (http_defaults_with a0.p a1.p a2.p v0.0 v1.0 v2.0 v0.1 v0.2 v1.1 v1.2 v2.1 v2.2)
+http_defaults_made : (version : ℕ) (ps : List NamedValue) → FitsAll (rows version types.HttpDefaults) ps → Made types.HttpDefaults ps
+http_defaults_made version =
+    made3
+    (a_template (codes "host") (text_default []) refl)
+    (a_template (codes "path") (text_default []) refl)
+    (a_template (codes "port") (text_default []) refl)
+    types.HttpDefaults kinds.HttpDefaults http_defaults_reads (λ x0 x1 x2. refl)
 
-header_manager_with : (p0 : Prop) (v0 : List Pair) → pairs_in p0 ≡ Some v0 → Pairs v0 ≡ p0 → Made types.HeaderManager (p0 ∷ [])
+header_manager_reads : (p : Prop) → kind_of types.HeaderManager ((codes "headers" holds p) ∷ [])
+    ≡ (pairs_in p >>= λ x0. Some (kinds.HeaderManager x0))
 unfolding kind_of
-header_manager_with p0 v0 e0 h0 = record { kind = kinds.HeaderManager v0; made = rw (e0) refl; values = rw (h0) refl }
+header_manager_reads p = refl
 
-header_manager_made : (version : ℕ) (ps : List Prop) → FitsAll (rows version types.HeaderManager) ps → Made types.HeaderManager ps
-header_manager_made version ps f =
-    let a0 = take_one (codes "headers" is pairs otherwise required) ([]) ps f in
-    let v0 = pairs_takes a0.p (solid (codes "headers" is pairs otherwise required) a0.p refl a0.fits) in
-    let e : ps ≡ a0.p ∷ [] = a0.same ∙ ap (λ (qs : List Prop). a0.p ∷ qs) (take_none a0.rest a0.later) in
-    let P : List Prop → Type 0 = λ qs. Made types.HeaderManager qs in
-    subst P (sym e) (header_manager_with a0.p v0.0 v0.1 v0.2)
+header_manager_made : (version : ℕ) (ps : List NamedValue) → FitsAll (rows version types.HeaderManager) ps → Made types.HeaderManager ps
+header_manager_made version =
+    made1
+    (some_pairs (codes "headers") required refl)
+    types.HeaderManager kinds.HeaderManager header_manager_reads (λ x0. refl)
 
-counter_with : (p0 p1 p2 p3 : Prop) (v0 : ℕ) (v1 : ℕ) (v2 : ℕ) (v3 : List ℕ) → number_in (2 ^ 64) p0 ≡ Some v0 → Number (pos v0) ≡ p0 → number_in (2 ^ 64) p1 ≡ Some v1 → Number (pos v1) ≡ p1 → number_in (2 ^ 64) p2 ≡ Some v2 → Number (pos v2) ≡ p2 → text_in p3 ≡ Some v3 → Text v3 ≡ p3 → Made types.Counter (p0 ∷ p1 ∷ p2 ∷ p3 ∷ [])
+counter_reads : (p q r s : Prop) → kind_of types.Counter ((codes "increment" holds p) ∷ (codes "maximum" holds q) ∷ (codes "start" holds r) ∷ (codes "var" holds s) ∷ [])
+    ≡ (number_in (2 ^ 64) p >>= λ x0. number_in (2 ^ 64) q >>= λ x1. number_in (2 ^ 64) r >>= λ x2. text_in s >>= λ x3. Some (kinds.Counter x0 x1 x2 x3))
 unfolding kind_of
-counter_with p0 p1 p2 p3 v0 v1 v2 v3 e0 h0 e1 h1 e2 h2 e3 h3 = record { kind = kinds.Counter v0 v1 v2 v3; made = rw (e0, e1, e2, e3) refl; values = rw (h0, h1, h2, h3) refl }
+counter_reads p q r s = refl
 
-counter_made : (version : ℕ) (ps : List Prop) → FitsAll (rows version types.Counter) ps → Made types.Counter ps
-counter_made version ps f =
-    let a0 = take_one (codes "increment" is whole (pos 0) largest otherwise number_default (pos 0)) ((codes "maximum" is whole (pos 0) largest otherwise number_default largest) ∷ (codes "start" is up_to (codes "maximum") otherwise number_default (pos 0)) ∷ (codes "var" is plain otherwise required) ∷ []) ps f in
-    let v0 = whole_takes 0 (2 ^ 63 - 1) (2 ^ 64) a0.p refl (solid (codes "increment" is whole (pos 0) largest otherwise number_default (pos 0)) a0.p refl a0.fits) in
-    let a1 = take_one (codes "maximum" is whole (pos 0) largest otherwise number_default largest) ((codes "start" is up_to (codes "maximum") otherwise number_default (pos 0)) ∷ (codes "var" is plain otherwise required) ∷ []) a0.rest a0.later in
-    let v1 = whole_takes 0 (2 ^ 63 - 1) (2 ^ 64) a1.p refl (solid (codes "maximum" is whole (pos 0) largest otherwise number_default largest) a1.p refl a1.fits) in
-    let a2 = take_one (codes "start" is up_to (codes "maximum") otherwise number_default (pos 0)) ((codes "var" is plain otherwise required) ∷ []) a1.rest a1.later in
-    let v2 = up_to_takes (codes "maximum") (2 ^ 64) a2.p refl (solid (codes "start" is up_to (codes "maximum") otherwise number_default (pos 0)) a2.p refl a2.fits) in
-    let a3 = take_one (codes "var" is plain otherwise required) ([]) a2.rest a2.later in
-    let v3 = plain_takes a3.p (solid (codes "var" is plain otherwise required) a3.p refl a3.fits) in
-    let e : ps ≡ a0.p ∷ a1.p ∷ a2.p ∷ a3.p ∷ [] = a0.same ∙ ap (λ (qs : List Prop). a0.p ∷ qs) (a1.same ∙ ap (λ (qs : List Prop). a1.p ∷ qs) (a2.same ∙ ap (λ (qs : List Prop). a2.p ∷ qs) (a3.same ∙ ap (λ (qs : List Prop). a3.p ∷ qs) (take_none a3.rest a3.later)))) in
-    let P : List Prop → Type 0 = λ qs. Made types.Counter qs in
-    subst P (sym e) (counter_with a0.p a1.p a2.p a3.p v0.0 v1.0 v2.0 v3.0 v0.1 v0.2 v1.1 v1.2 v2.1 v2.2 v3.1 v3.2)
+counter_made : (version : ℕ) (ps : List NamedValue) → FitsAll (rows version types.Counter) ps → Made types.Counter ps
+counter_made version =
+    made4
+    (number (codes "increment") 0 (2 ^ 63 - 1) (2 ^ 64) (number_default (pos 0)) refl refl)
+    (number (codes "maximum") 0 (2 ^ 63 - 1) (2 ^ 64) (number_default largest) refl refl)
+    (given (codes "start" is up_to (codes "maximum") otherwise number_default (pos 0)) (number_in (2 ^ 64)) (λ n. Number (pos n)) refl (λ p f. up_to_takes (codes "maximum") (2 ^ 64) p refl f))
+    (plain_text (codes "var") required refl)
+    types.Counter kinds.Counter counter_reads (λ x0 x1 x2 x3. refl)
 
-data_set_with : (p0 p1 p2 p3 : Prop) (v0 : AtEnd) (v1 : List (List ℕ)) (v2 : Share) (v3 : List ℕ) → at_end_in p0 ≡ Some v0 → Choice (at_end_place v0) ≡ p0 → texts_in p1 ≡ Some v1 → Texts v1 ≡ p1 → share_in p2 ≡ Some v2 → Choice (share_place v2) ≡ p2 → text_in p3 ≡ Some v3 → Text v3 ≡ p3 → Made types.DataSet (p0 ∷ p1 ∷ p2 ∷ p3 ∷ [])
+data_set_reads : (p q r s : Prop) → kind_of types.DataSet ((codes "atEnd" holds p) ∷ (codes "names" holds q) ∷ (codes "share" holds r) ∷ (codes "text" holds s) ∷ [])
+    ≡ (choice_in at_end_word at_ends p >>= λ x0. texts_in q >>= λ x1. choice_in share_word shares r >>= λ x2. text_in s >>= λ x3. Some (kinds.DataSet x0 x1 x2 x3))
 unfolding kind_of
-data_set_with p0 p1 p2 p3 v0 v1 v2 v3 e0 h0 e1 h1 e2 h2 e3 h3 = record { kind = kinds.DataSet v0 v1 v2 v3; made = rw (e0, e1, e2, e3) refl; values = rw (h0, h1, h2, h3) refl }
+data_set_reads p q r s = refl
 
-data_set_made : (version : ℕ) (ps : List Prop) → FitsAll (rows version types.DataSet) ps → Made types.DataSet ps
-data_set_made version ps f =
-    let a0 = take_one (codes "atEnd" is choice words.at_ends otherwise first_choice) ((codes "names" is texts otherwise required) ∷ (codes "share" is choice words.shares otherwise required) ∷ (codes "text" is csv (codes "names") otherwise required) ∷ []) ps f in
-    let v0 = at_end_takes a0.p (solid (codes "atEnd" is choice words.at_ends otherwise first_choice) a0.p refl a0.fits) in
-    let a1 = take_one (codes "names" is texts otherwise required) ((codes "share" is choice words.shares otherwise required) ∷ (codes "text" is csv (codes "names") otherwise required) ∷ []) a0.rest a0.later in
-    let v1 = texts_takes a1.p (solid (codes "names" is texts otherwise required) a1.p refl a1.fits) in
-    let a2 = take_one (codes "share" is choice words.shares otherwise required) ((codes "text" is csv (codes "names") otherwise required) ∷ []) a1.rest a1.later in
-    let v2 = share_takes a2.p (solid (codes "share" is choice words.shares otherwise required) a2.p refl a2.fits) in
-    let a3 = take_one (codes "text" is csv (codes "names") otherwise required) ([]) a2.rest a2.later in
-    let v3 = csv_takes (codes "names") a3.p (solid (codes "text" is csv (codes "names") otherwise required) a3.p refl a3.fits) in
-    let e : ps ≡ a0.p ∷ a1.p ∷ a2.p ∷ a3.p ∷ [] = a0.same ∙ ap (λ (qs : List Prop). a0.p ∷ qs) (a1.same ∙ ap (λ (qs : List Prop). a1.p ∷ qs) (a2.same ∙ ap (λ (qs : List Prop). a2.p ∷ qs) (a3.same ∙ ap (λ (qs : List Prop). a3.p ∷ qs) (take_none a3.rest a3.later)))) in
-    let P : List Prop → Type 0 = λ qs. Made types.DataSet qs in
-    subst P (sym e) (data_set_with a0.p a1.p a2.p a3.p v0.0 v1.0 v2.0 v3.0 v0.1 v0.2 v1.1 v1.2 v2.1 v2.2 v3.1 v3.2)
+data_set_made : (version : ℕ) (ps : List NamedValue) → FitsAll (rows version types.DataSet) ps → Made types.DataSet ps
+data_set_made version =
+    made4
+    (one_of (codes "atEnd") at_end_word at_ends first_choice refl)
+    (given (codes "names" is texts otherwise required) texts_in Texts refl texts_takes)
+    (one_of (codes "share") share_word shares required refl)
+    (given (codes "text" is csv (codes "names") otherwise required) text_in Text refl (csv_takes (codes "names")))
+    types.DataSet kinds.DataSet data_set_reads (λ x0 x1 x2 x3. refl)
 
-user_parameters_with : (p0 : Prop) (v0 : List Pair) → pairs_in p0 ≡ Some v0 → Pairs v0 ≡ p0 → Made types.UserParameters (p0 ∷ [])
+user_parameters_reads : (p : Prop) → kind_of types.UserParameters ((codes "vars" holds p) ∷ [])
+    ≡ (pairs_in p >>= λ x0. Some (kinds.UserParameters x0))
 unfolding kind_of
-user_parameters_with p0 v0 e0 h0 = record { kind = kinds.UserParameters v0; made = rw (e0) refl; values = rw (h0) refl }
+user_parameters_reads p = refl
 
-user_parameters_made : (version : ℕ) (ps : List Prop) → FitsAll (rows version types.UserParameters) ps → Made types.UserParameters ps
-user_parameters_made version ps f =
-    let a0 = take_one (codes "vars" is pairs otherwise required) ([]) ps f in
-    let v0 = pairs_takes a0.p (solid (codes "vars" is pairs otherwise required) a0.p refl a0.fits) in
-    let e : ps ≡ a0.p ∷ [] = a0.same ∙ ap (λ (qs : List Prop). a0.p ∷ qs) (take_none a0.rest a0.later) in
-    let P : List Prop → Type 0 = λ qs. Made types.UserParameters qs in
-    subst P (sym e) (user_parameters_with a0.p v0.0 v0.1 v0.2)
+user_parameters_made : (version : ℕ) (ps : List NamedValue) → FitsAll (rows version types.UserParameters) ps → Made types.UserParameters ps
+user_parameters_made version =
+    made1
+    (some_pairs (codes "vars") required refl)
+    types.UserParameters kinds.UserParameters user_parameters_reads (λ x0. refl)
 
-constant_timer_with : (p0 : Prop) (v0 : Pieces) → template_in p0 ≡ Some v0 → Template v0 ≡ p0 → Made types.ConstantTimer (p0 ∷ [])
+constant_timer_reads : (p : Prop) → kind_of types.ConstantTimer ((codes "delay" holds p) ∷ [])
+    ≡ (template_in p >>= λ x0. Some (kinds.ConstantTimer x0))
 unfolding kind_of
-constant_timer_with p0 v0 e0 h0 = record { kind = kinds.ConstantTimer v0; made = rw (e0) refl; values = rw (h0) refl }
+constant_timer_reads p = refl
 
-constant_timer_made : (version : ℕ) (ps : List Prop) → FitsAll (rows version types.ConstantTimer) ps → Made types.ConstantTimer ps
-constant_timer_made version ps f =
-    let a0 = take_one (codes "delay" is template otherwise text_default (codes "0")) ([]) ps f in
-    let v0 = template_takes a0.p (solid (codes "delay" is template otherwise text_default (codes "0")) a0.p refl a0.fits) in
-    let e : ps ≡ a0.p ∷ [] = a0.same ∙ ap (λ (qs : List Prop). a0.p ∷ qs) (take_none a0.rest a0.later) in
-    let P : List Prop → Type 0 = λ qs. Made types.ConstantTimer qs in
-    subst P (sym e) (constant_timer_with a0.p v0.0 v0.1 v0.2)
+constant_timer_made : (version : ℕ) (ps : List NamedValue) → FitsAll (rows version types.ConstantTimer) ps → Made types.ConstantTimer ps
+constant_timer_made version =
+    made1
+    (a_template (codes "delay") (text_default (codes "0")) refl)
+    types.ConstantTimer kinds.ConstantTimer constant_timer_reads (λ x0. refl)
 
-uniform_timer_with : (p0 p1 : Prop) (v0 : Pieces) (v1 : Pieces) → template_in p0 ≡ Some v0 → Template v0 ≡ p0 → template_in p1 ≡ Some v1 → Template v1 ≡ p1 → Made types.UniformTimer (p0 ∷ p1 ∷ [])
+uniform_timer_reads : (p q : Prop) → kind_of types.UniformTimer ((codes "offset" holds p) ∷ (codes "range" holds q) ∷ [])
+    ≡ (template_in p >>= λ x0. template_in q >>= λ x1. Some (kinds.UniformTimer x0 x1))
 unfolding kind_of
-uniform_timer_with p0 p1 v0 v1 e0 h0 e1 h1 = record { kind = kinds.UniformTimer v0 v1; made = rw (e0, e1) refl; values = rw (h0, h1) refl }
+uniform_timer_reads p q = refl
 
-uniform_timer_made : (version : ℕ) (ps : List Prop) → FitsAll (rows version types.UniformTimer) ps → Made types.UniformTimer ps
-uniform_timer_made version ps f =
-    let a0 = take_one (codes "offset" is template otherwise text_default (codes "0")) ((codes "range" is template otherwise text_default (codes "0")) ∷ []) ps f in
-    let v0 = template_takes a0.p (solid (codes "offset" is template otherwise text_default (codes "0")) a0.p refl a0.fits) in
-    let a1 = take_one (codes "range" is template otherwise text_default (codes "0")) ([]) a0.rest a0.later in
-    let v1 = template_takes a1.p (solid (codes "range" is template otherwise text_default (codes "0")) a1.p refl a1.fits) in
-    let e : ps ≡ a0.p ∷ a1.p ∷ [] = a0.same ∙ ap (λ (qs : List Prop). a0.p ∷ qs) (a1.same ∙ ap (λ (qs : List Prop). a1.p ∷ qs) (take_none a1.rest a1.later)) in
-    let P : List Prop → Type 0 = λ qs. Made types.UniformTimer qs in
-    subst P (sym e) (uniform_timer_with a0.p a1.p v0.0 v1.0 v0.1 v0.2 v1.1 v1.2)
+uniform_timer_made : (version : ℕ) (ps : List NamedValue) → FitsAll (rows version types.UniformTimer) ps → Made types.UniformTimer ps
+uniform_timer_made version =
+    made2
+    (a_template (codes "offset") (text_default (codes "0")) refl)
+    (a_template (codes "range") (text_default (codes "0")) refl)
+    types.UniformTimer kinds.UniformTimer uniform_timer_reads (λ x0 x1. refl)
 
-regex_extractor_with : (p0 p1 p2 p3 p4 p5 : Prop) (v0 : Option (List ℕ)) (v1 : Field) (v2 : ℤ) (v3 : List ℕ) (v4 : List ℕ) (v5 : List ℕ) → maybe_in p0 ≡ Some v0 → maybe v0 ≡ p0 → field_in p1 ≡ Some v1 → Choice (field_place v1) ≡ p1 → signed_in p2 ≡ Some v2 → Number v2 ≡ p2 → pattern_in p3 ≡ Some v3 → Pattern v3 ≡ p3 → text_in p4 ≡ Some v4 → Text v4 ≡ p4 → text_in p5 ≡ Some v5 → Text v5 ≡ p5 → Made types.RegexExtractor (p0 ∷ p1 ∷ p2 ∷ p3 ∷ p4 ∷ p5 ∷ [])
+regex_extractor_reads : (p q r s u v : Prop) → kind_of types.RegexExtractor ((codes "default" holds p) ∷ (codes "field" holds q) ∷ (codes "match" holds r) ∷ (codes "pattern" holds s) ∷ (codes "ref" holds u) ∷ (codes "template" holds v) ∷ [])
+    ≡ (maybe_in p >>= λ x0. choice_in field_word fields q >>= λ x1. signed_in r >>= λ x2. pattern_in s >>= λ x3. text_in u >>= λ x4. text_in v >>= λ x5. Some (kinds.RegexExtractor (record { default = x0; field = x1; match_ = x2; pattern = x3; ref_ = x4; template = x5 })))
 unfolding kind_of
-regex_extractor_with p0 p1 p2 p3 p4 p5 v0 v1 v2 v3 v4 v5 e0 h0 e1 h1 e2 h2 e3 h3 e4 h4 e5 h5 = record { kind = kinds.RegexExtractor (record { default = v0; field = v1; match_ = v2; pattern = v3; ref_ = v4; template = v5 }); made = rw (e0, e1, e2, e3, e4, e5) refl; values = rw (h0, h1, h2, h3, h4, h5) refl }
+regex_extractor_reads p q r s u v = refl
 
-regex_extractor_made : (version : ℕ) (ps : List Prop) → FitsAll (rows version types.RegexExtractor) ps → Made types.RegexExtractor ps
-regex_extractor_made version ps f =
-    let a0 = take_one (codes "default" is plain otherwise optional) ((codes "field" is choice words.fields otherwise first_choice) ∷ (codes "match" is whole (negsuc 0) (pos 65536) otherwise number_default (pos 1)) ∷ (codes "pattern" is pattern otherwise required) ∷ (codes "ref" is filled otherwise required) ∷ (codes "template" is plain otherwise text_default (codes "$1$")) ∷ []) ps f in
-    let v0 = maybe_takes (codes "default") a0.p a0.fits in
-    let a1 = take_one (codes "field" is choice words.fields otherwise first_choice) ((codes "match" is whole (negsuc 0) (pos 65536) otherwise number_default (pos 1)) ∷ (codes "pattern" is pattern otherwise required) ∷ (codes "ref" is filled otherwise required) ∷ (codes "template" is plain otherwise text_default (codes "$1$")) ∷ []) a0.rest a0.later in
-    let v1 = field_takes a1.p (solid (codes "field" is choice words.fields otherwise first_choice) a1.p refl a1.fits) in
-    let a2 = take_one (codes "match" is whole (negsuc 0) (pos 65536) otherwise number_default (pos 1)) ((codes "pattern" is pattern otherwise required) ∷ (codes "ref" is filled otherwise required) ∷ (codes "template" is plain otherwise text_default (codes "$1$")) ∷ []) a1.rest a1.later in
-    let v2 = signed_takes 65536 a2.p refl (solid (codes "match" is whole (negsuc 0) (pos 65536) otherwise number_default (pos 1)) a2.p refl a2.fits) in
-    let a3 = take_one (codes "pattern" is pattern otherwise required) ((codes "ref" is filled otherwise required) ∷ (codes "template" is plain otherwise text_default (codes "$1$")) ∷ []) a2.rest a2.later in
-    let v3 = pattern_takes a3.p (solid (codes "pattern" is pattern otherwise required) a3.p refl a3.fits) in
-    let a4 = take_one (codes "ref" is filled otherwise required) ((codes "template" is plain otherwise text_default (codes "$1$")) ∷ []) a3.rest a3.later in
-    let v4 = filled_takes a4.p (solid (codes "ref" is filled otherwise required) a4.p refl a4.fits) in
-    let a5 = take_one (codes "template" is plain otherwise text_default (codes "$1$")) ([]) a4.rest a4.later in
-    let v5 = plain_takes a5.p (solid (codes "template" is plain otherwise text_default (codes "$1$")) a5.p refl a5.fits) in
-    let e : ps ≡ a0.p ∷ a1.p ∷ a2.p ∷ a3.p ∷ a4.p ∷ a5.p ∷ [] = a0.same ∙ ap (λ (qs : List Prop). a0.p ∷ qs) (a1.same ∙ ap (λ (qs : List Prop). a1.p ∷ qs) (a2.same ∙ ap (λ (qs : List Prop). a2.p ∷ qs) (a3.same ∙ ap (λ (qs : List Prop). a3.p ∷ qs) (a4.same ∙ ap (λ (qs : List Prop). a4.p ∷ qs) (a5.same ∙ ap (λ (qs : List Prop). a5.p ∷ qs) (take_none a5.rest a5.later)))))) in
-    let P : List Prop → Type 0 = λ qs. Made types.RegexExtractor qs in
-    subst P (sym e) (regex_extractor_with a0.p a1.p a2.p a3.p a4.p a5.p v0.0 v1.0 v2.0 v3.0 v4.0 v5.0 v0.1 v0.2 v1.1 v1.2 v2.1 v2.2 v3.1 v3.2 v4.1 v4.2 v5.1 v5.2)
+regex_extractor_made : (version : ℕ) (ps : List NamedValue) → FitsAll (rows version types.RegexExtractor) ps → Made types.RegexExtractor ps
+regex_extractor_made version =
+    made6
+    default_text
+    reply_field
+    match_number
+    (given (codes "pattern" is pattern otherwise required) pattern_in Pattern refl pattern_takes)
+    (filled_text (codes "ref"))
+    (plain_text (codes "template") (text_default (codes "$1$")) refl)
+    types.RegexExtractor (λ x0 x1 x2 x3 x4 x5. kinds.RegexExtractor (record { default = x0; field = x1; match_ = x2; pattern = x3; ref_ = x4; template = x5 })) regex_extractor_reads (λ x0 x1 x2 x3 x4 x5. refl)
 
-json_extractor_with : (p0 p1 p2 p3 : Prop) (v0 : Option (List ℕ)) (v1 : ℤ) (v2 : List ℕ) (v3 : List ℕ) → maybe_in p0 ≡ Some v0 → maybe v0 ≡ p0 → signed_in p1 ≡ Some v1 → Number v1 ≡ p1 → text_in p2 ≡ Some v2 → Text v2 ≡ p2 → text_in p3 ≡ Some v3 → Text v3 ≡ p3 → Made types.JsonExtractor (p0 ∷ p1 ∷ p2 ∷ p3 ∷ [])
+json_extractor_reads : (p q r s : Prop) → kind_of types.JsonExtractor ((codes "default" holds p) ∷ (codes "match" holds q) ∷ (codes "path" holds r) ∷ (codes "ref" holds s) ∷ [])
+    ≡ (maybe_in p >>= λ x0. signed_in q >>= λ x1. text_in r >>= λ x2. text_in s >>= λ x3. Some (kinds.JsonExtractor (record { default = x0; match_ = x1; path = x2; ref_ = x3 })))
 unfolding kind_of
-json_extractor_with p0 p1 p2 p3 v0 v1 v2 v3 e0 h0 e1 h1 e2 h2 e3 h3 = record { kind = kinds.JsonExtractor (record { default = v0; match_ = v1; path = v2; ref_ = v3 }); made = rw (e0, e1, e2, e3) refl; values = rw (h0, h1, h2, h3) refl }
+json_extractor_reads p q r s = refl
 
-json_extractor_made : (version : ℕ) (ps : List Prop) → FitsAll (rows version types.JsonExtractor) ps → Made types.JsonExtractor ps
-json_extractor_made version ps f =
-    let a0 = take_one (codes "default" is plain otherwise optional) ((codes "match" is whole (negsuc 0) (pos 65536) otherwise number_default (pos 1)) ∷ (codes "path" is json_path otherwise required) ∷ (codes "ref" is filled otherwise required) ∷ []) ps f in
-    let v0 = maybe_takes (codes "default") a0.p a0.fits in
-    let a1 = take_one (codes "match" is whole (negsuc 0) (pos 65536) otherwise number_default (pos 1)) ((codes "path" is json_path otherwise required) ∷ (codes "ref" is filled otherwise required) ∷ []) a0.rest a0.later in
-    let v1 = signed_takes 65536 a1.p refl (solid (codes "match" is whole (negsuc 0) (pos 65536) otherwise number_default (pos 1)) a1.p refl a1.fits) in
-    let a2 = take_one (codes "path" is json_path otherwise required) ((codes "ref" is filled otherwise required) ∷ []) a1.rest a1.later in
-    let v2 = path_takes a2.p (solid (codes "path" is json_path otherwise required) a2.p refl a2.fits) in
-    let a3 = take_one (codes "ref" is filled otherwise required) ([]) a2.rest a2.later in
-    let v3 = filled_takes a3.p (solid (codes "ref" is filled otherwise required) a3.p refl a3.fits) in
-    let e : ps ≡ a0.p ∷ a1.p ∷ a2.p ∷ a3.p ∷ [] = a0.same ∙ ap (λ (qs : List Prop). a0.p ∷ qs) (a1.same ∙ ap (λ (qs : List Prop). a1.p ∷ qs) (a2.same ∙ ap (λ (qs : List Prop). a2.p ∷ qs) (a3.same ∙ ap (λ (qs : List Prop). a3.p ∷ qs) (take_none a3.rest a3.later)))) in
-    let P : List Prop → Type 0 = λ qs. Made types.JsonExtractor qs in
-    subst P (sym e) (json_extractor_with a0.p a1.p a2.p a3.p v0.0 v1.0 v2.0 v3.0 v0.1 v0.2 v1.1 v1.2 v2.1 v2.2 v3.1 v3.2)
+json_extractor_made : (version : ℕ) (ps : List NamedValue) → FitsAll (rows version types.JsonExtractor) ps → Made types.JsonExtractor ps
+json_extractor_made version =
+    made4
+    default_text
+    match_number
+    (given (codes "path" is json_path otherwise required) text_in Text refl path_takes)
+    (filled_text (codes "ref"))
+    types.JsonExtractor (λ x0 x1 x2 x3. kinds.JsonExtractor (record { default = x0; match_ = x1; path = x2; ref_ = x3 })) json_extractor_reads (λ x0 x1 x2 x3. refl)
 
-boundary_extractor_with : (p0 p1 p2 p3 p4 p5 : Prop) (v0 : Option (List ℕ)) (v1 : Field) (v2 : List ℕ) (v3 : ℤ) (v4 : List ℕ) (v5 : List ℕ) → maybe_in p0 ≡ Some v0 → maybe v0 ≡ p0 → field_in p1 ≡ Some v1 → Choice (field_place v1) ≡ p1 → text_in p2 ≡ Some v2 → Text v2 ≡ p2 → signed_in p3 ≡ Some v3 → Number v3 ≡ p3 → text_in p4 ≡ Some v4 → Text v4 ≡ p4 → text_in p5 ≡ Some v5 → Text v5 ≡ p5 → Made types.BoundaryExtractor (p0 ∷ p1 ∷ p2 ∷ p3 ∷ p4 ∷ p5 ∷ [])
+boundary_extractor_reads : (p q r s u v : Prop) → kind_of types.BoundaryExtractor ((codes "default" holds p) ∷ (codes "field" holds q) ∷ (codes "left" holds r) ∷ (codes "match" holds s) ∷ (codes "ref" holds u) ∷ (codes "right" holds v) ∷ [])
+    ≡ (maybe_in p >>= λ x0. choice_in field_word fields q >>= λ x1. text_in r >>= λ x2. signed_in s >>= λ x3. text_in u >>= λ x4. text_in v >>= λ x5. Some (kinds.BoundaryExtractor (record { default = x0; field = x1; left = x2; match_ = x3; ref_ = x4; right = x5 })))
 unfolding kind_of
-boundary_extractor_with p0 p1 p2 p3 p4 p5 v0 v1 v2 v3 v4 v5 e0 h0 e1 h1 e2 h2 e3 h3 e4 h4 e5 h5 = record { kind = kinds.BoundaryExtractor (record { default = v0; field = v1; left = v2; match_ = v3; ref_ = v4; right = v5 }); made = rw (e0, e1, e2, e3, e4, e5) refl; values = rw (h0, h1, h2, h3, h4, h5) refl }
+boundary_extractor_reads p q r s u v = refl
 
-boundary_extractor_made : (version : ℕ) (ps : List Prop) → FitsAll (rows version types.BoundaryExtractor) ps → Made types.BoundaryExtractor ps
-boundary_extractor_made version ps f =
-    let a0 = take_one (codes "default" is plain otherwise optional) ((codes "field" is choice words.fields otherwise first_choice) ∷ (codes "left" is filled otherwise required) ∷ (codes "match" is whole (negsuc 0) (pos 65536) otherwise number_default (pos 1)) ∷ (codes "ref" is filled otherwise required) ∷ (codes "right" is filled otherwise required) ∷ []) ps f in
-    let v0 = maybe_takes (codes "default") a0.p a0.fits in
-    let a1 = take_one (codes "field" is choice words.fields otherwise first_choice) ((codes "left" is filled otherwise required) ∷ (codes "match" is whole (negsuc 0) (pos 65536) otherwise number_default (pos 1)) ∷ (codes "ref" is filled otherwise required) ∷ (codes "right" is filled otherwise required) ∷ []) a0.rest a0.later in
-    let v1 = field_takes a1.p (solid (codes "field" is choice words.fields otherwise first_choice) a1.p refl a1.fits) in
-    let a2 = take_one (codes "left" is filled otherwise required) ((codes "match" is whole (negsuc 0) (pos 65536) otherwise number_default (pos 1)) ∷ (codes "ref" is filled otherwise required) ∷ (codes "right" is filled otherwise required) ∷ []) a1.rest a1.later in
-    let v2 = filled_takes a2.p (solid (codes "left" is filled otherwise required) a2.p refl a2.fits) in
-    let a3 = take_one (codes "match" is whole (negsuc 0) (pos 65536) otherwise number_default (pos 1)) ((codes "ref" is filled otherwise required) ∷ (codes "right" is filled otherwise required) ∷ []) a2.rest a2.later in
-    let v3 = signed_takes 65536 a3.p refl (solid (codes "match" is whole (negsuc 0) (pos 65536) otherwise number_default (pos 1)) a3.p refl a3.fits) in
-    let a4 = take_one (codes "ref" is filled otherwise required) ((codes "right" is filled otherwise required) ∷ []) a3.rest a3.later in
-    let v4 = filled_takes a4.p (solid (codes "ref" is filled otherwise required) a4.p refl a4.fits) in
-    let a5 = take_one (codes "right" is filled otherwise required) ([]) a4.rest a4.later in
-    let v5 = filled_takes a5.p (solid (codes "right" is filled otherwise required) a5.p refl a5.fits) in
-    let e : ps ≡ a0.p ∷ a1.p ∷ a2.p ∷ a3.p ∷ a4.p ∷ a5.p ∷ [] = a0.same ∙ ap (λ (qs : List Prop). a0.p ∷ qs) (a1.same ∙ ap (λ (qs : List Prop). a1.p ∷ qs) (a2.same ∙ ap (λ (qs : List Prop). a2.p ∷ qs) (a3.same ∙ ap (λ (qs : List Prop). a3.p ∷ qs) (a4.same ∙ ap (λ (qs : List Prop). a4.p ∷ qs) (a5.same ∙ ap (λ (qs : List Prop). a5.p ∷ qs) (take_none a5.rest a5.later)))))) in
-    let P : List Prop → Type 0 = λ qs. Made types.BoundaryExtractor qs in
-    subst P (sym e) (boundary_extractor_with a0.p a1.p a2.p a3.p a4.p a5.p v0.0 v1.0 v2.0 v3.0 v4.0 v5.0 v0.1 v0.2 v1.1 v1.2 v2.1 v2.2 v3.1 v3.2 v4.1 v4.2 v5.1 v5.2)
+boundary_extractor_made : (version : ℕ) (ps : List NamedValue) → FitsAll (rows version types.BoundaryExtractor) ps → Made types.BoundaryExtractor ps
+boundary_extractor_made version =
+    made6
+    default_text
+    reply_field
+    (filled_text (codes "left"))
+    match_number
+    (filled_text (codes "ref"))
+    (filled_text (codes "right"))
+    types.BoundaryExtractor (λ x0 x1 x2 x3 x4 x5. kinds.BoundaryExtractor (record { default = x0; field = x1; left = x2; match_ = x3; ref_ = x4; right = x5 })) boundary_extractor_reads (λ x0 x1 x2 x3 x4 x5. refl)
 
-response_assertion_with : (p0 p1 p2 p3 p4 p5 : Prop) (v0 : Field) (v1 : Bool) (v2 : Bool) (v3 : Bool) (v4 : Tried) (v5 : TestKind) → field_in p0 ≡ Some v0 → Choice (field_place v0) ≡ p0 → truth_in p1 ≡ Some v1 → Truth v1 ≡ p1 → truth_in p2 ≡ Some v2 → Truth v2 ≡ p2 → truth_in p3 ≡ Some v3 → Truth v3 ≡ p3 → patterns_in p4 ≡ Some v4 → Patterns v4.0 v4.1 v4.2 ≡ p4 → test_in p5 ≡ Some v5 → Choice (test_place v5) ≡ p5 → Made types.ResponseAssertion (p0 ∷ p1 ∷ p2 ∷ p3 ∷ p4 ∷ p5 ∷ [])
+response_assertion_reads : (p q r s u v : Prop) → kind_of types.ResponseAssertion ((codes "field" holds p) ∷ (codes "ignoreStatus" holds q) ∷ (codes "not" holds r) ∷ (codes "or" holds s) ∷ (codes "patterns" holds u) ∷ (codes "test" holds v) ∷ [])
+    ≡ (choice_in field_word fields p >>= λ x0. truth_in q >>= λ x1. truth_in r >>= λ x2. truth_in s >>= λ x3. patterns_in u >>= λ x4. choice_in test_word tests v >>= λ x5. Some (kinds.ResponseAssertion (Response x0 x1 x2 x3 x4.0 x4.1 x5 x4.2)))
 unfolding kind_of
-response_assertion_with p0 p1 p2 p3 p4 p5 v0 v1 v2 v3 v4 v5 e0 h0 e1 h1 e2 h2 e3 h3 e4 h4 e5 h5 = record { kind = kinds.ResponseAssertion (Response v0 v1 v2 v3 v4.0 v4.1 v5 v4.2); made = rw (e0, e1, e2, e3, e4, e5) refl; values = rw (h0, h1, h2, h3, h4, h5) refl }
+response_assertion_reads p q r s u v = refl
 
-response_assertion_made : (version : ℕ) (ps : List Prop) → FitsAll (rows version types.ResponseAssertion) ps → Made types.ResponseAssertion ps
-response_assertion_made version ps f =
-    let a0 = take_one (codes "field" is choice words.fields otherwise first_choice) ((codes "ignoreStatus" is flag otherwise truth_default false) ∷ (codes "not" is flag otherwise truth_default false) ∷ (codes "or" is flag otherwise truth_default false) ∷ (codes "patterns" is test_patterns otherwise required) ∷ (codes "test" is choice words.tests otherwise required) ∷ []) ps f in
-    let v0 = field_takes a0.p (solid (codes "field" is choice words.fields otherwise first_choice) a0.p refl a0.fits) in
-    let a1 = take_one (codes "ignoreStatus" is flag otherwise truth_default false) ((codes "not" is flag otherwise truth_default false) ∷ (codes "or" is flag otherwise truth_default false) ∷ (codes "patterns" is test_patterns otherwise required) ∷ (codes "test" is choice words.tests otherwise required) ∷ []) a0.rest a0.later in
-    let v1 = truth_takes a1.p (solid (codes "ignoreStatus" is flag otherwise truth_default false) a1.p refl a1.fits) in
-    let a2 = take_one (codes "not" is flag otherwise truth_default false) ((codes "or" is flag otherwise truth_default false) ∷ (codes "patterns" is test_patterns otherwise required) ∷ (codes "test" is choice words.tests otherwise required) ∷ []) a1.rest a1.later in
-    let v2 = truth_takes a2.p (solid (codes "not" is flag otherwise truth_default false) a2.p refl a2.fits) in
-    let a3 = take_one (codes "or" is flag otherwise truth_default false) ((codes "patterns" is test_patterns otherwise required) ∷ (codes "test" is choice words.tests otherwise required) ∷ []) a2.rest a2.later in
-    let v3 = truth_takes a3.p (solid (codes "or" is flag otherwise truth_default false) a3.p refl a3.fits) in
-    let a4 = take_one (codes "patterns" is test_patterns otherwise required) ((codes "test" is choice words.tests otherwise required) ∷ []) a3.rest a3.later in
-    let v4 = patterns_takes a4.p (solid (codes "patterns" is test_patterns otherwise required) a4.p refl a4.fits) in
-    let a5 = take_one (codes "test" is choice words.tests otherwise required) ([]) a4.rest a4.later in
-    let v5 = test_takes a5.p (solid (codes "test" is choice words.tests otherwise required) a5.p refl a5.fits) in
-    let e : ps ≡ a0.p ∷ a1.p ∷ a2.p ∷ a3.p ∷ a4.p ∷ a5.p ∷ [] = a0.same ∙ ap (λ (qs : List Prop). a0.p ∷ qs) (a1.same ∙ ap (λ (qs : List Prop). a1.p ∷ qs) (a2.same ∙ ap (λ (qs : List Prop). a2.p ∷ qs) (a3.same ∙ ap (λ (qs : List Prop). a3.p ∷ qs) (a4.same ∙ ap (λ (qs : List Prop). a4.p ∷ qs) (a5.same ∙ ap (λ (qs : List Prop). a5.p ∷ qs) (take_none a5.rest a5.later)))))) in
-    let P : List Prop → Type 0 = λ qs. Made types.ResponseAssertion qs in
-    subst P (sym e) (response_assertion_with a0.p a1.p a2.p a3.p a4.p a5.p v0.0 v1.0 v2.0 v3.0 v4.0 v5.0 v0.1 v0.2 v1.1 v1.2 v2.1 v2.2 v3.1 v3.2 v4.1 v4.2 v5.1 v5.2)
+response_assertion_made : (version : ℕ) (ps : List NamedValue) → FitsAll (rows version types.ResponseAssertion) ps → Made types.ResponseAssertion ps
+response_assertion_made version =
+    made6
+    reply_field
+    (truth (codes "ignoreStatus") false)
+    (truth (codes "not") false)
+    (truth (codes "or") false)
+    (given (codes "patterns" is test_patterns otherwise required) patterns_in (λ v. Patterns v.0 v.1 v.2) refl patterns_takes)
+    (one_of (codes "test") test_word tests required refl)
+    types.ResponseAssertion (λ x0 x1 x2 x3 x4 x5. kinds.ResponseAssertion (Response x0 x1 x2 x3 x4.0 x4.1 x5 x4.2)) response_assertion_reads (λ x0 x1 x2 x3 x4 x5. refl)
 
-duration_assertion_with : (p0 : Prop) (v0 : ℕ) → number_in (2 ^ 32) p0 ≡ Some v0 → Number (pos v0) ≡ p0 → Made types.DurationAssertion (p0 ∷ [])
+duration_assertion_reads : (p : Prop) → kind_of types.DurationAssertion ((codes "ms" holds p) ∷ [])
+    ≡ (number_in (2 ^ 32) p >>= λ x0. Some (kinds.DurationAssertion (Duration x0)))
 unfolding kind_of
-duration_assertion_with p0 v0 e0 h0 = record { kind = kinds.DurationAssertion (Duration v0); made = rw (e0) refl; values = rw (h0) refl }
+duration_assertion_reads p = refl
 
-duration_assertion_made : (version : ℕ) (ps : List Prop) → FitsAll (rows version types.DurationAssertion) ps → Made types.DurationAssertion ps
-duration_assertion_made version ps f =
-    let a0 = take_one (codes "ms" is whole (pos 0) (pos 4294967295) otherwise required) ([]) ps f in
-    let v0 = whole_takes 0 4294967295 (2 ^ 32) a0.p refl (solid (codes "ms" is whole (pos 0) (pos 4294967295) otherwise required) a0.p refl a0.fits) in
-    let e : ps ≡ a0.p ∷ [] = a0.same ∙ ap (λ (qs : List Prop). a0.p ∷ qs) (take_none a0.rest a0.later) in
-    let P : List Prop → Type 0 = λ qs. Made types.DurationAssertion qs in
-    subst P (sym e) (duration_assertion_with a0.p v0.0 v0.1 v0.2)
+duration_assertion_made : (version : ℕ) (ps : List NamedValue) → FitsAll (rows version types.DurationAssertion) ps → Made types.DurationAssertion ps
+duration_assertion_made version =
+    made1
+    (number (codes "ms") 0 4294967295 (2 ^ 32) required refl refl)
+    types.DurationAssertion (λ x0. kinds.DurationAssertion (Duration x0)) duration_assertion_reads (λ x0. refl)
 
-size_assertion_with : (p0 p1 : Prop) (v0 : Comparison) (v1 : ℕ) → comparison_in p0 ≡ Some v0 → Choice (comparison_place v0) ≡ p0 → number_in (2 ^ 32) p1 ≡ Some v1 → Number (pos v1) ≡ p1 → Made types.SizeAssertion (p0 ∷ p1 ∷ [])
+size_assertion_reads : (p q : Prop) → kind_of types.SizeAssertion ((codes "op" holds p) ∷ (codes "size" holds q) ∷ [])
+    ≡ (choice_in comparison_word comparisons p >>= λ x0. number_in (2 ^ 32) q >>= λ x1. Some (kinds.SizeAssertion (Size x0 x1)))
 unfolding kind_of
-size_assertion_with p0 p1 v0 v1 e0 h0 e1 h1 = record { kind = kinds.SizeAssertion (Size v0 v1); made = rw (e0, e1) refl; values = rw (h0, h1) refl }
+size_assertion_reads p q = refl
 
-size_assertion_made : (version : ℕ) (ps : List Prop) → FitsAll (rows version types.SizeAssertion) ps → Made types.SizeAssertion ps
-size_assertion_made version ps f =
-    let a0 = take_one (codes "op" is choice words.comparisons otherwise required) ((codes "size" is whole (pos 0) (pos 4294967295) otherwise required) ∷ []) ps f in
-    let v0 = comparison_takes a0.p (solid (codes "op" is choice words.comparisons otherwise required) a0.p refl a0.fits) in
-    let a1 = take_one (codes "size" is whole (pos 0) (pos 4294967295) otherwise required) ([]) a0.rest a0.later in
-    let v1 = whole_takes 0 4294967295 (2 ^ 32) a1.p refl (solid (codes "size" is whole (pos 0) (pos 4294967295) otherwise required) a1.p refl a1.fits) in
-    let e : ps ≡ a0.p ∷ a1.p ∷ [] = a0.same ∙ ap (λ (qs : List Prop). a0.p ∷ qs) (a1.same ∙ ap (λ (qs : List Prop). a1.p ∷ qs) (take_none a1.rest a1.later)) in
-    let P : List Prop → Type 0 = λ qs. Made types.SizeAssertion qs in
-    subst P (sym e) (size_assertion_with a0.p a1.p v0.0 v1.0 v0.1 v0.2 v1.1 v1.2)
+size_assertion_made : (version : ℕ) (ps : List NamedValue) → FitsAll (rows version types.SizeAssertion) ps → Made types.SizeAssertion ps
+size_assertion_made version =
+    made2
+    (one_of (codes "op") comparison_word comparisons required refl)
+    (number (codes "size") 0 4294967295 (2 ^ 32) required refl refl)
+    types.SizeAssertion (λ x0 x1. kinds.SizeAssertion (Size x0 x1)) size_assertion_reads (λ x0 x1. refl)
 
-listener_made : (version : ℕ) (ps : List Prop) → FitsAll (rows version types.Listener) ps → Made types.Listener ps
+listener_made : (version : ℕ) (ps : List NamedValue) → FitsAll (rows version types.Listener) ps → Made types.Listener ps
 unfolding kind_of
-listener_made version ps f =
-    let e : ps ≡ [] = take_none ps f in
-    let P : List Prop → Type 0 = λ qs. Made types.Listener qs in
-    subst P (sym e) (record { kind = kinds.Listener; made = refl; values = refl })
+listener_made version = made0 types.Listener kinds.Listener refl refl
 
-pub kind_made : (version : ℕ) (t : ElementType) (ps : List Prop) → FitsAll (rows version t) ps → Made t ps
+pub kind_made : (version : ℕ) (t : ElementType) (ps : List NamedValue) → FitsAll (rows version t) ps → Made t ps
 kind_made version types.TestPlan ps f = test_plan_made version ps f
 kind_made version types.ThreadGroup ps f = thread_group_made version ps f
 kind_made version types.Simple ps f = simple_made version ps f

@@ -9,7 +9,7 @@ use Rattle.element_tree.specs.declared.kinds.Kind.{Kind}
 use Rattle.element_tree.specs.declared.kinds.Kind.TheVariants as kinds
 use Rattle.element_tree.specs.declared.kinds.Element.{Element}
 use Rattle.element_tree.specs.declared.kinds.Loops.{Loops}
-use Rattle.element_tree.specs.declared.kinds.OnError.{OnError}
+use Rattle.element_props.specs.declared.choices.OnError.{OnError}
 use Rattle.element_tree.specs.declared.types.Class.{Class}
 use Rattle.element_tree.specs.declared.types.Class.TheVariants as classes
 use Rattle.element_tree.specs.declared.threads.Thread.{Thread}

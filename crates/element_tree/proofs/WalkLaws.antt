@@ -11,7 +11,7 @@ use Rattle.plan_json.specs.declared.raw.RawElement.{RawElement, out-RawElement, 
 use Rattle.element_props.specs.declared.error.BuildError.{BuildError}
 use Rattle.element_props.specs.declared.error.BuildError.TheVariants as errors
 use Rattle.element_tree.specs.declared.kinds.Kind.{Kind}
-use Rattle.element_props.specs.declared.prop.Prop.{Prop}
+use Rattle.element_props.specs.Named.{NamedValue}
 use Rattle.element_tree.specs.declared.kinds.Element.{Element}
 use Rattle.element_tree.specs.declared.types.ElementType.{ElementType}
 use Rattle.element_tree.specs.declared.tree_walk.Spot.{Spot as CodeSpot}
@@ -39,17 +39,17 @@ module _ (spot : Spot) (number : ℕ) (kind name : List ℕ) (enabled : Bool) (m
   unfolding own
   own_no_props t rs e h k s = rw (h, ← k) (fails_bind _ s)
 
-  pub own_no_kind : (t : ElementType) (rs : List table.Row) (ps : List Prop) → placed spot number kind name enabled cs ≡ over t → rs ≡ rows spot.version t → Goes a (own_properties spot.places ms rs) (over ps) b
+  pub own_no_kind : (t : ElementType) (rs : List table.Row) (ps : List NamedValue) → placed spot number kind name enabled cs ≡ over t → rs ≡ rows spot.version t → Goes a (own_properties spot.places ms rs) (over ps) b
       → kind_of t ps ≡ None → Fails a (own spot number kind name enabled ms cs) (errors.BadProp (at spot.places)) b
   unfolding own
   own_no_kind t rs ps h k g none = rw (h, ← k) (fails_after (goes_bind _ g) (rw none (fails_refuse b _)))
 
-  pub own_cut : (t : ElementType) (rs : List table.Row) (ps : List Prop) (e : BuildError) → placed spot number kind name enabled cs ≡ over t → rs ≡ rows spot.version t → Goes a (own_properties spot.places ms rs) (over ps) b
+  pub own_cut : (t : ElementType) (rs : List table.Row) (ps : List NamedValue) (e : BuildError) → placed spot number kind name enabled cs ≡ over t → rs ≡ rows spot.version t → Goes a (own_properties spot.places ms rs) (over ps) b
       → e ≡ errors.NoMemory → Fails a (own spot number kind name enabled ms cs) e b
   unfolding own
   own_cut t rs ps e h k g none = rw (h, ← k) (fails_after (goes_bind _ g) (no_memory b _ e none))
 
-  pub own_done : (t : ElementType) (rs : List table.Row) (ps : List Prop) (made : Kind) → placed spot number kind name enabled cs ≡ over t → rs ≡ rows spot.version t → Goes a (own_properties spot.places ms rs) (over ps) b
+  pub own_done : (t : ElementType) (rs : List table.Row) (ps : List NamedValue) (made : Kind) → placed spot number kind name enabled cs ≡ over t → rs ≡ rows spot.version t → Goes a (own_properties spot.places ms rs) (over ps) b
       → kind_of t ps ≡ Some made → Goes a (own spot number kind name enabled ms cs) (over (t, made)) b
   unfolding own
   own_done t rs ps made h k g some = rw (h, ← k) (goes_append (goes_bind _ g) (rw some (goes_nothing b _)))

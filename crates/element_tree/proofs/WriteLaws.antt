@@ -12,9 +12,10 @@ use Rattle.serde_json.specs.View.{view, items_view}
 use Rattle.serde_json.specs.Written.{compact_text, has_float, items_have_float, members_have_float}
 use Rattle.serde_json.specs.declared.value.Value.{Value}
 use Rattle.plan_json.specs.Shape.{Raw}
+use Rattle.element_props.specs.Named.{NamedValue}
 use Rattle.element_props.specs.declared.prop.Prop.{Prop}
-use Rattle.element_props.specs.declared.prop.Prop.TheVariants.{Absent, Template, Text, Number, Truth, Choice, Pattern, Pairs, Replies, Texts, Patterns}
-use Rattle.element_props.specs.FormRows.{Form, Row}
+use Rattle.element_props.specs.declared.prop.Prop.TheVariants.{Absent, Template, Text, Number, Truth, Word, Pattern, Pairs, Replies, Texts, Patterns}
+use Rattle.element_props.specs.FormRows.{Row}
 use Rattle.element_props.specs.Written.{text_data, with_entry, unless, reply_members, pair_data, reply_data, items_by, value_data, is_default, entry, written}
 use Rattle.element_tree.specs.declared.kinds.Element.{Element}
 use Rattle.element_tree.specs.Table.{rows, type_name}
@@ -123,24 +124,24 @@ reply_exact r =
     let code_ : members_have_float codes_of ≡ false = key_exact (codes "code") (nat_eq r.code 200) (number (unsigned r.code)) echos refl echo_ in
     key_exact (codes "body") (bytes_eq r.body []) (text_data r.body) codes_of refl code_
 
-value_exact : (form : Form) (p : Prop) → has_float (value_data form p) ≡ false
-value_exact form Absent = refl
-value_exact form (Template ps) = refl
-value_exact form (Text s) = refl
-value_exact form (Number (pos n)) = refl
-value_exact form (Number (negsuc n)) = refl
-value_exact form (Truth b) = refl
-value_exact form (Choice n) = refl
-value_exact form (Pattern s) = refl
-value_exact form (Pairs ps) = items_exact pair_data (λ p. refl) ps
-value_exact form (Replies rs) = items_exact reply_data reply_exact rs
-value_exact form (Texts ss) = items_exact text_data (λ s. refl) ss
-value_exact form (Patterns ss regexes whole) = items_exact text_data (λ s. refl) ss
+value_exact : (p : Prop) → has_float (value_data p) ≡ false
+value_exact Absent = refl
+value_exact (Template ps) = refl
+value_exact (Text s) = refl
+value_exact (Number (pos n)) = refl
+value_exact (Number (negsuc n)) = refl
+value_exact (Truth b) = refl
+value_exact (Word w) = refl
+value_exact (Pattern s) = refl
+value_exact (Pairs ps) = items_exact pair_data (λ p. refl) ps
+value_exact (Replies rs) = items_exact reply_data reply_exact rs
+value_exact (Texts ss) = items_exact text_data (λ s. refl) ss
+value_exact (Patterns ss regexes whole) = items_exact text_data (λ s. refl) ss
 
-written_exact : (rs : List Row) (ps : List Prop) → members_have_float (written rs ps) ≡ false
+written_exact : (rs : List Row) (ps : List NamedValue) → members_have_float (written rs ps) ≡ false
 written_exact [] ps = refl
 written_exact (row ∷ rs) [] = refl
-written_exact (row ∷ rs) (p ∷ ps) = with_exact row.name (entry row p) (written rs ps) (unless_exact (is_default row.presence p) (value_data row.form p) (value_exact row.form p)) (written_exact rs ps)
+written_exact (row ∷ rs) (p ∷ ps) = with_exact p.name (entry row p.value) (written rs ps) (unless_exact (is_default row.form row.presence p.value) (value_data p.value) (value_exact p.value)) (written_exact rs ps)
 
 trees_exact : (below : ℕ → Raw) → ((n : ℕ) → has_float (data_of (below n)) ≡ false) → (ns : List ℕ) → items_have_float (items_of (trees below ns)) ≡ false
 trees_exact below h [] = refl

@@ -1,9 +1,11 @@
 -- What holds of a value that was read under the form of its property.
-use Rattle.std.specs.Prelude.{◌≡◌, ℕ, pos, Bool, true, false, ◌&&◌, List, [], ◌∷◌, length, nat_lt, int_le, is_some}
+use Rattle.std.specs.Prelude.{◌≡◌, ℕ, pos, Bool, true, false, ◌&&◌, List, [], ◌∷◌, length, bytes_eq, nat_lt, int_le, is_some}
+use Rattle.std.specs.List.{list_any}
 use Rattle.std.specs.Result.{is_ok}
 use Rattle.json_path.specs.Machine.{path_of}
 use Rattle.element_props.specs.declared.prop.Prop.{Prop}
-use Rattle.element_props.specs.declared.prop.Prop.TheVariants.{Absent, Template, Text, Number, Truth, Choice, Pattern, Pairs, Replies, Texts, Patterns}
+use Rattle.element_props.specs.declared.prop.Prop.TheVariants.{Absent, Template, Text, Number, Truth, Word, Pattern, Pairs, Replies, Texts, Patterns}
+use Rattle.element_props.specs.Named.{NamedValue}
 use Rattle.element_props.specs.Forms.{filled_text}
 use Rattle.element_props.specs.FormRows.{Form, template, plain, filled, lock, whole, up_to, flag, choice, pattern, test_patterns, pairs, replies, texts, csv, json_path, largest, Presence, optional, Row}
 
@@ -21,7 +23,7 @@ FitsForm lock (Text s) = IsShort 256 s × IsFilled s
 FitsForm (whole low high) (Number z) = (int_le low z && int_le z high) ≡ true
 FitsForm (up_to name) (Number z) = (int_le (pos 0) z && int_le z largest) ≡ true
 FitsForm flag (Truth b) = Unit {0}
-FitsForm (choice words) (Choice n) = nat_lt n (length words) ≡ true
+FitsForm (choice words) (Word text) = list_any (λ w. bytes_eq w text) words ≡ true
 FitsForm pattern (Pattern s) = IsShort 65536 s
 FitsForm test_patterns (Patterns ss rs ws) = Unit {0}
 FitsForm pairs (Pairs ps) = Unit {0}
@@ -40,8 +42,8 @@ abbrev pub FitsRow : Row → Prop → Type 0
 FitsRow row Absent = is_optional row.presence ≡ true
 FitsRow row p = FitsForm row.form p
 
--- a value for each row
-abbrev pub FitsAll : List Row → List Prop → Type 0
+-- a property for each row, by the row's name
+abbrev pub FitsAll : List Row → List NamedValue → Type 0
 FitsAll [] [] = Unit {0}
-FitsAll (row ∷ rows) (p ∷ ps) = FitsRow row p × FitsAll rows ps
+FitsAll (row ∷ rows) (p ∷ ps) = (p.name ≡ row.name) × FitsRow row p.value × FitsAll rows ps
 FitsAll rows ps = ⊥

@@ -1,27 +1,15 @@
--- The kind that the values of its type's properties make, and those values again.
-use Rattle.std.specs.Prelude.{ℕ, zero, suc, ◌^◌, ℤ, pos, negsuc, Bool, List, [], ◌∷◌, Option, Some, None, if◌then◌else◌, nat_lt}
+-- The kind that the properties of its type make, each taken by its name.
+use Rattle.std.specs.Prelude.{ℕ, ◌^◌, ℤ, pos, negsuc, Bool, List, [], ◌∷◌, Option, Some, None, if◌then◌else◌, nat_lt, codes}
 use Rattle.template_text.specs.Pieces.{Pieces}
 use Rattle.jm_base.specs.declared.types.ScriptReply.{ScriptReply}
-use Rattle.jm_base.specs.declared.types.Method.{Method}
-use Rattle.jm_base.specs.declared.types.Method.TheVariants as methods
+use Rattle.element_props.specs.Choices.{named, on_error_word, on_errors, field_word, fields, method_word, methods, at_end_word, at_ends, share_word, shares, test_word, tests, comparison_word, comparisons}
+use Rattle.element_props.specs.Named.{NamedValue, value_named, rest}
 use Rattle.element_props.specs.declared.prop.Pair.{Pair}
 use Rattle.element_props.specs.declared.prop.Prop.{Prop}
-use Rattle.element_props.specs.declared.prop.Prop.TheVariants.{Absent, Template, Text, Number, Truth, Choice, Pattern, Pairs, Replies, Texts, Patterns}
+use Rattle.element_props.specs.declared.prop.Prop.TheVariants.{Absent, Template, Text, Number, Truth, Word, Pattern, Pairs, Replies, Texts, Patterns}
 use Rattle.element_tree.specs.declared.kinds.Kind.{Kind}
 use Rattle.element_tree.specs.declared.kinds.Kind.TheVariants as kinds
 use Rattle.element_tree.specs.declared.kinds.Assertion.TheVariants.{Response, Duration, Size}
-use Rattle.element_tree.specs.declared.kinds.OnError.{OnError}
-use Rattle.element_tree.specs.declared.kinds.OnError.TheVariants as on_errors
-use Rattle.element_tree.specs.declared.kinds.Field.{Field}
-use Rattle.element_tree.specs.declared.kinds.Field.TheVariants as fields
-use Rattle.element_tree.specs.declared.kinds.AtEnd.{AtEnd}
-use Rattle.element_tree.specs.declared.kinds.AtEnd.TheVariants as at_ends
-use Rattle.element_tree.specs.declared.kinds.Share.{Share}
-use Rattle.element_tree.specs.declared.kinds.Share.TheVariants as shares
-use Rattle.element_tree.specs.declared.kinds.TestKind.{TestKind}
-use Rattle.element_tree.specs.declared.kinds.TestKind.TheVariants as tests
-use Rattle.element_tree.specs.declared.kinds.Comparison.{Comparison}
-use Rattle.element_tree.specs.declared.kinds.Comparison.TheVariants as comparisons
 use Rattle.element_tree.specs.declared.kinds.Loops.{Loops}
 use Rattle.element_tree.specs.declared.kinds.Loops.TheVariants.{Forever, Times}
 use Rattle.element_tree.specs.declared.types.ElementType.{ElementType}
@@ -31,16 +19,6 @@ infixl 10 ◌>>=◌
 abbrev pub ◌>>=◌ : {A B : Type 0} → Option A → (A → Option B) → Option B
 None >>= f = None
 (Some x) >>= f = f x
-
--- ---- the properties one after another
-
-abbrev pub first : List Prop → Prop
-first [] = Absent
-first (p ∷ ps) = p
-
-abbrev pub rest : List Prop → List Prop
-rest [] = []
-rest (p ∷ ps) = ps
 
 -- ---- one property as the field's type
 
@@ -107,86 +85,22 @@ maybe_replies_in (Replies rs) = Some (Some rs)
 maybe_replies_in Absent = Some None
 maybe_replies_in p = None
 
-abbrev pub on_error_at : ℕ → OnError
-on_error_at zero = on_errors.Continue
-on_error_at (suc zero) = on_errors.NextLoop
-on_error_at (suc (suc zero)) = on_errors.StopThread
-on_error_at (suc (suc (suc n))) = on_errors.StopTest
-
-abbrev pub on_error_in : Prop → Option OnError
-on_error_in (Choice n) = Some (on_error_at n)
-on_error_in p = None
-
-abbrev pub field_at : ℕ → Field
-field_at zero = fields.Body
-field_at (suc zero) = fields.Headers
-field_at (suc (suc zero)) = fields.Code
-field_at (suc (suc (suc n))) = fields.Message
-
-abbrev pub field_in : Prop → Option Field
-field_in (Choice n) = Some (field_at n)
-field_in p = None
-
-abbrev pub method_at : ℕ → Method
-method_at zero = methods.Get
-method_at (suc zero) = methods.Post
-method_at (suc (suc zero)) = methods.Put
-method_at (suc (suc (suc zero))) = methods.Delete
-method_at (suc (suc (suc (suc n)))) = methods.Head
-
-abbrev pub method_in : Prop → Option Method
-method_in (Choice n) = Some (method_at n)
-method_in p = None
-
-abbrev pub at_end_at : ℕ → AtEnd
-at_end_at zero = at_ends.Recycle
-at_end_at (suc zero) = at_ends.Stop
-at_end_at (suc (suc n)) = at_ends.Eof
-
-abbrev pub at_end_in : Prop → Option AtEnd
-at_end_in (Choice n) = Some (at_end_at n)
-at_end_in p = None
-
-abbrev pub share_at : ℕ → Share
-share_at n = shares.Thread
-
-abbrev pub share_in : Prop → Option Share
-share_in (Choice n) = Some (share_at n)
-share_in p = None
-
-abbrev pub test_at : ℕ → TestKind
-test_at zero = tests.Contains
-test_at (suc zero) = tests.Matches
-test_at (suc (suc zero)) = tests.Equals
-test_at (suc (suc (suc n))) = tests.Substring
-
-abbrev pub test_in : Prop → Option TestKind
-test_in (Choice n) = Some (test_at n)
-test_in p = None
-
-abbrev pub comparison_at : ℕ → Comparison
-comparison_at zero = comparisons.Equal
-comparison_at (suc zero) = comparisons.NotEqual
-comparison_at (suc (suc zero)) = comparisons.Above
-comparison_at (suc (suc (suc zero))) = comparisons.Below
-comparison_at (suc (suc (suc (suc zero)))) = comparisons.AtLeast
-comparison_at (suc (suc (suc (suc (suc n))))) = comparisons.AtMost
-
-abbrev pub comparison_in : Prop → Option Comparison
-comparison_in (Choice n) = Some (comparison_at n)
-comparison_in p = None
+-- the value that a text stands for
+abbrev pub choice_in : {C : Type 0} → (C → List ℕ) → List C → Prop → Option C
+choice_in word all (Word text) = named word all text
+choice_in word all p = None
 
 -- ---- a line for each type, its fields in byte order of the properties
 
-unfoldable pub kind_of : ElementType → List Prop → Option Kind
+unfoldable pub kind_of : ElementType → List NamedValue → Option Kind
 kind_of types.TestPlan ps = do
-  version ← number_in (2 ^ 8) (first ps)
+  version ← number_in (2 ^ 8) (value_named (codes "version") ps)
   Some (kinds.TestPlan version)
 kind_of types.ThreadGroup ps = do
-  loops ← loops_in (first ps)
-  on_error ← on_error_in (first (rest ps))
-  ramp_ms ← number_in (2 ^ 32) (first (rest (rest ps)))
-  threads ← number_in (2 ^ 16) (first (rest (rest (rest ps))))
+  loops ← loops_in (value_named (codes "loops") ps)
+  on_error ← choice_in on_error_word on_errors (value_named (codes "onError") (rest ps))
+  ramp_ms ← number_in (2 ^ 32) (value_named (codes "rampMs") (rest (rest ps)))
+  threads ← number_in (2 ^ 16) (value_named (codes "threads") (rest (rest (rest ps))))
   Some (kinds.ThreadGroup loops on_error ramp_ms threads)
 kind_of types.Simple ps = Some kinds.Simple
 kind_of types.OnceOnly ps = Some kinds.OnceOnly
@@ -195,109 +109,109 @@ kind_of types.Random ps = Some kinds.Random
 kind_of types.RandomOrder ps = Some kinds.RandomOrder
 kind_of types.Transaction ps = Some kinds.Transaction
 kind_of types.Loop ps = do
-  loops ← template_in (first ps)
+  loops ← template_in (value_named (codes "loops") ps)
   Some (kinds.Loop loops)
 kind_of types.If ps = do
-  all ← truth_in (first ps)
-  condition ← template_in (first (rest ps))
+  all ← truth_in (value_named (codes "all") ps)
+  condition ← template_in (value_named (codes "condition") (rest ps))
   Some (kinds.If all condition)
 kind_of types.While ps = do
-  condition ← template_in (first ps)
+  condition ← template_in (value_named (codes "condition") ps)
   Some (kinds.While condition)
 kind_of types.Switch ps = do
-  value ← template_in (first ps)
+  value ← template_in (value_named (codes "value") ps)
   Some (kinds.Switch value)
 kind_of types.ForEach ps = do
-  end ← number_in (2 ^ 32) (first ps)
-  input ← text_in (first (rest ps))
-  output ← text_in (first (rest (rest ps)))
-  separator ← truth_in (first (rest (rest (rest ps))))
-  start ← number_in (2 ^ 32) (first (rest (rest (rest (rest ps)))))
+  end ← number_in (2 ^ 32) (value_named (codes "end") ps)
+  input ← text_in (value_named (codes "input") (rest ps))
+  output ← text_in (value_named (codes "output") (rest (rest ps)))
+  separator ← truth_in (value_named (codes "separator") (rest (rest (rest ps))))
+  start ← number_in (2 ^ 32) (value_named (codes "start") (rest (rest (rest (rest ps)))))
   Some (kinds.ForEach end input output separator start)
 kind_of types.CriticalSection ps = do
-  lock ← text_in (first ps)
+  lock ← text_in (value_named (codes "lock") ps)
   Some (kinds.CriticalSection lock)
 kind_of types.Script ps = do
-  replies ← replies_in (first ps)
-  request ← template_in (first (rest ps))
+  replies ← replies_in (value_named (codes "replies") ps)
+  request ← template_in (value_named (codes "request") (rest ps))
   Some (kinds.Script replies request)
 kind_of types.Http ps = do
-  body ← template_in (first ps)
-  host ← template_in (first (rest ps))
-  method ← method_in (first (rest (rest ps)))
-  params ← pairs_in (first (rest (rest (rest ps))))
-  path ← template_in (first (rest (rest (rest (rest ps)))))
-  port ← template_in (first (rest (rest (rest (rest (rest ps))))))
-  replies ← maybe_replies_in (first (rest (rest (rest (rest (rest (rest ps)))))))
+  body ← template_in (value_named (codes "body") ps)
+  host ← template_in (value_named (codes "host") (rest ps))
+  method ← choice_in method_word methods (value_named (codes "method") (rest (rest ps)))
+  params ← pairs_in (value_named (codes "params") (rest (rest (rest ps))))
+  path ← template_in (value_named (codes "path") (rest (rest (rest (rest ps)))))
+  port ← template_in (value_named (codes "port") (rest (rest (rest (rest (rest ps))))))
+  replies ← maybe_replies_in (value_named (codes "replies") (rest (rest (rest (rest (rest (rest ps)))))))
   Some (kinds.Http body host method params path port replies)
 kind_of types.UserVariables ps = do
-  vars ← pairs_in (first ps)
+  vars ← pairs_in (value_named (codes "vars") ps)
   Some (kinds.UserVariables vars)
 kind_of types.HttpDefaults ps = do
-  host ← template_in (first ps)
-  path ← template_in (first (rest ps))
-  port ← template_in (first (rest (rest ps)))
+  host ← template_in (value_named (codes "host") ps)
+  path ← template_in (value_named (codes "path") (rest ps))
+  port ← template_in (value_named (codes "port") (rest (rest ps)))
   Some (kinds.HttpDefaults host path port)
 kind_of types.HeaderManager ps = do
-  headers ← pairs_in (first ps)
+  headers ← pairs_in (value_named (codes "headers") ps)
   Some (kinds.HeaderManager headers)
 kind_of types.Counter ps = do
-  increment ← number_in (2 ^ 64) (first ps)
-  maximum ← number_in (2 ^ 64) (first (rest ps))
-  start ← number_in (2 ^ 64) (first (rest (rest ps)))
-  var ← text_in (first (rest (rest (rest ps))))
+  increment ← number_in (2 ^ 64) (value_named (codes "increment") ps)
+  maximum ← number_in (2 ^ 64) (value_named (codes "maximum") (rest ps))
+  start ← number_in (2 ^ 64) (value_named (codes "start") (rest (rest ps)))
+  var ← text_in (value_named (codes "var") (rest (rest (rest ps))))
   Some (kinds.Counter increment maximum start var)
 kind_of types.DataSet ps = do
-  at_end ← at_end_in (first ps)
-  names ← texts_in (first (rest ps))
-  share ← share_in (first (rest (rest ps)))
-  text ← text_in (first (rest (rest (rest ps))))
+  at_end ← choice_in at_end_word at_ends (value_named (codes "atEnd") ps)
+  names ← texts_in (value_named (codes "names") (rest ps))
+  share ← choice_in share_word shares (value_named (codes "share") (rest (rest ps)))
+  text ← text_in (value_named (codes "text") (rest (rest (rest ps))))
   Some (kinds.DataSet at_end names share text)
 kind_of types.UserParameters ps = do
-  vars ← pairs_in (first ps)
+  vars ← pairs_in (value_named (codes "vars") ps)
   Some (kinds.UserParameters vars)
 kind_of types.ConstantTimer ps = do
-  delay ← template_in (first ps)
+  delay ← template_in (value_named (codes "delay") ps)
   Some (kinds.ConstantTimer delay)
 kind_of types.UniformTimer ps = do
-  offset ← template_in (first ps)
-  range ← template_in (first (rest ps))
+  offset ← template_in (value_named (codes "offset") ps)
+  range ← template_in (value_named (codes "range") (rest ps))
   Some (kinds.UniformTimer offset range)
 kind_of types.RegexExtractor ps = do
-  default ← maybe_in (first ps)
-  field ← field_in (first (rest ps))
-  match_ ← signed_in (first (rest (rest ps)))
-  pattern ← pattern_in (first (rest (rest (rest ps))))
-  ref_ ← text_in (first (rest (rest (rest (rest ps)))))
-  template ← text_in (first (rest (rest (rest (rest (rest ps))))))
+  default ← maybe_in (value_named (codes "default") ps)
+  field ← choice_in field_word fields (value_named (codes "field") (rest ps))
+  match_ ← signed_in (value_named (codes "match") (rest (rest ps)))
+  pattern ← pattern_in (value_named (codes "pattern") (rest (rest (rest ps))))
+  ref_ ← text_in (value_named (codes "ref") (rest (rest (rest (rest ps)))))
+  template ← text_in (value_named (codes "template") (rest (rest (rest (rest (rest ps))))))
   Some (kinds.RegexExtractor (record { default = default; field = field; match_ = match_; pattern = pattern; ref_ = ref_; template = template }))
 kind_of types.JsonExtractor ps = do
-  default ← maybe_in (first ps)
-  match_ ← signed_in (first (rest ps))
-  path ← text_in (first (rest (rest ps)))
-  ref_ ← text_in (first (rest (rest (rest ps))))
+  default ← maybe_in (value_named (codes "default") ps)
+  match_ ← signed_in (value_named (codes "match") (rest ps))
+  path ← text_in (value_named (codes "path") (rest (rest ps)))
+  ref_ ← text_in (value_named (codes "ref") (rest (rest (rest ps))))
   Some (kinds.JsonExtractor (record { default = default; match_ = match_; path = path; ref_ = ref_ }))
 kind_of types.BoundaryExtractor ps = do
-  default ← maybe_in (first ps)
-  field ← field_in (first (rest ps))
-  left ← text_in (first (rest (rest ps)))
-  match_ ← signed_in (first (rest (rest (rest ps))))
-  ref_ ← text_in (first (rest (rest (rest (rest ps)))))
-  right ← text_in (first (rest (rest (rest (rest (rest ps))))))
+  default ← maybe_in (value_named (codes "default") ps)
+  field ← choice_in field_word fields (value_named (codes "field") (rest ps))
+  left ← text_in (value_named (codes "left") (rest (rest ps)))
+  match_ ← signed_in (value_named (codes "match") (rest (rest (rest ps))))
+  ref_ ← text_in (value_named (codes "ref") (rest (rest (rest (rest ps)))))
+  right ← text_in (value_named (codes "right") (rest (rest (rest (rest (rest ps))))))
   Some (kinds.BoundaryExtractor (record { default = default; field = field; left = left; match_ = match_; ref_ = ref_; right = right }))
 kind_of types.ResponseAssertion ps = do
-  field ← field_in (first ps)
-  ignore_status ← truth_in (first (rest ps))
-  not ← truth_in (first (rest (rest ps)))
-  or ← truth_in (first (rest (rest (rest ps))))
-  patterns ← patterns_in (first (rest (rest (rest (rest ps)))))
-  test ← test_in (first (rest (rest (rest (rest (rest ps))))))
+  field ← choice_in field_word fields (value_named (codes "field") ps)
+  ignore_status ← truth_in (value_named (codes "ignoreStatus") (rest ps))
+  not ← truth_in (value_named (codes "not") (rest (rest ps)))
+  or ← truth_in (value_named (codes "or") (rest (rest (rest ps))))
+  patterns ← patterns_in (value_named (codes "patterns") (rest (rest (rest (rest ps)))))
+  test ← choice_in test_word tests (value_named (codes "test") (rest (rest (rest (rest (rest ps))))))
   Some (kinds.ResponseAssertion (Response field ignore_status not or patterns.0 patterns.1 test patterns.2))
 kind_of types.DurationAssertion ps = do
-  ms ← number_in (2 ^ 32) (first ps)
+  ms ← number_in (2 ^ 32) (value_named (codes "ms") ps)
   Some (kinds.DurationAssertion (Duration ms))
 kind_of types.SizeAssertion ps = do
-  op ← comparison_in (first ps)
-  size ← number_in (2 ^ 32) (first (rest ps))
+  op ← choice_in comparison_word comparisons (value_named (codes "op") ps)
+  size ← number_in (2 ^ 32) (value_named (codes "size") (rest ps))
   Some (kinds.SizeAssertion (Size op size))
 kind_of types.Listener ps = Some kinds.Listener

@@ -1,6 +1,7 @@
 -- The types of element by name, each with its properties.
-use Rattle.std.specs.Prelude.{ℕ, pos, negsuc, true, false, List, [], ◌∷◌, Option, Some, None, codes, bytes_eq, if◌then◌else◌}
-use Rattle.element_props.specs.FormRows.{Row, ◌is◌otherwise◌, largest, choice, csv, filled, first_choice, flag, json_path, lock, no_pairs, number_default, optional, pairs, pattern, plain, replies, required, template, test_patterns, text_default, texts, truth_default, up_to, whole, on_errors, fields, methods, at_ends, shares, tests, comparisons}
+use Rattle.std.specs.Prelude.{ℕ, pos, negsuc, true, false, List, [], ◌∷◌, Option, Some, None, codes, bytes_eq, map, if◌then◌else◌}
+use Rattle.element_props.specs.Choices.{on_error_word, on_errors, field_word, fields, method_word, methods, at_end_word, at_ends, share_word, shares, test_word, tests, comparison_word, comparisons}
+use Rattle.element_props.specs.FormRows.{Row, ◌is◌otherwise◌, largest, choice, csv, filled, first_choice, flag, json_path, lock, no_pairs, number_default, optional, pairs, pattern, plain, replies, required, template, test_patterns, text_default, texts, truth_default, up_to, whole}
 use Rattle.element_tree.specs.declared.types.ElementType.{ElementType}
 use Rattle.element_tree.specs.declared.types.ElementType.TheVariants as types
 
@@ -9,7 +10,7 @@ abbrev pub rows : ℕ → ElementType → List Row
 rows version types.TestPlan = (codes "version" is whole (pos 1) (pos 1) otherwise number_default (pos 1)) ∷ []
 rows version types.ThreadGroup =
     (codes "loops" is whole (negsuc 0) (pos 2147483647) otherwise number_default (pos 1))
-    ∷ (codes "onError" is choice on_errors otherwise first_choice)
+    ∷ (codes "onError" is choice (map on_error_word on_errors) otherwise first_choice)
     ∷ (codes "rampMs" is whole (pos 0) (pos 86400000) otherwise number_default (pos 0))
     ∷ (codes "threads" is whole (pos 1) (pos 64) otherwise number_default (pos 1))
     ∷ []
@@ -41,7 +42,7 @@ rows version types.Script =
 rows version types.Http =
     (codes "body" is template otherwise text_default [])
     ∷ (codes "host" is template otherwise text_default [])
-    ∷ (codes "method" is choice methods otherwise first_choice)
+    ∷ (codes "method" is choice (map method_word methods) otherwise first_choice)
     ∷ (codes "params" is pairs otherwise no_pairs)
     ∷ (codes "path" is template otherwise text_default [])
     ∷ (codes "port" is template otherwise text_default [])
@@ -61,9 +62,9 @@ rows version types.Counter =
     ∷ (codes "var" is plain otherwise required)
     ∷ []
 rows version types.DataSet =
-    (codes "atEnd" is choice at_ends otherwise first_choice)
+    (codes "atEnd" is choice (map at_end_word at_ends) otherwise first_choice)
     ∷ (codes "names" is texts otherwise required)
-    ∷ (codes "share" is choice shares otherwise required)
+    ∷ (codes "share" is choice (map share_word shares) otherwise required)
     ∷ (codes "text" is csv (codes "names") otherwise required)
     ∷ []
 rows version types.UserParameters = (codes "vars" is pairs otherwise required) ∷ []
@@ -74,7 +75,7 @@ rows version types.UniformTimer =
     ∷ []
 rows version types.RegexExtractor =
     (codes "default" is plain otherwise optional)
-    ∷ (codes "field" is choice fields otherwise first_choice)
+    ∷ (codes "field" is choice (map field_word fields) otherwise first_choice)
     ∷ (codes "match" is whole (negsuc 0) (pos 65536) otherwise number_default (pos 1))
     ∷ (codes "pattern" is pattern otherwise required)
     ∷ (codes "ref" is filled otherwise required)
@@ -88,23 +89,23 @@ rows version types.JsonExtractor =
     ∷ []
 rows version types.BoundaryExtractor =
     (codes "default" is plain otherwise optional)
-    ∷ (codes "field" is choice fields otherwise first_choice)
+    ∷ (codes "field" is choice (map field_word fields) otherwise first_choice)
     ∷ (codes "left" is filled otherwise required)
     ∷ (codes "match" is whole (negsuc 0) (pos 65536) otherwise number_default (pos 1))
     ∷ (codes "ref" is filled otherwise required)
     ∷ (codes "right" is filled otherwise required)
     ∷ []
 rows version types.ResponseAssertion =
-    (codes "field" is choice fields otherwise first_choice)
+    (codes "field" is choice (map field_word fields) otherwise first_choice)
     ∷ (codes "ignoreStatus" is flag otherwise truth_default false)
     ∷ (codes "not" is flag otherwise truth_default false)
     ∷ (codes "or" is flag otherwise truth_default false)
     ∷ (codes "patterns" is test_patterns otherwise required)
-    ∷ (codes "test" is choice tests otherwise required)
+    ∷ (codes "test" is choice (map test_word tests) otherwise required)
     ∷ []
 rows version types.DurationAssertion = (codes "ms" is whole (pos 0) (pos 4294967295) otherwise required) ∷ []
 rows version types.SizeAssertion =
-    (codes "op" is choice comparisons otherwise required)
+    (codes "op" is choice (map comparison_word comparisons) otherwise required)
     ∷ (codes "size" is whole (pos 0) (pos 4294967295) otherwise required)
     ∷ []
 rows version types.Listener = []

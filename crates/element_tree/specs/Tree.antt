@@ -7,7 +7,7 @@ use Rattle.element_tree.specs.declared.kinds.Element.{Element}
 use Rattle.element_tree.specs.declared.kinds.Kind.{Kind}
 use Rattle.element_tree.specs.declared.kinds.Kind.TheVariants.{TestPlan, ThreadGroup, Script, Http}
 use Rattle.element_tree.specs.declared.kinds.Loops.{Loops}
-use Rattle.element_tree.specs.declared.kinds.OnError.{OnError}
+use Rattle.element_props.specs.declared.choices.OnError.{OnError}
 use Rattle.element_tree.specs.declared.threads.Thread.{Thread}
 use Rattle.element_tree.specs.Types.{class_of, may_stand, is_section}
 use Rattle.element_tree.specs.Forms.{HasForms}

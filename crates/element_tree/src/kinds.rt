@@ -5,6 +5,7 @@ ghost use Rattle.element_tree.specs.Types.{type_of};
 
 use crate::types::ElementType;
 use element_props::{Pair, Pattern};
+pub use element_props::{AtEnd, Comparison, Field, OnError, Share, TestKind};
 use jm_base::{Items, Method, ScriptReply, Text};
 use template_text::Template;
 
@@ -15,66 +16,6 @@ pub enum Loops {
     Forever,
     /// That many rounds, at most 2,147,483,647.
     Times(u32),
-}
-
-/// What a failed sample does to its thread (the manual's "Action to be taken after a Sampler error").
-#[derive(Clone, Copy, PartialEq, Eq, Debug)]
-pub enum OnError {
-    Continue,
-    NextLoop,
-    StopThread,
-    StopTest,
-}
-
-/// The part of a reply that is looked at.
-#[derive(Clone, Copy, PartialEq, Eq, Debug)]
-pub enum Field {
-    Body,
-    Headers,
-    Code,
-    Message,
-}
-
-/// How a body's length is compared with a size.
-#[derive(Clone, Copy, PartialEq, Eq, Debug)]
-pub enum Comparison {
-    Equal,
-    NotEqual,
-    Above,
-    Below,
-    AtLeast,
-    AtMost,
-}
-
-/// What a data set does after its last row.
-#[derive(Clone, Copy, PartialEq, Eq, Debug)]
-pub enum AtEnd {
-    /// It begins again.
-    Recycle,
-    /// It ends the thread.
-    Stop,
-    /// It sets each name to `<EOF>`.
-    Eof,
-}
-
-/// Which threads share the rows of a data set.
-#[derive(Clone, Copy, PartialEq, Eq, Debug)]
-pub enum Share {
-    /// Each thread has all rows.
-    Thread,
-}
-
-/// How a response assertion tries a pattern (the manual's "Pattern Matching Rules").
-#[derive(Clone, Copy, PartialEq, Eq, Debug)]
-pub enum TestKind {
-    /// The text contains a match of the regular expression.
-    Contains,
-    /// The whole text matches the regular expression.
-    Matches,
-    /// The text is the pattern.
-    Equals,
-    /// The text contains the pattern as it is.
-    Substring,
 }
 
 /// Takes text from a reply by a regular expression (the manual's "Regular Expression Extractor").

@@ -1,21 +1,19 @@
-// Makes a kind of the values of its type's properties.
+// Makes a kind of the properties of its type, each taken by its name.
 
 ghost use Rattle.std.specs.Prelude.{◌≡◌, ◌^◌, Some};
 ghost use Rattle.std.specs.Vec.Iter.{into_iter_items};
-ghost use Rattle.element_tree.specs.Kinds.{first, rest, template_in, text_in, maybe_in, number_in, signed_in, loops_in, truth_in, pattern_in, pairs_in, texts_in, replies_in, maybe_replies_in, patterns_in, on_error_at, on_error_in, field_at, field_in, method_at, method_in, at_end_at, at_end_in, share_at, share_in, test_at, test_in, comparison_at, comparison_in, kind_of};
+ghost use Rattle.element_props.specs.Named.{value_named, rest};
+ghost use Rattle.element_tree.specs.Kinds.{template_in, text_in, maybe_in, number_in, signed_in, loops_in, truth_in, pattern_in, pairs_in, texts_in, replies_in, maybe_replies_in, patterns_in, choice_in, kind_of};
 
-use crate::kinds::{
-    Assertion, AtEnd, BoundaryExtractor, Comparison, Field, JsonExtractor, Kind, Loops, OnError,
-    RegexExtractor, Share, TestKind,
-};
+use crate::kinds::{Assertion, BoundaryExtractor, JsonExtractor, Kind, Loops, RegexExtractor};
 use crate::types::ElementType;
-use element_props::{Pair, Pattern, Prop};
-use jm_base::{Items, Method, ScriptReply, Text};
+use element_props::{Choice, NamedProp, Pair, Pattern, Prop, choice_of};
+use jm_base::{Items, ScriptReply, Text};
 use std::vec::IntoIter;
 use template_text::Template;
 
-/// The kind of this type whose properties have these values, in byte order of their names.
-pub fn kind_of(kind: ElementType, props: Vec<Prop>) -> Option<Kind>
+/// The kind of this type that these properties make, which stand in byte order of their names.
+pub fn kind_of(kind: ElementType, props: Vec<NamedProp>) -> Option<Kind>
     ensures { result ≡ kind_of kind props.items }
 {
     let props = props.into_iter();
@@ -55,283 +53,283 @@ pub fn kind_of(kind: ElementType, props: Vec<Prop>) -> Option<Kind>
 }
 
 #[tactic(auto, unfolding(crate::specs::Kinds::kind_of))]
-fn test_plan_of(mut props: IntoIter<Prop>) -> Option<Kind>
+fn test_plan_of(mut props: IntoIter<NamedProp>) -> Option<Kind>
     ensures { result ≡ kind_of ElementType.TestPlan (into_iter_items props) }
 {
     Some(Kind::TestPlan {
-        version: whole_u8(next(&mut props))?,
+        version: whole_u8(take(&mut props, "version"))?,
     })
 }
 
 #[tactic(auto, unfolding(crate::specs::Kinds::kind_of))]
-fn thread_group_of(mut props: IntoIter<Prop>) -> Option<Kind>
+fn thread_group_of(mut props: IntoIter<NamedProp>) -> Option<Kind>
     ensures { result ≡ kind_of ElementType.ThreadGroup (into_iter_items props) }
 {
     Some(Kind::ThreadGroup {
-        loops: loops(next(&mut props))?,
-        on_error: on_error(next(&mut props))?,
-        ramp_ms: whole_u32(next(&mut props))?,
-        threads: whole_u16(next(&mut props))?,
+        loops: loops(take(&mut props, "loops"))?,
+        on_error: choice(&mut props, "onError")?,
+        ramp_ms: whole_u32(take(&mut props, "rampMs"))?,
+        threads: whole_u16(take(&mut props, "threads"))?,
     })
 }
 
 #[tactic(auto, unfolding(crate::specs::Kinds::kind_of))]
-fn simple_of(props: IntoIter<Prop>) -> Option<Kind>
+fn simple_of(props: IntoIter<NamedProp>) -> Option<Kind>
     ensures { result ≡ kind_of ElementType.Simple (into_iter_items props) }
 {
     Some(Kind::Simple)
 }
 
 #[tactic(auto, unfolding(crate::specs::Kinds::kind_of))]
-fn once_only_of(props: IntoIter<Prop>) -> Option<Kind>
+fn once_only_of(props: IntoIter<NamedProp>) -> Option<Kind>
     ensures { result ≡ kind_of ElementType.OnceOnly (into_iter_items props) }
 {
     Some(Kind::OnceOnly)
 }
 
 #[tactic(auto, unfolding(crate::specs::Kinds::kind_of))]
-fn interleave_of(props: IntoIter<Prop>) -> Option<Kind>
+fn interleave_of(props: IntoIter<NamedProp>) -> Option<Kind>
     ensures { result ≡ kind_of ElementType.Interleave (into_iter_items props) }
 {
     Some(Kind::Interleave)
 }
 
 #[tactic(auto, unfolding(crate::specs::Kinds::kind_of))]
-fn random_of(props: IntoIter<Prop>) -> Option<Kind>
+fn random_of(props: IntoIter<NamedProp>) -> Option<Kind>
     ensures { result ≡ kind_of ElementType.Random (into_iter_items props) }
 {
     Some(Kind::Random)
 }
 
 #[tactic(auto, unfolding(crate::specs::Kinds::kind_of))]
-fn random_order_of(props: IntoIter<Prop>) -> Option<Kind>
+fn random_order_of(props: IntoIter<NamedProp>) -> Option<Kind>
     ensures { result ≡ kind_of ElementType.RandomOrder (into_iter_items props) }
 {
     Some(Kind::RandomOrder)
 }
 
 #[tactic(auto, unfolding(crate::specs::Kinds::kind_of))]
-fn transaction_of(props: IntoIter<Prop>) -> Option<Kind>
+fn transaction_of(props: IntoIter<NamedProp>) -> Option<Kind>
     ensures { result ≡ kind_of ElementType.Transaction (into_iter_items props) }
 {
     Some(Kind::Transaction)
 }
 
 #[tactic(auto, unfolding(crate::specs::Kinds::kind_of))]
-fn loop_of(mut props: IntoIter<Prop>) -> Option<Kind>
+fn loop_of(mut props: IntoIter<NamedProp>) -> Option<Kind>
     ensures { result ≡ kind_of ElementType.Loop (into_iter_items props) }
 {
     Some(Kind::Loop {
-        loops: template(next(&mut props))?,
+        loops: template(take(&mut props, "loops"))?,
     })
 }
 
 #[tactic(auto, unfolding(crate::specs::Kinds::kind_of))]
-fn if_of(mut props: IntoIter<Prop>) -> Option<Kind>
+fn if_of(mut props: IntoIter<NamedProp>) -> Option<Kind>
     ensures { result ≡ kind_of ElementType.If (into_iter_items props) }
 {
     Some(Kind::If {
-        all: truth(next(&mut props))?,
-        condition: template(next(&mut props))?,
+        all: truth(take(&mut props, "all"))?,
+        condition: template(take(&mut props, "condition"))?,
     })
 }
 
 #[tactic(auto, unfolding(crate::specs::Kinds::kind_of))]
-fn while_of(mut props: IntoIter<Prop>) -> Option<Kind>
+fn while_of(mut props: IntoIter<NamedProp>) -> Option<Kind>
     ensures { result ≡ kind_of ElementType.While (into_iter_items props) }
 {
     Some(Kind::While {
-        condition: template(next(&mut props))?,
+        condition: template(take(&mut props, "condition"))?,
     })
 }
 
 #[tactic(auto, unfolding(crate::specs::Kinds::kind_of))]
-fn switch_of(mut props: IntoIter<Prop>) -> Option<Kind>
+fn switch_of(mut props: IntoIter<NamedProp>) -> Option<Kind>
     ensures { result ≡ kind_of ElementType.Switch (into_iter_items props) }
 {
     Some(Kind::Switch {
-        value: template(next(&mut props))?,
+        value: template(take(&mut props, "value"))?,
     })
 }
 
 #[tactic(auto, unfolding(crate::specs::Kinds::kind_of))]
-fn for_each_of(mut props: IntoIter<Prop>) -> Option<Kind>
+fn for_each_of(mut props: IntoIter<NamedProp>) -> Option<Kind>
     ensures { result ≡ kind_of ElementType.ForEach (into_iter_items props) }
 {
     Some(Kind::ForEach {
-        end: whole_u32(next(&mut props))?,
-        input: text(next(&mut props))?,
-        output: text(next(&mut props))?,
-        separator: truth(next(&mut props))?,
-        start: whole_u32(next(&mut props))?,
+        end: whole_u32(take(&mut props, "end"))?,
+        input: text(take(&mut props, "input"))?,
+        output: text(take(&mut props, "output"))?,
+        separator: truth(take(&mut props, "separator"))?,
+        start: whole_u32(take(&mut props, "start"))?,
     })
 }
 
 #[tactic(auto, unfolding(crate::specs::Kinds::kind_of))]
-fn critical_section_of(mut props: IntoIter<Prop>) -> Option<Kind>
+fn critical_section_of(mut props: IntoIter<NamedProp>) -> Option<Kind>
     ensures { result ≡ kind_of ElementType.CriticalSection (into_iter_items props) }
 {
     Some(Kind::CriticalSection {
-        lock: text(next(&mut props))?,
+        lock: text(take(&mut props, "lock"))?,
     })
 }
 
 #[tactic(auto, unfolding(crate::specs::Kinds::kind_of))]
-fn script_of(mut props: IntoIter<Prop>) -> Option<Kind>
+fn script_of(mut props: IntoIter<NamedProp>) -> Option<Kind>
     ensures { result ≡ kind_of ElementType.Script (into_iter_items props) }
 {
     Some(Kind::Script {
-        replies: replies(next(&mut props))?,
-        request: template(next(&mut props))?,
+        replies: replies(take(&mut props, "replies"))?,
+        request: template(take(&mut props, "request"))?,
     })
 }
 
 #[tactic(auto, unfolding(crate::specs::Kinds::kind_of))]
-fn http_of(mut props: IntoIter<Prop>) -> Option<Kind>
+fn http_of(mut props: IntoIter<NamedProp>) -> Option<Kind>
     ensures { result ≡ kind_of ElementType.Http (into_iter_items props) }
 {
     Some(Kind::Http {
-        body: template(next(&mut props))?,
-        host: template(next(&mut props))?,
-        method: method(next(&mut props))?,
-        params: pairs(next(&mut props))?,
-        path: template(next(&mut props))?,
-        port: template(next(&mut props))?,
-        replies: maybe_replies(next(&mut props))?,
+        body: template(take(&mut props, "body"))?,
+        host: template(take(&mut props, "host"))?,
+        method: choice(&mut props, "method")?,
+        params: pairs(take(&mut props, "params"))?,
+        path: template(take(&mut props, "path"))?,
+        port: template(take(&mut props, "port"))?,
+        replies: maybe_replies(take(&mut props, "replies"))?,
     })
 }
 
 #[tactic(auto, unfolding(crate::specs::Kinds::kind_of))]
-fn user_variables_of(mut props: IntoIter<Prop>) -> Option<Kind>
+fn user_variables_of(mut props: IntoIter<NamedProp>) -> Option<Kind>
     ensures { result ≡ kind_of ElementType.UserVariables (into_iter_items props) }
 {
     Some(Kind::UserVariables {
-        vars: pairs(next(&mut props))?,
+        vars: pairs(take(&mut props, "vars"))?,
     })
 }
 
 #[tactic(auto, unfolding(crate::specs::Kinds::kind_of))]
-fn http_defaults_of(mut props: IntoIter<Prop>) -> Option<Kind>
+fn http_defaults_of(mut props: IntoIter<NamedProp>) -> Option<Kind>
     ensures { result ≡ kind_of ElementType.HttpDefaults (into_iter_items props) }
 {
     Some(Kind::HttpDefaults {
-        host: template(next(&mut props))?,
-        path: template(next(&mut props))?,
-        port: template(next(&mut props))?,
+        host: template(take(&mut props, "host"))?,
+        path: template(take(&mut props, "path"))?,
+        port: template(take(&mut props, "port"))?,
     })
 }
 
 #[tactic(auto, unfolding(crate::specs::Kinds::kind_of))]
-fn header_manager_of(mut props: IntoIter<Prop>) -> Option<Kind>
+fn header_manager_of(mut props: IntoIter<NamedProp>) -> Option<Kind>
     ensures { result ≡ kind_of ElementType.HeaderManager (into_iter_items props) }
 {
     Some(Kind::HeaderManager {
-        headers: pairs(next(&mut props))?,
+        headers: pairs(take(&mut props, "headers"))?,
     })
 }
 
 #[tactic(auto, unfolding(crate::specs::Kinds::kind_of))]
-fn counter_of(mut props: IntoIter<Prop>) -> Option<Kind>
+fn counter_of(mut props: IntoIter<NamedProp>) -> Option<Kind>
     ensures { result ≡ kind_of ElementType.Counter (into_iter_items props) }
 {
     Some(Kind::Counter {
-        increment: whole_u64(next(&mut props))?,
-        maximum: whole_u64(next(&mut props))?,
-        start: whole_u64(next(&mut props))?,
-        var: text(next(&mut props))?,
+        increment: whole_u64(take(&mut props, "increment"))?,
+        maximum: whole_u64(take(&mut props, "maximum"))?,
+        start: whole_u64(take(&mut props, "start"))?,
+        var: text(take(&mut props, "var"))?,
     })
 }
 
 #[tactic(auto, unfolding(crate::specs::Kinds::kind_of))]
-fn data_set_of(mut props: IntoIter<Prop>) -> Option<Kind>
+fn data_set_of(mut props: IntoIter<NamedProp>) -> Option<Kind>
     ensures { result ≡ kind_of ElementType.DataSet (into_iter_items props) }
 {
     Some(Kind::DataSet {
-        at_end: at_end(next(&mut props))?,
-        names: texts(next(&mut props))?,
-        share: share(next(&mut props))?,
-        text: text(next(&mut props))?,
+        at_end: choice(&mut props, "atEnd")?,
+        names: texts(take(&mut props, "names"))?,
+        share: choice(&mut props, "share")?,
+        text: text(take(&mut props, "text"))?,
     })
 }
 
 #[tactic(auto, unfolding(crate::specs::Kinds::kind_of))]
-fn user_parameters_of(mut props: IntoIter<Prop>) -> Option<Kind>
+fn user_parameters_of(mut props: IntoIter<NamedProp>) -> Option<Kind>
     ensures { result ≡ kind_of ElementType.UserParameters (into_iter_items props) }
 {
     Some(Kind::UserParameters {
-        vars: pairs(next(&mut props))?,
+        vars: pairs(take(&mut props, "vars"))?,
     })
 }
 
 #[tactic(auto, unfolding(crate::specs::Kinds::kind_of))]
-fn constant_timer_of(mut props: IntoIter<Prop>) -> Option<Kind>
+fn constant_timer_of(mut props: IntoIter<NamedProp>) -> Option<Kind>
     ensures { result ≡ kind_of ElementType.ConstantTimer (into_iter_items props) }
 {
     Some(Kind::ConstantTimer {
-        delay: template(next(&mut props))?,
+        delay: template(take(&mut props, "delay"))?,
     })
 }
 
 #[tactic(auto, unfolding(crate::specs::Kinds::kind_of))]
-fn uniform_timer_of(mut props: IntoIter<Prop>) -> Option<Kind>
+fn uniform_timer_of(mut props: IntoIter<NamedProp>) -> Option<Kind>
     ensures { result ≡ kind_of ElementType.UniformTimer (into_iter_items props) }
 {
     Some(Kind::UniformTimer {
-        offset: template(next(&mut props))?,
-        range: template(next(&mut props))?,
+        offset: template(take(&mut props, "offset"))?,
+        range: template(take(&mut props, "range"))?,
     })
 }
 
 #[tactic(auto, unfolding(crate::specs::Kinds::kind_of))]
-fn regex_extractor_of(mut props: IntoIter<Prop>) -> Option<Kind>
+fn regex_extractor_of(mut props: IntoIter<NamedProp>) -> Option<Kind>
     ensures { result ≡ kind_of ElementType.RegexExtractor (into_iter_items props) }
 {
     Some(Kind::RegexExtractor(RegexExtractor {
-        default: maybe(next(&mut props))?,
-        field: field(next(&mut props))?,
-        match_: whole_i32(next(&mut props))?,
-        pattern: pattern(next(&mut props))?,
-        ref_: text(next(&mut props))?,
-        template: text(next(&mut props))?,
+        default: maybe(take(&mut props, "default"))?,
+        field: choice(&mut props, "field")?,
+        match_: whole_i32(take(&mut props, "match"))?,
+        pattern: pattern(take(&mut props, "pattern"))?,
+        ref_: text(take(&mut props, "ref"))?,
+        template: text(take(&mut props, "template"))?,
     }))
 }
 
 #[tactic(auto, unfolding(crate::specs::Kinds::kind_of))]
-fn json_extractor_of(mut props: IntoIter<Prop>) -> Option<Kind>
+fn json_extractor_of(mut props: IntoIter<NamedProp>) -> Option<Kind>
     ensures { result ≡ kind_of ElementType.JsonExtractor (into_iter_items props) }
 {
     Some(Kind::JsonExtractor(JsonExtractor {
-        default: maybe(next(&mut props))?,
-        match_: whole_i32(next(&mut props))?,
-        path: text(next(&mut props))?,
-        ref_: text(next(&mut props))?,
+        default: maybe(take(&mut props, "default"))?,
+        match_: whole_i32(take(&mut props, "match"))?,
+        path: text(take(&mut props, "path"))?,
+        ref_: text(take(&mut props, "ref"))?,
     }))
 }
 
 #[tactic(auto, unfolding(crate::specs::Kinds::kind_of))]
-fn boundary_extractor_of(mut props: IntoIter<Prop>) -> Option<Kind>
+fn boundary_extractor_of(mut props: IntoIter<NamedProp>) -> Option<Kind>
     ensures { result ≡ kind_of ElementType.BoundaryExtractor (into_iter_items props) }
 {
     Some(Kind::BoundaryExtractor(BoundaryExtractor {
-        default: maybe(next(&mut props))?,
-        field: field(next(&mut props))?,
-        left: text(next(&mut props))?,
-        match_: whole_i32(next(&mut props))?,
-        ref_: text(next(&mut props))?,
-        right: text(next(&mut props))?,
+        default: maybe(take(&mut props, "default"))?,
+        field: choice(&mut props, "field")?,
+        left: text(take(&mut props, "left"))?,
+        match_: whole_i32(take(&mut props, "match"))?,
+        ref_: text(take(&mut props, "ref"))?,
+        right: text(take(&mut props, "right"))?,
     }))
 }
 
 #[tactic(auto, unfolding(crate::specs::Kinds::kind_of))]
-fn response_assertion_of(mut props: IntoIter<Prop>) -> Option<Kind>
+fn response_assertion_of(mut props: IntoIter<NamedProp>) -> Option<Kind>
     ensures { result ≡ kind_of ElementType.ResponseAssertion (into_iter_items props) }
 {
-    let field = field(next(&mut props))?;
-    let ignore_status = truth(next(&mut props))?;
-    let not = truth(next(&mut props))?;
-    let or = truth(next(&mut props))?;
-    let (patterns, regexes, whole_regexes) = patterns(next(&mut props))?;
-    let test = test(next(&mut props))?;
+    let field = choice(&mut props, "field")?;
+    let ignore_status = truth(take(&mut props, "ignoreStatus"))?;
+    let not = truth(take(&mut props, "not"))?;
+    let or = truth(take(&mut props, "or"))?;
+    let (patterns, regexes, whole_regexes) = patterns(take(&mut props, "patterns"))?;
+    let test = choice(&mut props, "test")?;
     Some(Kind::ResponseAssertion(Assertion::Response {
         field,
         ignore_status,
@@ -345,37 +343,40 @@ fn response_assertion_of(mut props: IntoIter<Prop>) -> Option<Kind>
 }
 
 #[tactic(auto, unfolding(crate::specs::Kinds::kind_of))]
-fn duration_assertion_of(mut props: IntoIter<Prop>) -> Option<Kind>
+fn duration_assertion_of(mut props: IntoIter<NamedProp>) -> Option<Kind>
     ensures { result ≡ kind_of ElementType.DurationAssertion (into_iter_items props) }
 {
     Some(Kind::DurationAssertion(Assertion::Duration {
-        ms: whole_u32(next(&mut props))?,
+        ms: whole_u32(take(&mut props, "ms"))?,
     }))
 }
 
 #[tactic(auto, unfolding(crate::specs::Kinds::kind_of))]
-fn size_assertion_of(mut props: IntoIter<Prop>) -> Option<Kind>
+fn size_assertion_of(mut props: IntoIter<NamedProp>) -> Option<Kind>
     ensures { result ≡ kind_of ElementType.SizeAssertion (into_iter_items props) }
 {
     Some(Kind::SizeAssertion(Assertion::Size {
-        op: comparison(next(&mut props))?,
-        size: whole_u32(next(&mut props))?,
+        op: choice(&mut props, "op")?,
+        size: whole_u32(take(&mut props, "size"))?,
     }))
 }
 
 #[tactic(auto, unfolding(crate::specs::Kinds::kind_of))]
-fn listener_of(props: IntoIter<Prop>) -> Option<Kind>
+fn listener_of(props: IntoIter<NamedProp>) -> Option<Kind>
     ensures { result ≡ kind_of ElementType.Listener (into_iter_items props) }
 {
     Some(Kind::Listener)
 }
 
-// The next property.
-fn next(props: &mut IntoIter<Prop>) -> Prop
-    ensures first { result ≡ first (into_iter_items props.old) }
+// The value of the next property, where it has this name.
+fn take(props: &mut IntoIter<NamedProp>, name: &str) -> Prop
+    ensures value { result ≡ value_named name.now (into_iter_items props.old) }
     ensures rest { into_iter_items props.new ≡ rest (into_iter_items props.old) }
 {
-    props.next().unwrap_or(Prop::Absent)
+    match props.next() {
+        Some(prop) => prop.value_as(name),
+        None => Prop::Absent,
+    }
 }
 
 fn template(prop: Prop) -> Option<Template>
@@ -534,140 +535,14 @@ fn loops(prop: Prop) -> Option<Loops>
     }
 }
 
-fn on_error(prop: Prop) -> Option<OnError>
-    ensures { result ≡ on_error_in prop }
+// The value of the next property, where it has this name and is a text of a choice.
+fn choice<C: Choice>(props: &mut IntoIter<NamedProp>, name: &str) -> Option<C>
+    ensures value { result ≡ choice_in C.word C.all (value_named name.now (into_iter_items props.old)) }
+    ensures rest { into_iter_items props.new ≡ rest (into_iter_items props.old) }
 {
-    match prop {
-        Prop::Choice(place) => Some(on_error_at(place)),
+    let prop = take(props, name);
+    match &prop {
+        Prop::Word(word) => choice_of(word.text()),
         _ => None,
-    }
-}
-
-fn on_error_at(place: usize) -> OnError
-    ensures { result ≡ on_error_at place }
-{
-    match place {
-        0 => OnError::Continue,
-        1 => OnError::NextLoop,
-        2 => OnError::StopThread,
-        _ => OnError::StopTest,
-    }
-}
-
-fn field(prop: Prop) -> Option<Field>
-    ensures { result ≡ field_in prop }
-{
-    match prop {
-        Prop::Choice(place) => Some(field_at(place)),
-        _ => None,
-    }
-}
-
-fn field_at(place: usize) -> Field
-    ensures { result ≡ field_at place }
-{
-    match place {
-        0 => Field::Body,
-        1 => Field::Headers,
-        2 => Field::Code,
-        _ => Field::Message,
-    }
-}
-
-fn method(prop: Prop) -> Option<Method>
-    ensures { result ≡ method_in prop }
-{
-    match prop {
-        Prop::Choice(place) => Some(method_at(place)),
-        _ => None,
-    }
-}
-
-fn method_at(place: usize) -> Method
-    ensures { result ≡ method_at place }
-{
-    match place {
-        0 => Method::Get,
-        1 => Method::Post,
-        2 => Method::Put,
-        3 => Method::Delete,
-        _ => Method::Head,
-    }
-}
-
-fn at_end(prop: Prop) -> Option<AtEnd>
-    ensures { result ≡ at_end_in prop }
-{
-    match prop {
-        Prop::Choice(place) => Some(at_end_at(place)),
-        _ => None,
-    }
-}
-
-fn at_end_at(place: usize) -> AtEnd
-    ensures { result ≡ at_end_at place }
-{
-    match place {
-        0 => AtEnd::Recycle,
-        1 => AtEnd::Stop,
-        _ => AtEnd::Eof,
-    }
-}
-
-fn share(prop: Prop) -> Option<Share>
-    ensures { result ≡ share_in prop }
-{
-    match prop {
-        Prop::Choice(place) => Some(share_at(place)),
-        _ => None,
-    }
-}
-
-fn share_at(place: usize) -> Share
-    ensures { result ≡ share_at place }
-{
-    let _place = place;
-    Share::Thread
-}
-
-fn test(prop: Prop) -> Option<TestKind>
-    ensures { result ≡ test_in prop }
-{
-    match prop {
-        Prop::Choice(place) => Some(test_at(place)),
-        _ => None,
-    }
-}
-
-fn test_at(place: usize) -> TestKind
-    ensures { result ≡ test_at place }
-{
-    match place {
-        0 => TestKind::Contains,
-        1 => TestKind::Matches,
-        2 => TestKind::Equals,
-        _ => TestKind::Substring,
-    }
-}
-
-fn comparison(prop: Prop) -> Option<Comparison>
-    ensures { result ≡ comparison_in prop }
-{
-    match prop {
-        Prop::Choice(place) => Some(comparison_at(place)),
-        _ => None,
-    }
-}
-
-fn comparison_at(place: usize) -> Comparison
-    ensures { result ≡ comparison_at place }
-{
-    match place {
-        0 => Comparison::Equal,
-        1 => Comparison::NotEqual,
-        2 => Comparison::Above,
-        3 => Comparison::Below,
-        4 => Comparison::AtLeast,
-        _ => Comparison::AtMost,
     }
 }

@@ -1,93 +1,15 @@
-// The values of a kind's properties, where they are kept.
+// The properties of a kind, each value where it is kept.
 
 ghost use Rattle.std.specs.Prelude.{◌≡◌, ◌^◌, ◌<◌, map, IfOk};
-ghost use Rattle.element_props.specs.Shown.{shown_seen};
+ghost use Rattle.element_props.specs.Named.{◌holds◌};
+ghost use Rattle.element_props.specs.Shown.{named_shown_seen, shown_seen};
 ghost use Rattle.element_tree.specs.Forms.{HasForms};
-ghost use Rattle.element_tree.specs.Values.{maybe, maybe_replies, loops_number, on_error_place, field_place, method_place, at_end_place, share_place, test_place, comparison_place, attached_values, config_values, sampler_values, controller_values, values_of};
+ghost use Rattle.element_tree.specs.Values.{maybe, maybe_replies, loops_number, attached_values, config_values, sampler_values, controller_values, values_of};
 
-use crate::kinds::{
-    Assertion, AtEnd, BoundaryExtractor, Comparison, Field, JsonExtractor, Kind, Loops, OnError,
-    RegexExtractor, Share, TestKind,
-};
-use element_props::Shown;
-use jm_base::{Items, M, Method, ScriptReply, Text};
+use crate::kinds::{Assertion, BoundaryExtractor, JsonExtractor, Kind, Loops, RegexExtractor};
+use element_props::{Choice, NamedShown, Shown};
+use jm_base::{Items, M, ScriptReply, Text};
 use std::alloc::Global;
-
-fn on_error_place(on_error: OnError) -> usize
-    ensures { result ≡ on_error_place on_error }
-{
-    match on_error {
-        OnError::Continue => 0,
-        OnError::NextLoop => 1,
-        OnError::StopThread => 2,
-        OnError::StopTest => 3,
-    }
-}
-
-fn field_place(field: Field) -> usize
-    ensures { result ≡ field_place field }
-{
-    match field {
-        Field::Body => 0,
-        Field::Headers => 1,
-        Field::Code => 2,
-        Field::Message => 3,
-    }
-}
-
-fn method_place(method: Method) -> usize
-    ensures { result ≡ method_place method }
-{
-    match method {
-        Method::Get => 0,
-        Method::Post => 1,
-        Method::Put => 2,
-        Method::Delete => 3,
-        Method::Head => 4,
-    }
-}
-
-fn at_end_place(at_end: AtEnd) -> usize
-    ensures { result ≡ at_end_place at_end }
-{
-    match at_end {
-        AtEnd::Recycle => 0,
-        AtEnd::Stop => 1,
-        AtEnd::Eof => 2,
-    }
-}
-
-fn share_place(share: Share) -> usize
-    ensures { result ≡ share_place share }
-{
-    match share {
-        Share::Thread => 0,
-    }
-}
-
-fn test_place(test: TestKind) -> usize
-    ensures { result ≡ test_place test }
-{
-    match test {
-        TestKind::Contains => 0,
-        TestKind::Matches => 1,
-        TestKind::Equals => 2,
-        TestKind::Substring => 3,
-    }
-}
-
-fn comparison_place(comparison: Comparison) -> usize
-    ensures { result ≡ comparison_place comparison }
-{
-    match comparison {
-        Comparison::Equal => 0,
-        Comparison::NotEqual => 1,
-        Comparison::Above => 2,
-        Comparison::Below => 3,
-        Comparison::AtLeast => 4,
-        Comparison::AtMost => 5,
-    }
-}
 
 fn loops_number(loops: Loops) -> i64
     ensures { result ≡ loops_number loops }
@@ -116,8 +38,14 @@ fn maybe_replies(replies: &Option<Items<ScriptReply>>) -> Shown<'_>
     }
 }
 
-fn list<'a>(alloc: Global, values: &[Shown<'a>]) -> M<Vec<Shown<'a>>>
-    ensures { IfOk result (λ v. map shown_seen v.items ≡ map shown_seen values.now) }
+fn of<'a>(name: &'static str, value: Shown<'a>) -> NamedShown<'a>
+    ensures { named_shown_seen result ≡ (name.now holds shown_seen value.entry) }
+{
+    NamedShown { name, value }
+}
+
+fn list<'a>(alloc: Global, values: &[NamedShown<'a>]) -> M<Vec<NamedShown<'a>>>
+    ensures { IfOk result (λ v. map named_shown_seen v.items ≡ map named_shown_seen values.now) }
 {
     let list = Vec::from_slice(alloc, values)?;
     Ok(list)
@@ -129,71 +57,71 @@ fn counter_values<'a>(
     maximum: u64,
     start: u64,
     var: &'a Text,
-) -> M<Vec<Shown<'a>>>
+) -> M<Vec<NamedShown<'a>>>
     requires increment { increment < 2 ^ 63 }
     requires maximum { maximum < 2 ^ 63 }
     requires start { start < 2 ^ 63 }
-    ensures { IfOk result (λ v. map shown_seen v.items ≡ values_of (Kind.Counter increment maximum start var.now)) }
+    ensures { IfOk result (λ v. map named_shown_seen v.items ≡ values_of (Kind.Counter increment maximum start var.now)) }
 {
     list(
         alloc,
         &[
-            Shown::Number(increment as i64),
-            Shown::Number(maximum as i64),
-            Shown::Number(start as i64),
-            Shown::Text(var),
+            of("increment", Shown::Number(increment as i64)),
+            of("maximum", Shown::Number(maximum as i64)),
+            of("start", Shown::Number(start as i64)),
+            of("var", Shown::Text(var)),
         ],
     )
 }
 
-fn regex_extractor_values(alloc: Global, x: &RegexExtractor) -> M<Vec<Shown<'_>>>
-    ensures { IfOk result (λ v. map shown_seen v.items ≡ values_of (Kind.RegexExtractor x.now)) }
+fn regex_extractor_values(alloc: Global, x: &RegexExtractor) -> M<Vec<NamedShown<'_>>>
+    ensures { IfOk result (λ v. map named_shown_seen v.items ≡ values_of (Kind.RegexExtractor x.now)) }
 {
     list(
         alloc,
         &[
-            maybe(&x.default),
-            Shown::Choice(field_place(x.field)),
-            Shown::Number(i64::from(x.match_)),
-            Shown::Pattern(&x.pattern),
-            Shown::Text(&x.ref_),
-            Shown::Text(&x.template),
+            of("default", maybe(&x.default)),
+            of("field", Shown::Word(x.field.word())),
+            of("match", Shown::Number(i64::from(x.match_))),
+            of("pattern", Shown::Pattern(&x.pattern)),
+            of("ref", Shown::Text(&x.ref_)),
+            of("template", Shown::Text(&x.template)),
         ],
     )
 }
 
-fn json_extractor_values(alloc: Global, x: &JsonExtractor) -> M<Vec<Shown<'_>>>
-    ensures { IfOk result (λ v. map shown_seen v.items ≡ values_of (Kind.JsonExtractor x.now)) }
+fn json_extractor_values(alloc: Global, x: &JsonExtractor) -> M<Vec<NamedShown<'_>>>
+    ensures { IfOk result (λ v. map named_shown_seen v.items ≡ values_of (Kind.JsonExtractor x.now)) }
 {
     list(
         alloc,
         &[
-            maybe(&x.default),
-            Shown::Number(i64::from(x.match_)),
-            Shown::Text(&x.path),
-            Shown::Text(&x.ref_),
+            of("default", maybe(&x.default)),
+            of("match", Shown::Number(i64::from(x.match_))),
+            of("path", Shown::Text(&x.path)),
+            of("ref", Shown::Text(&x.ref_)),
         ],
     )
 }
 
-fn boundary_extractor_values(alloc: Global, x: &BoundaryExtractor) -> M<Vec<Shown<'_>>>
-    ensures { IfOk result (λ v. map shown_seen v.items ≡ values_of (Kind.BoundaryExtractor x.now)) }
+fn boundary_extractor_values(alloc: Global, x: &BoundaryExtractor) -> M<Vec<NamedShown<'_>>>
+    ensures { IfOk result (λ v. map named_shown_seen v.items ≡ values_of (Kind.BoundaryExtractor x.now)) }
 {
     list(
         alloc,
         &[
-            maybe(&x.default),
-            Shown::Choice(field_place(x.field)),
-            Shown::Text(&x.left),
-            Shown::Number(i64::from(x.match_)),
-            Shown::Text(&x.ref_),
-            Shown::Text(&x.right),
+            of("default", maybe(&x.default)),
+            of("field", Shown::Word(x.field.word())),
+            of("left", Shown::Text(&x.left)),
+            of("match", Shown::Number(i64::from(x.match_))),
+            of("ref", Shown::Text(&x.ref_)),
+            of("right", Shown::Text(&x.right)),
         ],
     )
 }
 
-fn response_values(alloc: Global, assertion: &Assertion) -> M<Vec<Shown<'_>>>
-    ensures { IfOk result (λ v. map shown_seen v.items ≡ values_of (Kind.ResponseAssertion assertion.now)) }
+fn response_values(alloc: Global, assertion: &Assertion) -> M<Vec<NamedShown<'_>>>
+    ensures { IfOk result (λ v. map named_shown_seen v.items ≡ values_of (Kind.ResponseAssertion assertion.now)) }
 {
     match assertion {
         Assertion::Response {
@@ -208,16 +136,19 @@ fn response_values(alloc: Global, assertion: &Assertion) -> M<Vec<Shown<'_>>>
         } => list(
             alloc,
             &[
-                Shown::Choice(field_place(*field)),
-                Shown::Truth(*ignore_status),
-                Shown::Truth(*not),
-                Shown::Truth(*or),
-                Shown::Patterns {
-                    texts: patterns.as_slice(),
-                    regexes: regexes.as_slice(),
-                    whole_regexes: whole_regexes.as_slice(),
-                },
-                Shown::Choice(test_place(*test)),
+                of("field", Shown::Word(field.word())),
+                of("ignoreStatus", Shown::Truth(*ignore_status)),
+                of("not", Shown::Truth(*not)),
+                of("or", Shown::Truth(*or)),
+                of(
+                    "patterns",
+                    Shown::Patterns {
+                        texts: patterns.as_slice(),
+                        regexes: regexes.as_slice(),
+                        whole_regexes: whole_regexes.as_slice(),
+                    },
+                ),
+                of("test", Shown::Word(test.word())),
             ],
         ),
         Assertion::Duration { .. } => list(alloc, &[]),
@@ -225,25 +156,25 @@ fn response_values(alloc: Global, assertion: &Assertion) -> M<Vec<Shown<'_>>>
     }
 }
 
-fn duration_values(alloc: Global, assertion: &Assertion) -> M<Vec<Shown<'_>>>
-    ensures { IfOk result (λ v. map shown_seen v.items ≡ values_of (Kind.DurationAssertion assertion.now)) }
+fn duration_values(alloc: Global, assertion: &Assertion) -> M<Vec<NamedShown<'_>>>
+    ensures { IfOk result (λ v. map named_shown_seen v.items ≡ values_of (Kind.DurationAssertion assertion.now)) }
 {
     match assertion {
-        Assertion::Duration { ms } => list(alloc, &[Shown::Number(i64::from(*ms))]),
+        Assertion::Duration { ms } => list(alloc, &[of("ms", Shown::Number(i64::from(*ms)))]),
         Assertion::Response { .. } => list(alloc, &[]),
         Assertion::Size { .. } => list(alloc, &[]),
     }
 }
 
-fn size_values(alloc: Global, assertion: &Assertion) -> M<Vec<Shown<'_>>>
-    ensures { IfOk result (λ v. map shown_seen v.items ≡ values_of (Kind.SizeAssertion assertion.now)) }
+fn size_values(alloc: Global, assertion: &Assertion) -> M<Vec<NamedShown<'_>>>
+    ensures { IfOk result (λ v. map named_shown_seen v.items ≡ values_of (Kind.SizeAssertion assertion.now)) }
 {
     match assertion {
         Assertion::Size { op, size } => list(
             alloc,
             &[
-                Shown::Choice(comparison_place(*op)),
-                Shown::Number(i64::from(*size)),
+                of("op", Shown::Word(op.word())),
+                of("size", Shown::Number(i64::from(*size))),
             ],
         ),
         Assertion::Response { .. } => list(alloc, &[]),
@@ -251,15 +182,21 @@ fn size_values(alloc: Global, assertion: &Assertion) -> M<Vec<Shown<'_>>>
     }
 }
 
-/// The values of what comes before or after a sample; no other kind has any here.
-fn attached_values(alloc: Global, kind: &Kind) -> M<Vec<Shown<'_>>>
-    ensures { IfOk result (λ v. map shown_seen v.items ≡ attached_values kind.now) }
+/// The properties of what comes before or after a sample; no other kind has any here.
+fn attached_values(alloc: Global, kind: &Kind) -> M<Vec<NamedShown<'_>>>
+    ensures { IfOk result (λ v. map named_shown_seen v.items ≡ attached_values kind.now) }
 {
     match kind {
-        Kind::UserParameters { vars } => list(alloc, &[Shown::Pairs(vars.as_slice())]),
-        Kind::ConstantTimer { delay } => list(alloc, &[Shown::Template(delay)]),
+        Kind::UserParameters { vars } => list(alloc, &[of("vars", Shown::Pairs(vars.as_slice()))]),
+        Kind::ConstantTimer { delay } => list(alloc, &[of("delay", Shown::Template(delay))]),
         Kind::UniformTimer { offset, range } => {
-            list(alloc, &[Shown::Template(offset), Shown::Template(range)])
+            list(
+                alloc,
+                &[
+                    of("offset", Shown::Template(offset)),
+                    of("range", Shown::Template(range)),
+                ],
+            )
         }
         Kind::RegexExtractor(x) => regex_extractor_values(alloc, x),
         Kind::JsonExtractor(x) => json_extractor_values(alloc, x),
@@ -271,21 +208,24 @@ fn attached_values(alloc: Global, kind: &Kind) -> M<Vec<Shown<'_>>>
     }
 }
 
-fn config_values(alloc: Global, kind: &Kind) -> M<Vec<Shown<'_>>>
+fn config_values(alloc: Global, kind: &Kind) -> M<Vec<NamedShown<'_>>>
     requires { HasForms kind.now }
-    ensures { IfOk result (λ v. map shown_seen v.items ≡ config_values kind.now) }
+    ensures { IfOk result (λ v. map named_shown_seen v.items ≡ config_values kind.now) }
 {
     match kind {
-        Kind::UserVariables { vars } => list(alloc, &[Shown::Pairs(vars.as_slice())]),
+        Kind::UserVariables { vars } => list(alloc, &[of("vars", Shown::Pairs(vars.as_slice()))]),
         Kind::HttpDefaults { host, path, port } => list(
             alloc,
             &[
-                Shown::Template(host),
-                Shown::Template(path),
-                Shown::Template(port),
+                of("host", Shown::Template(host)),
+                of("path", Shown::Template(path)),
+                of("port", Shown::Template(port)),
             ],
         ),
-        Kind::HeaderManager { headers } => list(alloc, &[Shown::Pairs(headers.as_slice())]),
+        Kind::HeaderManager { headers } => list(
+            alloc,
+            &[of("headers", Shown::Pairs(headers.as_slice()))],
+        ),
         Kind::Counter {
             increment,
             maximum,
@@ -300,24 +240,27 @@ fn config_values(alloc: Global, kind: &Kind) -> M<Vec<Shown<'_>>>
         } => list(
             alloc,
             &[
-                Shown::Choice(at_end_place(*at_end)),
-                Shown::Texts(names.as_slice()),
-                Shown::Choice(share_place(*share)),
-                Shown::Text(text),
+                of("atEnd", Shown::Word(at_end.word())),
+                of("names", Shown::Texts(names.as_slice())),
+                of("share", Shown::Word(share.word())),
+                of("text", Shown::Text(text)),
             ],
         ),
         _ => attached_values(alloc, kind),
     }
 }
 
-fn sampler_values(alloc: Global, kind: &Kind) -> M<Vec<Shown<'_>>>
+fn sampler_values(alloc: Global, kind: &Kind) -> M<Vec<NamedShown<'_>>>
     requires { HasForms kind.now }
-    ensures { IfOk result (λ v. map shown_seen v.items ≡ sampler_values kind.now) }
+    ensures { IfOk result (λ v. map named_shown_seen v.items ≡ sampler_values kind.now) }
 {
     match kind {
         Kind::Script { replies, request } => list(
             alloc,
-            &[Shown::Replies(replies.as_slice()), Shown::Template(request)],
+            &[
+                of("replies", Shown::Replies(replies.as_slice())),
+                of("request", Shown::Template(request)),
+            ],
         ),
         Kind::Http {
             body,
@@ -330,30 +273,36 @@ fn sampler_values(alloc: Global, kind: &Kind) -> M<Vec<Shown<'_>>>
         } => list(
             alloc,
             &[
-                Shown::Template(body),
-                Shown::Template(host),
-                Shown::Choice(method_place(*method)),
-                Shown::Pairs(params.as_slice()),
-                Shown::Template(path),
-                Shown::Template(port),
-                maybe_replies(replies),
+                of("body", Shown::Template(body)),
+                of("host", Shown::Template(host)),
+                of("method", Shown::Word(method.word())),
+                of("params", Shown::Pairs(params.as_slice())),
+                of("path", Shown::Template(path)),
+                of("port", Shown::Template(port)),
+                of("replies", maybe_replies(replies)),
             ],
         ),
         _ => config_values(alloc, kind),
     }
 }
 
-fn controller_values(alloc: Global, kind: &Kind) -> M<Vec<Shown<'_>>>
+fn controller_values(alloc: Global, kind: &Kind) -> M<Vec<NamedShown<'_>>>
     requires { HasForms kind.now }
-    ensures { IfOk result (λ v. map shown_seen v.items ≡ controller_values kind.now) }
+    ensures { IfOk result (λ v. map named_shown_seen v.items ≡ controller_values kind.now) }
 {
     match kind {
-        Kind::Loop { loops } => list(alloc, &[Shown::Template(loops)]),
+        Kind::Loop { loops } => list(alloc, &[of("loops", Shown::Template(loops))]),
         Kind::If { all, condition } => {
-            list(alloc, &[Shown::Truth(*all), Shown::Template(condition)])
+            list(
+                alloc,
+                &[
+                    of("all", Shown::Truth(*all)),
+                    of("condition", Shown::Template(condition)),
+                ],
+            )
         }
-        Kind::While { condition } => list(alloc, &[Shown::Template(condition)]),
-        Kind::Switch { value } => list(alloc, &[Shown::Template(value)]),
+        Kind::While { condition } => list(alloc, &[of("condition", Shown::Template(condition))]),
+        Kind::Switch { value } => list(alloc, &[of("value", Shown::Template(value))]),
         Kind::ForEach {
             end,
             input,
@@ -363,25 +312,28 @@ fn controller_values(alloc: Global, kind: &Kind) -> M<Vec<Shown<'_>>>
         } => list(
             alloc,
             &[
-                Shown::Number(i64::from(*end)),
-                Shown::Text(input),
-                Shown::Text(output),
-                Shown::Truth(*separator),
-                Shown::Number(i64::from(*start)),
+                of("end", Shown::Number(i64::from(*end))),
+                of("input", Shown::Text(input)),
+                of("output", Shown::Text(output)),
+                of("separator", Shown::Truth(*separator)),
+                of("start", Shown::Number(i64::from(*start))),
             ],
         ),
-        Kind::CriticalSection { lock } => list(alloc, &[Shown::Text(lock)]),
+        Kind::CriticalSection { lock } => list(alloc, &[of("lock", Shown::Text(lock))]),
         _ => sampler_values(alloc, kind),
     }
 }
 
-/// The values of a kind's properties, in byte order of their names.
-pub(crate) fn values_of(alloc: Global, kind: &Kind) -> M<Vec<Shown<'_>>>
+/// The properties of a kind, in byte order of their names.
+pub(crate) fn values_of(alloc: Global, kind: &Kind) -> M<Vec<NamedShown<'_>>>
     requires { HasForms kind.now }
-    ensures { IfOk result (λ v. map shown_seen v.items ≡ values_of kind.now) }
+    ensures { IfOk result (λ v. map named_shown_seen v.items ≡ values_of kind.now) }
 {
     match kind {
-        Kind::TestPlan { version } => list(alloc, &[Shown::Number(i64::from(*version))]),
+        Kind::TestPlan { version } => list(
+            alloc,
+            &[of("version", Shown::Number(i64::from(*version)))],
+        ),
         Kind::ThreadGroup {
             loops,
             on_error,
@@ -390,10 +342,10 @@ pub(crate) fn values_of(alloc: Global, kind: &Kind) -> M<Vec<Shown<'_>>>
         } => list(
             alloc,
             &[
-                Shown::Number(loops_number(*loops)),
-                Shown::Choice(on_error_place(*on_error)),
-                Shown::Number(i64::from(*ramp_ms)),
-                Shown::Number(i64::from(*threads)),
+                of("loops", Shown::Number(loops_number(*loops))),
+                of("onError", Shown::Word(on_error.word())),
+                of("rampMs", Shown::Number(i64::from(*ramp_ms))),
+                of("threads", Shown::Number(i64::from(*threads))),
             ],
         ),
         _ => controller_values(alloc, kind),

@@ -7,7 +7,7 @@ use Rattle.std.proofs.lemmas.Option.{slice_get_within}
 use Rattle.element_tree.specs.declared.kinds.Element.{Element}
 use Rattle.element_tree.specs.declared.kinds.Kind.TheVariants.{ThreadGroup}
 use Rattle.element_tree.specs.declared.kinds.Loops.{Loops}
-use Rattle.element_tree.specs.declared.kinds.OnError.{OnError}
+use Rattle.element_props.specs.declared.choices.OnError.{OnError}
 use Rattle.element_tree.specs.declared.threads.Thread.{Thread}
 use Rattle.element_tree.specs.Threads.{group_size, group_threads, threads_with, threads_from, threads_in}
 use Rattle.element_tree.specs.Tree.{Tree, threads_of}

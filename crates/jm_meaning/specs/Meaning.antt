@@ -7,8 +7,8 @@ use Rattle.element_tree.specs.declared.kinds.Element.{Element}
 use Rattle.element_tree.specs.declared.kinds.Kind.{Kind}
 use Rattle.element_tree.specs.declared.kinds.Kind.TheVariants.{ThreadGroup, Simple, OnceOnly, Loop, If, While, ForEach, Switch, Interleave, Random, RandomOrder, Transaction, Script}
 use Rattle.element_tree.specs.declared.kinds.Loops.{Loops}
-use Rattle.element_tree.specs.declared.kinds.OnError.{OnError}
-use Rattle.element_tree.specs.declared.kinds.OnError.TheVariants as on_error
+use Rattle.element_props.specs.declared.choices.OnError.{OnError}
+use Rattle.element_props.specs.declared.choices.OnError.TheVariants as on_error
 use Rattle.element_tree.specs.Tree.{Tree, group_of}
 use Rattle.element_tree.specs.Names.{label_of}
 use Rattle.logic_controllers.specs.LoopController.{loops_of}

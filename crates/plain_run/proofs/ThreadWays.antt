@@ -9,7 +9,7 @@ use Rattle.element_tree.specs.declared.kinds.Element.{Element}
 use Rattle.element_tree.specs.declared.kinds.Kind.{Kind}
 use Rattle.element_tree.specs.declared.kinds.Kind.TheVariants.{ThreadGroup}
 use Rattle.element_tree.specs.declared.kinds.Loops.{Loops}
-use Rattle.element_tree.specs.declared.kinds.OnError.{OnError}
+use Rattle.element_props.specs.declared.choices.OnError.{OnError}
 use Rattle.jm_meaning.specs.declared.item.Item.{Item}
 use Rattle.jm_meaning.specs.declared.item.Item.TheVariants.{Ended as EndedItem}
 use Rattle.jm_meaning.specs.declared.signal.Signal.{Signal}

@@ -11,7 +11,7 @@ use Rattle.element_tree.specs.declared.kinds.Element.{Element}
 use Rattle.element_tree.specs.declared.kinds.Kind.{Kind}
 use Rattle.element_tree.specs.declared.kinds.Kind.TheVariants.{TestPlan, ThreadGroup, Simple, Loop, OnceOnly, While, ForEach, Interleave, Random, RandomOrder, Switch, Transaction, Script, UserVariables}
 use Rattle.element_tree.specs.declared.kinds.Loops.TheVariants.{Times}
-use Rattle.element_tree.specs.declared.kinds.OnError.TheVariants.{Continue}
+use Rattle.element_props.specs.declared.choices.OnError.TheVariants.{Continue}
 use Rattle.template_text.specs.Pieces.{no_more, text, reference, variable}
 use Rattle.element_tree.specs.Threads.{threads_in}
 use Rattle.element_tree.specs.Tree.{Tree}

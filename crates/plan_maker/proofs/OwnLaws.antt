@@ -12,7 +12,7 @@ use Rattle.element_props.specs.Reads.{over}
 use Rattle.element_props.specs.declared.prop.Prop.TheVariants.{Template, Replies}
 use Rattle.element_tree.specs.declared.kinds.Kind.TheVariants as kinds
 use Rattle.element_tree.specs.declared.kinds.Loops.TheVariants.{Times}
-use Rattle.element_tree.specs.declared.kinds.OnError.TheVariants.{Continue}
+use Rattle.element_props.specs.declared.choices.OnError.TheVariants.{Continue}
 use Rattle.element_tree.specs.declared.types.ElementType.TheVariants as types
 use Rattle.element_tree.specs.declared.types.Class.TheVariants as classes
 use Rattle.element_tree.specs.Kinds.{kind_of}

@@ -6,7 +6,7 @@ use Rattle.jm_base.specs.declared.types.ScriptReply.{ScriptReply}
 use Rattle.element_tree.specs.declared.kinds.Element.{Element}
 use Rattle.element_tree.specs.declared.kinds.Kind.TheVariants.{TestPlan, ThreadGroup, Loop, Script}
 use Rattle.element_tree.specs.declared.kinds.Loops.TheVariants.{Times}
-use Rattle.element_tree.specs.declared.kinds.OnError.TheVariants.{Continue}
+use Rattle.element_props.specs.declared.choices.OnError.TheVariants.{Continue}
 use Rattle.element_tree.specs.Tree.{Tree}
 
 -- the numbers below n: 0, 1, and on

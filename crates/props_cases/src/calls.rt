@@ -4,8 +4,8 @@ use crate::case_text::places;
 use crate::forms::{many_forms, rows_for};
 use crate::show::prop_shown;
 use element_props::{
-    BuildError, Form, Patterns, Prop, RegexPatterns, Shown, bad_condition, own_properties,
-    prop_path, written_members,
+    BuildError, Form, NamedProp, NamedShown, Patterns, Prop, RegexPatterns, Shown, bad_condition,
+    own_properties, prop_path, written_members,
 };
 use jm_base::Text;
 use serde_json::Value;
@@ -17,17 +17,17 @@ fn refusal(alloc: Global, error: &BuildError) -> anyhow::Result<String> {
     Ok(format!(in alloc; "{error:?}: {error}")?)
 }
 
-/// The properties that are there, by the names of their rows.
-fn props_shown(alloc: Global, names: &[&str], props: &[Prop]) -> anyhow::Result<String> {
+/// The properties that are there, by their names.
+fn props_shown(alloc: Global, props: &[NamedProp]) -> anyhow::Result<String> {
     let mut out = String::new(alloc);
-    for (name, prop) in names.iter().zip(props) {
-        if !matches!(prop, Prop::Absent) {
+    for prop in props {
+        if !matches!(prop.value(), Prop::Absent) {
             if !out.is_empty() {
                 out.push_str("; ")?;
             }
-            out.push_str(name)?;
+            out.push_str(prop.name())?;
             out.push_str(": ")?;
-            out.push_str(prop_shown(alloc, prop)?.as_str())?;
+            out.push_str(prop_shown(alloc, prop.value())?.as_str())?;
         }
     }
     if out.is_empty() {
@@ -46,7 +46,7 @@ pub fn read(
     let value = Value::from_str(alloc, json)?;
     let rows = rows_for(form);
     match own_properties(alloc, &rows, &[7], &value, &mut patterns) {
-        Ok(props) => props_shown(alloc, &["maximum", "names", "p", "test"], &props),
+        Ok(props) => props_shown(alloc, &props),
         Err(error) => refusal(alloc, &error),
     }
 }
@@ -57,14 +57,7 @@ pub fn table(alloc: Global, json: &str) -> anyhow::Result<String> {
     let rows = many_forms();
     let mut patterns = RegexPatterns::new(Vec::new(alloc));
     match own_properties(alloc, &rows, &[], &value, &mut patterns) {
-        Ok(props) => props_shown(
-            alloc,
-            &[
-                "a", "b", "c", "d", "e", "f", "maximum", "names", "pattern", "patterns", "start",
-                "table", "test",
-            ],
-            &props,
-        ),
+        Ok(props) => props_shown(alloc, &props),
         Err(error) => refusal(alloc, &error),
     }
 }
@@ -77,7 +70,7 @@ fn shown(prop: &Prop) -> Shown<'_> {
         Prop::Text(text) => Shown::Text(text),
         Prop::Number(n) => Shown::Number(*n),
         Prop::Truth(truth) => Shown::Truth(*truth),
-        Prop::Choice(place) => Shown::Choice(*place),
+        Prop::Word(word) => Shown::Word(word.text()),
         Prop::Pattern(pattern) => Shown::Pattern(pattern),
         Prop::Pairs(pairs) => Shown::Pairs(pairs.as_slice()),
         Prop::Replies(replies) => Shown::Replies(replies.as_slice()),
@@ -94,6 +87,10 @@ fn shown(prop: &Prop) -> Shown<'_> {
     }
 }
 
+fn named<'a>(name: &'static str, value: Shown<'a>) -> NamedShown<'a> {
+    NamedShown { name, value }
+}
+
 /// The properties of the table, as they are written.
 pub fn rewritten(alloc: Global, json: &str) -> anyhow::Result<String> {
     let value = Value::from_str(alloc, json)?;
@@ -102,7 +99,7 @@ pub fn rewritten(alloc: Global, json: &str) -> anyhow::Result<String> {
     let props = own_properties(alloc, &rows, &[], &value, &mut patterns)?;
     let mut values = Vec::new(alloc);
     for prop in &props {
-        values.push(shown(prop))?;
+        values.push(named(prop.name(), shown(prop.value())))?;
     }
     let members = written_members(alloc, &rows, &values)?;
     let text = Value::Object(members).to_string(alloc)?;
@@ -113,7 +110,11 @@ pub fn rewritten(alloc: Global, json: &str) -> anyhow::Result<String> {
 pub fn written(alloc: Global, bytes: &[u8]) -> anyhow::Result<String> {
     let text = Text::new(alloc, bytes)?;
     let rows = rows_for(Form::Plain);
-    let values = [Shown::Absent, Shown::Absent, Shown::Text(&text)];
+    let values = [
+        named("maximum", Shown::Absent),
+        named("names", Shown::Absent),
+        named("p", Shown::Text(&text)),
+    ];
     let members = written_members(alloc, &rows, &values)?;
     let text = Value::Object(members).to_string(alloc)?;
     Ok(text)

@@ -19,10 +19,10 @@ mod show;
 
 use calls::{condition, made, path, read, rewritten, table, written};
 use case_text::{bytes_of, expanded, numbers};
-use element_props::{RegexPatterns, texts, written_is_read_again};
+use element_props::{RegexPatterns, written_is_read_again};
 use forms::{form_named, words_named};
 use refusals::refusals;
-use show::texts_shown;
+use show::words_shown;
 use std::alloc::Global;
 
 /// What a property under a form is, where these calls of the maker fail.
@@ -48,7 +48,7 @@ fn path_case(alloc: Global, rest: &str) -> anyhow::Result<String> {
 
 fn words_case(alloc: Global, rest: &str) -> anyhow::Result<String> {
     match words_named(rest) {
-        Some(words) => texts_shown(alloc, texts(words)),
+        Some(words) => words_shown(alloc, words),
         None => Ok(format!(in alloc; "no such list")?),
     }
 }

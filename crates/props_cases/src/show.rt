@@ -1,6 +1,6 @@
 // Values of properties as cases show them.
 
-use element_props::{Pair, Pattern, Prop};
+use element_props::{Pair, Pattern, Prop, Words, text_at};
 use jm_base::{ScriptReply, Text};
 use std::alloc::Global;
 use template_text::spell;
@@ -40,12 +40,15 @@ fn shown_of(count: usize) -> usize {
 }
 
 /// The texts of a list of words.
-pub fn texts_shown(alloc: Global, texts: &[&str]) -> anyhow::Result<String> {
+pub fn words_shown(alloc: Global, words: Words) -> anyhow::Result<String> {
     let mut out = String::new(alloc);
-    for text in texts {
+    for place in 0..SHOWN {
+        let Some(text) = text_at(words, place) else {
+            break;
+        };
         push_shown(&mut out, text_shown(alloc, text.as_bytes())?.as_str())?;
     }
-    listed(alloc, texts.len(), out.as_str())
+    listed(alloc, 0, out.as_str())
 }
 
 fn own_texts_shown(alloc: Global, texts: &[Text]) -> anyhow::Result<String> {
@@ -142,7 +145,7 @@ pub fn prop_shown(alloc: Global, prop: &Prop) -> anyhow::Result<String> {
         Prop::Text(text) => named(alloc, "Text", text_shown(alloc, text.bytes())?),
         Prop::Number(n) => Ok(format!(in alloc; "Number {n}")?),
         Prop::Truth(truth) => Ok(format!(in alloc; "Truth {truth}")?),
-        Prop::Choice(place) => Ok(format!(in alloc; "Choice {place}")?),
+        Prop::Word(word) => named(alloc, "Word", text_shown(alloc, word.text().as_bytes())?),
         Prop::Pattern(pattern) => named(alloc, "Pattern", pattern_shown(alloc, pattern)?),
         Prop::Pairs(pairs) => named(alloc, "Pairs", pairs_shown(alloc, pairs.as_slice())?),
         Prop::Replies(replies) => named(

@@ -8,7 +8,7 @@ pub rows-init : goal.rows-init
 rows-init g c = rw (c.new-found.ensures.items) (rows_start _ _)
 
 pub rows-preserved : goal.rows-preserved
-rows-preserved g c = rw (c.in_ok-push.ensures.items) (row_done _ _ _ _ _ _ _ _ _ c.rows-test.true (same_row _ _ _ c.rows-test.true) c.rows.invariant _ c.in_ok-property.ensures)
+rows-preserved g c = rw (c.in_ok-push.ensures.items, c.of.ensures) (row_done _ _ _ _ _ _ _ _ _ c.rows-test.true (same_row _ _ _ c.rows-test.true) c.rows.invariant _ c.in_ok-property.ensures)
 
 pub returns-in_err-property : goal.returns-in_err-property
 returns-in_err-property g c = let p = err_from_is_err_and c.from_residual.result c.from_residual.ensures.1 in
