@@ -5,7 +5,7 @@ use Rattle.std.specs.List.{range_with_len}
 use Rattle.std.proofs.lemmas.List.FromFn.{length-range_with_len, get_or-range_with_len}
 use Rattle.std.proofs.lemmas.Option.{slice_get_within, get_or_from_slice_get}
 use Rattle.std.proofs.lemmas.List.Sorted.{All-permutation}
-use Rattle.var_functions.specs.State.{Functions, drawn, draw}
+use Rattle.var_functions.specs.FunctionState.{Functions, drawn, draw}
 use Rattle.choice_controllers.specs.RandomOrderController.{shuffled, places}
 
 -- the exchange at the last index that is left

@@ -7,7 +7,7 @@ use Rattle.std.proofs.lemmas.List.{length-take, length-map}
 use Rattle.element_tree.specs.declared.kinds.Element.{Element}
 use Rattle.cursor_steps.specs.Numeral.{is_decimal, decimal_number}
 use Rattle.choice_controllers.specs.SwitchController.{is_name, index_among}
-use Rattle.cursor_steps.specs.Children.{runs_of, run_count}
+use Rattle.cursor_steps.specs.RunningChildren.{runs_of, run_count}
 use Rattle.choice_controllers.specs.SwitchController.{name_at, run_names, place_named, picks}
 use Rattle.choice_controllers.proofs.NameLaws.{position_from-within}
 

@@ -2,7 +2,7 @@
 use Rattle.std.specs.Prelude.{ℕ, ◌%◌, ◌==◌, Option, Some, None, if◌then◌else◌}
 use Rattle.jm_base.specs.Run.{Run}
 use Rattle.var_functions.specs.declared.state.UserState.{UserState}
-use Rattle.var_functions.specs.State.{Functions, drawn, draw}
+use Rattle.var_functions.specs.FunctionState.{Functions, drawn, draw}
 use Rattle.element_tree.specs.declared.package.Turn.{Turn}
 use Rattle.choice_controllers.specs.declared.random_cursor.RandomCursor.{RandomCursor}
 use Rattle.cursor_steps.specs.CursorStep.{Step, answers}

@@ -3,7 +3,7 @@ use Rattle.std.specs.Prelude.{ℕ, zero, suc, ◌+◌, ◌-◌, ◌%◌, List, [
 use Rattle.std.specs.List.{range_with_len}
 use Rattle.jm_base.specs.Run.{Run}
 use Rattle.var_functions.specs.declared.state.UserState.{UserState}
-use Rattle.var_functions.specs.State.{Functions, drawn, draw}
+use Rattle.var_functions.specs.FunctionState.{Functions, drawn, draw}
 use Rattle.element_tree.specs.declared.package.Turn.{Turn}
 use Rattle.element_tree.specs.declared.package.Turn.TheVariants.{Child, Over}
 use Rattle.choice_controllers.specs.declared.order_cursor.OrderCursor.{OrderCursor}

@@ -12,7 +12,7 @@ use Rattle.element_tree.specs.declared.kinds.Element.{Element}
 use Rattle.element_tree.specs.declared.package.Turn.{Turn}
 use Rattle.choice_controllers.specs.declared.switch_cursor.SwitchCursor.{SwitchCursor}
 use Rattle.cursor_steps.specs.CursorStep.{Step, answers, expanding}
-use Rattle.cursor_steps.specs.Children.{runs_of}
+use Rattle.cursor_steps.specs.RunningChildren.{runs_of}
 use Rattle.cursor_steps.specs.Numeral.{is_decimal}
 use Rattle.choice_controllers.specs.Chosen.{turn_of}
 

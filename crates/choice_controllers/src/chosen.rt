@@ -1,7 +1,7 @@
 // A pass that runs one child at most.
 
 ghost use Rattle.std.specs.Prelude.{◌≡◌, ◌<◌, ℕ, None, IfSome};
-ghost use Rattle.cursor_steps.specs.Children.{IsAmong};
+ghost use Rattle.cursor_steps.specs.RunningChildren.{IsAmong};
 ghost use Rattle.choice_controllers.specs.Chosen.{turn_of};
 
 use element_tree::Turn;

@@ -3,7 +3,7 @@
 ghost use Rattle.std.specs.Prelude.{◌≡◌, ◌<◌, ℕ, slice_get, Some, None, Ok, IfSome, IsOkAnd};
 ghost use Rattle.element_tree.specs.declared.kinds.Element.{Element};
 ghost use Rattle.cursor_steps.specs.CursorStep.{StepsTo, IsThere};
-ghost use Rattle.cursor_steps.specs.Children.{IsAmong, run_count};
+ghost use Rattle.cursor_steps.specs.RunningChildren.{IsAmong, run_count};
 ghost use Rattle.choice_controllers.specs.InterleaveController.{interleaved, interleave_enters, interleave_next};
 
 use crate::chosen::take_turn;

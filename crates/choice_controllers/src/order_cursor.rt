@@ -2,9 +2,9 @@
 
 ghost use Rattle.std.specs.Prelude.{◌≡◌, ◌+◌, ◌-◌, ◌^◌, ◌<◌, ℕ, slice_get, unwrap_or, [], length, All, Some, None, Ok, Err, OnOk, OnErr, OnSome, IfSome, IfNone, IfOk, IsOkAnd, IsOkUnless, IsPermutation};
 ghost use Rattle.element_tree.specs.declared.kinds.Element.{Element};
-ghost use Rattle.var_functions.specs.State.{IsLater};
+ghost use Rattle.var_functions.specs.FunctionState.{IsLater};
 ghost use Rattle.cursor_steps.specs.CursorStep.{StepsTo, IsThere};
-ghost use Rattle.cursor_steps.specs.Children.{IsAmong, run_count};
+ghost use Rattle.cursor_steps.specs.RunningChildren.{IsAmong, run_count};
 ghost use Rattle.choice_controllers.specs.RandomOrderController.{shuffled, places, random_order, order_of, order_enters, order_next};
 
 use cursor_steps::run_count;

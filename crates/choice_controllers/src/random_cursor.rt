@@ -2,9 +2,9 @@
 
 ghost use Rattle.std.specs.Prelude.{◌≡◌, ◌<◌, ℕ, slice_get, Some, None, Ok, IfSome, IsOkAnd};
 ghost use Rattle.element_tree.specs.declared.kinds.Element.{Element};
-ghost use Rattle.var_functions.specs.State.{IsLater};
+ghost use Rattle.var_functions.specs.FunctionState.{IsLater};
 ghost use Rattle.cursor_steps.specs.CursorStep.{StepsTo, IsThere};
-ghost use Rattle.cursor_steps.specs.Children.{IsAmong, run_count};
+ghost use Rattle.cursor_steps.specs.RunningChildren.{IsAmong, run_count};
 ghost use Rattle.choice_controllers.specs.RandomController.{random_place, random_fns, random_enters, random_next};
 
 use crate::chosen::take_turn;

@@ -3,9 +3,9 @@
 ghost use Rattle.std.specs.Prelude.{◌≡◌, ◌<◌, ℕ, slice_get, Some, None, IfSome, OnOk, OnErr, IsOkAnd};
 ghost use Rattle.template_text.specs.Pieces.{Pieces};
 ghost use Rattle.element_tree.specs.declared.kinds.Element.{Element};
-ghost use Rattle.var_functions.specs.State.{IsLater};
+ghost use Rattle.var_functions.specs.FunctionState.{IsLater};
 ghost use Rattle.cursor_steps.specs.CursorStep.{StepsTo, IsThere};
-ghost use Rattle.cursor_steps.specs.Children.{IsAmong, run_count};
+ghost use Rattle.cursor_steps.specs.RunningChildren.{IsAmong, run_count};
 ghost use Rattle.choice_controllers.specs.SwitchController.{name_at, run_names, is_name, place_named, index_among, picks, switch_enters, switch_next};
 
 use crate::chosen::take_turn;

@@ -6,7 +6,7 @@ use Rattle.std.specs.Str.{bytes_eq}
 use Rattle.std.proofs.lemmas.Bool.{cases_Bool}
 use Rattle.std.proofs.lemmas.Bool.Decides.{nat_tests}
 use Rattle.clap.specs.Lexer.{long_of}
-use Rattle.command_words.specs.Grammar.{Word, Given, Options, option_word, begins_with_hyphen, is_word, given_in, with_option, before, has, is_known, is_right, is_each_once, has_required, fits, given_for}
+use Rattle.command_words.specs.CommandGrammar.{Word, Given, Options, option_word, begins_with_hyphen, is_word, given_in, with_option, before, has, is_known, is_right, is_each_once, has_required, fits, given_for}
 use Rattle.command_words.proofs.OptionLaws.{same_text, same_itself}
 use Rattle.command_words.proofs.Stepwise.{starts_with_hyphen, is_text, with_pair, with_word, options_from}
 

@@ -17,7 +17,7 @@ use Rattle.clap.specs.Facts.{explicit_source}
 use Rattle.clap.specs.declared.error.kind.ErrorKind.{ErrorKind}
 use Rattle.clap.specs.declared.parser.matches.ValueSource.TheVariants.{CommandLine}
 use Rattle.command_words.specs.Parser.{option_rule}
-use Rattle.command_words.specs.Grammar.{Options, Given, has, is_known, has_required}
+use Rattle.command_words.specs.CommandGrammar.{Options, Given, has, is_known, has_required}
 use Rattle.command_words.proofs.Stepwise.{with_pair, with_word, options_from, is_text, starts_with_hyphen}
 
 -- ---- what is read

@@ -12,7 +12,7 @@ use Rattle.clap.specs.Kinds.{Kinds, or_else}
 use Rattle.clap.specs.Faults.{turn_fault, walk_fault, level_fault, fault_of, entered_fault, settle_fault, defaults_fault, check_fault}
 use Rattle.clap.proofs.FaultLemmas.{stopped_fault}
 use Rattle.command_words.specs.Parser.{jm_app, AreTaken, taken_rows}
-use Rattle.command_words.specs.Grammar.{Options, Given}
+use Rattle.command_words.specs.CommandGrammar.{Options, Given}
 use Rattle.command_words.proofs.Stepwise.{options_from, is_text, entries, entry_named, pairs_by, pair_of}
 use Rattle.command_words.proofs.OptionLaws.{leaf, rules_from, rows_of_pairs, row_of_pair, free, leaf_level, Agrees, not_dashes, plain_start, plain_word_is, same_text}
 

@@ -7,10 +7,10 @@ use Rattle.clap.specs.Walk.{Row, first_of}
 use Rattle.clap.specs.Words.{subcommand_rows_of, fault_of}
 use Rattle.clap.specs.declared.parser.matches.ArgMatches.{ArgMatches}
 use Rattle.command_words.specs.declared.command.Command.{Command}
-use Rattle.command_words.specs.Grammar.{Word, Given, Options, is_word, given_for, value_of}
+use Rattle.command_words.specs.CommandGrammar.{Word, Given, Options, is_word, given_for, value_of}
 use Rattle.command_words.specs.Commands.{CommandRule, commands, command_named, asked_of, command_of}
 use Rattle.command_words.specs.Parser.{jm_app, AreTaken, taken_rows}
-use Rattle.command_words.specs.Shown.{asked_by, shown_value, ShowsReading}
+use Rattle.command_words.specs.ArgumentsShown.{asked_by, shown_value, ShowsReading}
 use Rattle.command_words.proofs.Stepwise.{entry_of, options_from, pairs_by}
 use Rattle.command_words.proofs.OptionLaws.{free, rows_of_pairs, same_text}
 use Rattle.command_words.proofs.ProgramLaws.{TopAgrees, words_agree, first_of_pairs, not_shown, free_of_nil, nil_of_free}

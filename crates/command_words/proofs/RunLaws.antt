@@ -8,7 +8,7 @@ use Rattle.command_words.specs.declared.command.Command.TheVariants.{Check, Make
 use Rattle.command_words.specs.declared.command.Make.{Make as MakeOf}
 use Rattle.command_words.specs.declared.command.Solo.{Solo as SoloOf}
 use Rattle.command_words.specs.declared.command.Run.{Run as RunOf}
-use Rattle.command_words.specs.Grammar.{Word, Given, is_word, given_for, value_of}
+use Rattle.command_words.specs.CommandGrammar.{Word, Given, is_word, given_for, value_of}
 use Rattle.command_words.specs.Commands.{CommandRule, check, make, solo, run, make_of, solo_of, run_of, asked_of, command_of, names_run}
 
 -- what is asked for is `run` only where this is true

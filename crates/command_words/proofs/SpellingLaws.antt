@@ -6,7 +6,7 @@ use Rattle.std.specs.Str.{bytes_eq}
 use Rattle.std.proofs.lemmas.Bool.{cases_Bool, and_parts}
 use Rattle.std.proofs.lemmas.Bool.Decides.{nat_tests}
 use Rattle.command_words.specs.declared.command.Command.{Command}
-use Rattle.command_words.specs.Grammar.{Word, Given, Options, equals_sign, name_and_value, option_after, option_word, begins_with_hyphen, is_word, given_in, with_option, before, is_known, is_right, fits, given_for, value_of}
+use Rattle.command_words.specs.CommandGrammar.{Word, Given, Options, equals_sign, name_and_value, option_after, option_word, begins_with_hyphen, is_word, given_in, with_option, before, is_known, is_right, fits, given_for, value_of}
 use Rattle.command_words.specs.Commands.{CommandRule, commands, command_named, asked_of, command_of}
 use Rattle.command_words.specs.Spelling.{IsName, Spells, nothing, in_one_word, in_two_words, IsCommandLine, IsNoCommandLine}
 use Rattle.command_words.proofs.Agreement.{flipped}
@@ -24,7 +24,7 @@ abbrev joined : Word → Option Word → Word
 joined name None = name
 joined name (Some value) = name ++ equals_sign ∷ value
 
--- a byte more before the name
+-- one byte more before the name
 name_and_value-step : (x : ℕ) (text : Word) → (x == equals_sign) ≡ false → name_and_value (x ∷ text) ≡ (x ∷ (name_and_value text).0, (name_and_value text).1)
 name_and_value-step x text e =
     let place = position_or_len (λ b. b == equals_sign) text in

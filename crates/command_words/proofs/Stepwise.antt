@@ -2,7 +2,7 @@
 use Rattle.std.specs.Prelude.{Bool, not, ◌&&◌, ◌||◌, ◌==◌, nat_lt, List, [], ◌∷◌, ◌++◌, length, Option, Some, None, option_map, option_and_then, if◌then◌else◌, find, is_some, slice_index}
 use Rattle.std.specs.Str.{bytes_eq}
 use Rattle.clap.specs.Lexer.{long_of}
-use Rattle.command_words.specs.Grammar.{Word, Given, Options, has, is_known, has_required}
+use Rattle.command_words.specs.CommandGrammar.{Word, Given, Options, has, is_known, has_required}
 use Rattle.command_words.specs.Commands.{CommandRule, check, make, solo, run}
 
 abbrev pub starts_with_hyphen : Word → Bool

@@ -8,7 +8,7 @@ use Rattle.command_words.specs.declared.command.Make.{Make}
 use Rattle.command_words.specs.declared.command.Solo.{Solo}
 use Rattle.command_words.specs.declared.command.Run.{Run}
 use Rattle.command_words.specs.declared.value.Shared.{Shared}
-use Rattle.command_words.specs.Grammar.{Word, Options, is_word, given_for, value_of}
+use Rattle.command_words.specs.CommandGrammar.{Word, Options, is_word, given_for, value_of}
 use Rattle.command_words.specs.WordValues.{number_between, properties_of}
 
 -- the option of `make` by the text of its value

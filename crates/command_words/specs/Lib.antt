@@ -1,6 +1,6 @@
-pub mod Grammar
+pub mod CommandGrammar
 pub mod WordValues
 pub mod Commands
 pub mod Parser
-pub mod Shown
+pub mod ArgumentsShown
 pub mod Spelling

@@ -2,7 +2,7 @@
 use Rattle.std.specs.Prelude.{◌≡◌, ◌≢◌, true, false, ◌==◌, List, [], ◌∷◌, ◌++◌, Some, codes}
 use Rattle.std.specs.List.{list_any}
 use Rattle.command_words.specs.declared.command.Command.{Command}
-use Rattle.command_words.specs.Grammar.{Word, Given, equals_sign, begins_with_hyphen, fits, value_of}
+use Rattle.command_words.specs.CommandGrammar.{Word, Given, equals_sign, begins_with_hyphen, fits, value_of}
 use Rattle.command_words.specs.Commands.{CommandRule, command_named}
 
 -- no name of an option has an `=`

@@ -4,7 +4,7 @@ use Rattle.std.specs.List.{list_all}
 use Rattle.std.specs.Char.{is_ascii_digit}
 use Rattle.std.specs.Str.Parse.{digits_value}
 use Rattle.var_functions.specs.RunProps.{each_is_pair, pairs_of}
-use Rattle.command_words.specs.Grammar.{Word}
+use Rattle.command_words.specs.CommandGrammar.{Word}
 
 -- 1 to 20 decimal digits
 abbrev pub is_number : Word → Bool

@@ -3,11 +3,11 @@
 ghost use Rattle.std.specs.Prelude.{◌≡◌, ◌≢◌, IsSome, IsNone, IsErr, map, true, IfOk, Some, None, string_bytes, option_map, unwrap_or};
 ghost use Rattle.std.specs.List.{list_all};
 ghost use Rattle.clap.specs.Words.{app_of, subcommand_rows_of};
-ghost use Rattle.command_words.specs.Grammar.{Given, is_word};
+ghost use Rattle.command_words.specs.CommandGrammar.{Given, is_word};
 ghost use Rattle.command_words.specs.Commands.{CommandRule, make_of, shared_of, solo_of, run_of, command_of, names_run};
 ghost use Rattle.command_words.specs.Parser.{AreTaken, taken_rows};
 ghost use Rattle.command_words.specs.Spelling.{IsCommandLine, IsNoCommandLine};
-ghost use Rattle.command_words.specs.Shown.{shown_name, shown_value, Shows, ShowsReading, asked_by};
+ghost use Rattle.command_words.specs.ArgumentsShown.{shown_name, shown_value, Shows, ShowsReading, asked_by};
 
 use crate::command::{Command, Make, Run, Solo};
 use crate::error::WordsError;

@@ -5,10 +5,10 @@ use Rattle.cond_expr.specs.declared.value.Operator.{Operator}
 use Rattle.cond_expr.specs.declared.value.Operator.TheVariants.{Or, And}
 use Rattle.cond_expr.specs.declared.token.Token.TheVariants.{Value, Not, Open, Close, Operate}
 use Rattle.cond_expr.specs.Tokens.{Placed}
-use Rattle.cond_expr.specs.Reading.{Reading, constant, operated}
-use Rattle.cond_expr.specs.Grammar.{Strength, disjunction, conjunction, comparison, operand, placed, Reads, value, negation, group, compare, both, either, one_operand, one_comparison, one_conjunction, max_depth, IsConditionOf}
-use Rattle.cond_expr.specs.Machine as machine
-use Rattle.cond_expr.specs.Machine.{Frame, left_side, depth_of, State, awaiting, complete, settled, chains, strength, operate, close, next, run, whole, finish, or_else_fault, reading_of}
+use Rattle.cond_expr.specs.ConditionTree.{Reading, constant, operated}
+use Rattle.cond_expr.specs.ConditionGrammar.{Strength, disjunction, conjunction, comparison, operand, placed, Reads, value, negation, group, compare, both, either, one_operand, one_comparison, one_conjunction, max_depth, IsConditionOf}
+use Rattle.cond_expr.specs.ConditionMachine as machine
+use Rattle.cond_expr.specs.ConditionMachine.{Frame, left_side, depth_of, State, awaiting, complete, settled, chains, strength, operate, close, next, run, whole, finish, or_else_fault, reading_of}
 use Rattle.cond_expr.proofs.Settling.{Loose, Loose-weaker, settled-loose, settled-closes, resettled, resettled-settled, chains-loose, chains-or, chains-and, comparison-strength, run-next, run-none, run-then}
 
 -- From the tokens the machine comes to a state that closes to the reading, over what was open before.

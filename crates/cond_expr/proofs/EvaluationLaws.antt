@@ -8,8 +8,8 @@ use Rattle.cond_expr.specs.declared.value.CondError.{CondError}
 use Rattle.cond_expr.specs.declared.value.CondError.TheVariants.{BadCond, NoMemory}
 use Rattle.cond_expr.specs.declared.cond.Step.{Step}
 use Rattle.cond_expr.specs.declared.cond.Step.TheVariants.{Value, Not, Apply}
-use Rattle.cond_expr.specs.Reading.{Reading, constant, negated, operated}
-use Rattle.cond_expr.specs.Meaning.{opposite, applied, truth_or_fault, ◌>>=◌, value_of}
+use Rattle.cond_expr.specs.ConditionTree.{Reading, constant, negated, operated}
+use Rattle.cond_expr.specs.ConditionWorth.{opposite, applied, truth_or_fault, ◌>>=◌, value_of}
 use Rattle.cond_expr.specs.Steps.{steps_of, reading_of_steps, AreSteps, reading_of_steps-steps_of}
 use Rattle.cond_expr.specs.Piles.{pile, Puts, on_truth, outcome_of, Advances, IsReady}
 

@@ -9,10 +9,10 @@ use Rattle.cond_expr.specs.declared.parse.Pending.TheVariants.{Group, Not, Opera
 use Rattle.cond_expr.specs.declared.parse.Parser.{Parser}
 use Rattle.cond_expr.specs.declared.value.CondValue.{CondValue}
 use Rattle.cond_expr.specs.declared.token.Token.TheVariants.{Value, Close, Operate}
-use Rattle.cond_expr.specs.Reading.{Reading, constant}
+use Rattle.cond_expr.specs.ConditionTree.{Reading, constant}
 use Rattle.cond_expr.specs.Steps.{steps_of}
-use Rattle.cond_expr.specs.Machine.{Frame, group, negation, left_side, State, awaiting, complete, closed, settled, chains, strength, frame_strength, depth_of, operate, close, next}
-use Rattle.cond_expr.specs.Holding.{IsOperandHeld, Holds, Takes, pending_of, left_steps, shape}
+use Rattle.cond_expr.specs.ConditionMachine.{Frame, group, negation, left_side, State, awaiting, complete, closed, settled, chains, strength, frame_strength, depth_of, operate, close, next}
+use Rattle.cond_expr.specs.ConditionHolding.{IsOperandHeld, Holds, Takes, pending_of, left_steps, shape}
 
 -- the frame that was taken from what is open, and what is open without it
 taken : (fs : List Frame) (f : Frame) (items rest : List Pending) (p : Pending) → items ≡ pending_of (f ∷ fs) → items ≡ rest ++ p ∷ [] → (rest ≡ pending_of fs) × (p ≡ shape f)

@@ -8,9 +8,9 @@ use Rattle.cond_expr.specs.declared.value.Operator.TheVariants.{Or, And, Equal, 
 use Rattle.cond_expr.specs.declared.token.Token.{Token}
 use Rattle.cond_expr.specs.declared.token.Token.TheVariants.{Value, Not, Open, Close, Operate, Unknown}
 use Rattle.cond_expr.specs.Tokens.{Placed, tokens}
-use Rattle.cond_expr.specs.Reading.{Reading, constant}
-use Rattle.cond_expr.specs.Grammar.{Strength, operand, placed, Reads, value, max_depth, IsConditionOf, IsReadingOf, BeginsCondition, IsFaultOf}
-use Rattle.cond_expr.specs.Machine.{Frame, group, negation, left_side, depth_of, State, awaiting, complete, settled, chains, strength, operate, close, open_frame, next, run, state_or_fault, or_else_fault, whole, finish, reading_of}
+use Rattle.cond_expr.specs.ConditionTree.{Reading, constant}
+use Rattle.cond_expr.specs.ConditionGrammar.{Strength, operand, placed, Reads, value, max_depth, IsConditionOf, IsReadingOf, BeginsCondition, IsFaultOf}
+use Rattle.cond_expr.specs.ConditionMachine.{Frame, group, negation, left_side, depth_of, State, awaiting, complete, settled, chains, strength, operate, close, open_frame, next, run, state_or_fault, or_else_fault, whole, finish, reading_of}
 use Rattle.cond_expr.proofs.Settling.{Loose, Loose-any, settled-loose, run-then, run-none, run-next, run-stuck}
 use Rattle.cond_expr.proofs.Completeness.{whole_reading}
 use Rattle.cond_expr.proofs.Soundness.{bound, to_operand, to_conjunction, to_disjunction, LeftSide, Opened, nothing, a_group, a_negation, a_left_side, Has, close_group_of, ends_of, append-nil, completion, Closed, IsClosed, settled_reads}

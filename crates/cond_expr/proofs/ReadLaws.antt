@@ -8,13 +8,13 @@ use Rattle.cond_expr.specs.declared.parse.Parser.{Parser}
 use Rattle.cond_expr.specs.declared.parse.Pending.{Pending}
 use Rattle.std.proofs.lemmas.List.{nil_from_length}
 use Rattle.cond_expr.specs.Tokens.{token_at, tokens_from, tokens}
-use Rattle.cond_expr.specs.Reading.{Reading}
-use Rattle.cond_expr.specs.Grammar.{placed, IsReadingOf, IsFaultOf}
-use Rattle.cond_expr.specs.Machine as machine
-use Rattle.cond_expr.specs.Machine.{State, awaiting, complete, settled, next, run, finish, whole, or_else_fault, reading_of}
+use Rattle.cond_expr.specs.ConditionTree.{Reading}
+use Rattle.cond_expr.specs.ConditionGrammar.{placed, IsReadingOf, IsFaultOf}
+use Rattle.cond_expr.specs.ConditionMachine as machine
+use Rattle.cond_expr.specs.ConditionMachine.{State, awaiting, complete, settled, next, run, finish, whole, or_else_fault, reading_of}
 use Rattle.cond_expr.specs.Steps.{steps_of}
-use Rattle.cond_expr.specs.Gives.{Gives}
-use Rattle.cond_expr.specs.Holding.{Holds, Takes, IsOperandHeld, pending_of, left_steps, shape}
+use Rattle.cond_expr.specs.ConditionGives.{Gives}
+use Rattle.cond_expr.specs.ConditionHolding.{Holds, Takes, IsOperandHeld, pending_of, left_steps, shape}
 use Rattle.cond_expr.proofs.Settling.{run-next, run-stuck, run-none}
 use Rattle.cond_expr.proofs.ParserLaws.{settled_complete, no_push}
 use Rattle.cond_expr.proofs.TokenLaws.{tokens_from-space, tokens_from-token, tokens_from-end}

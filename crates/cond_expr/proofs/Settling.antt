@@ -4,9 +4,9 @@ use Rattle.std.proofs.lemmas.Bool.Decides.{nat_tests}
 use Rattle.cond_expr.specs.declared.value.Operator.{Operator}
 use Rattle.cond_expr.specs.declared.value.Operator.TheVariants.{Or, And, Equal, NotEqual, Less, LessOrEqual, Greater, GreaterOrEqual}
 use Rattle.cond_expr.specs.Tokens.{Placed}
-use Rattle.cond_expr.specs.Reading.{Reading}
-use Rattle.cond_expr.specs.Grammar.{IsComparison}
-use Rattle.cond_expr.specs.Machine.{Frame, group, negation, left_side, strength, frame_strength, closed, State, awaiting, complete, settled, chains, next, run, state_or_fault, or_else_fault}
+use Rattle.cond_expr.specs.ConditionTree.{Reading}
+use Rattle.cond_expr.specs.ConditionGrammar.{IsComparison}
+use Rattle.cond_expr.specs.ConditionMachine.{Frame, group, negation, left_side, strength, frame_strength, closed, State, awaiting, complete, settled, chains, next, run, state_or_fault, or_else_fault}
 
 -- the innermost frame binds less strongly
 abbrev pub Loose : ℕ → List Frame → Type 0

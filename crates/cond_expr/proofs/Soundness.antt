@@ -5,10 +5,10 @@ use Rattle.cond_expr.specs.declared.value.Operator.{Operator}
 use Rattle.cond_expr.specs.declared.value.Operator.TheVariants.{Or, And, Equal, NotEqual, Less, LessOrEqual, Greater, GreaterOrEqual}
 use Rattle.cond_expr.specs.declared.token.Token.TheVariants.{Not, Open, Close, Operate}
 use Rattle.cond_expr.specs.Tokens.{Placed}
-use Rattle.cond_expr.specs.Reading.{Reading, negated, operated}
-use Rattle.cond_expr.specs.Grammar.{Strength, disjunction, conjunction, comparison, operand, placed, Reads, negation, group, compare, both, either, one_operand, one_comparison, one_conjunction, max_depth, IsConditionOf, BeginsCondition}
-use Rattle.cond_expr.specs.Machine as machine
-use Rattle.cond_expr.specs.Machine.{Frame, left_side, depth_of, State, awaiting, complete, closed, frame_strength, settled, chains, strength, operate, close, next, run}
+use Rattle.cond_expr.specs.ConditionTree.{Reading, negated, operated}
+use Rattle.cond_expr.specs.ConditionGrammar.{Strength, disjunction, conjunction, comparison, operand, placed, Reads, negation, group, compare, both, either, one_operand, one_comparison, one_conjunction, max_depth, IsConditionOf, BeginsCondition}
+use Rattle.cond_expr.specs.ConditionMachine as machine
+use Rattle.cond_expr.specs.ConditionMachine.{Frame, left_side, depth_of, State, awaiting, complete, closed, frame_strength, settled, chains, strength, operate, close, next, run}
 use Rattle.cond_expr.proofs.Settling.{Loose, Loose-any, nat_le-holds}
 
 -- how strongly the frame around a reading of this strength may bind at most, and 1

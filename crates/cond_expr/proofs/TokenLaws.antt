@@ -10,7 +10,7 @@ use Rattle.cond_expr.specs.declared.token.Token.{Token}
 use Rattle.cond_expr.specs.declared.token.Token.TheVariants.{Value, Unknown}
 use Rattle.cond_expr.specs.declared.value.CondValue.TheVariants.{Number, Text}
 use Rattle.cond_expr.specs.Tokens.{leading_digits, magnitude_of, signed, sign_len, number_after, text_at, operators, marks, first_word, known_token, token_at, tokens_from}
-use Rattle.cond_expr.specs.Grammar.{placed}
+use Rattle.cond_expr.specs.ConditionGrammar.{placed}
 
 -- bytes that belong to a token that is counted already are passed over
 pub tokens_from-skip : (at skip : ℕ) (bs : List ℕ) → tokens_from at skip bs ≡ tokens_from (at + skip) 0 (drop skip bs)

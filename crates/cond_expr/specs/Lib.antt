@@ -1,9 +1,9 @@
 pub mod Tokens
-pub mod Reading
-pub mod Grammar
-pub mod Meaning
-pub mod Machine
+pub mod ConditionTree
+pub mod ConditionGrammar
+pub mod ConditionWorth
+pub mod ConditionMachine
 pub mod Steps
-pub mod Gives
-pub mod Holding
+pub mod ConditionGives
+pub mod ConditionHolding
 pub mod Piles

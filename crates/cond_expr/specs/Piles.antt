@@ -6,7 +6,7 @@ use Rattle.cond_expr.specs.declared.value.CondError.{CondError}
 use Rattle.cond_expr.specs.declared.value.CondError.TheVariants.{BadCond, NoMemory}
 use Rattle.cond_expr.specs.declared.cond.Step.{Step}
 use Rattle.cond_expr.specs.declared.cond.Step.TheVariants.{Value, Not, Apply}
-use Rattle.cond_expr.specs.Meaning.{opposite, applied}
+use Rattle.cond_expr.specs.ConditionWorth.{opposite, applied}
 
 -- as a list with the top at its end
 abbrev pub pile : List CondValue → List CondValue

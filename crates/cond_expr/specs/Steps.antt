@@ -6,7 +6,7 @@ use Rattle.cond_expr.specs.contracts.cond.Step.{the_row}
 use Rattle.cond_expr.specs.declared.value.CondValue.TheVariants.{Truth}
 use Rattle.cond_expr.specs.declared.cond.Step.{Step}
 use Rattle.cond_expr.specs.declared.cond.Step.TheVariants.{Value, Not, Apply}
-use Rattle.cond_expr.specs.Reading.{Reading, constant, negated, operated}
+use Rattle.cond_expr.specs.ConditionTree.{Reading, constant, negated, operated}
 
 -- the operands' steps, the left before the right, and then the operator's
 unfoldable pub steps_of : Reading → List Step

@@ -23,7 +23,7 @@ pub struct Cond {
 }
 
 impl Model for Cond {
-    ghost use Rattle.cond_expr.specs.Reading.{Reading};
+    ghost use Rattle.cond_expr.specs.ConditionTree.{Reading};
     ghost use Rattle.cond_expr.specs.Steps.{reading_of_steps, AreSteps, reading_code};
 
     ghost Value = { Reading };

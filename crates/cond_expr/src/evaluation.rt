@@ -2,9 +2,9 @@
 
 ghost use Rattle.std.specs.Prelude.{◌≡◌, ◌∷◌, ◌<◌, ℕ, List, vec_len, IfOk, Ok, Err};
 ghost use Rattle.cond_expr.specs.declared.value.CondValue.{CondValue};
-ghost use Rattle.cond_expr.specs.Meaning.{opposite, equality, numbers, truths, applied, same_text, value_of};
+ghost use Rattle.cond_expr.specs.ConditionWorth.{opposite, equality, numbers, truths, applied, same_text, value_of};
 ghost use Rattle.cond_expr.specs.Piles.{pile, Puts, IsReady, Advances};
-ghost use Rattle.cond_expr.specs.Gives.{Gives};
+ghost use Rattle.cond_expr.specs.ConditionGives.{Gives};
 
 use crate::cond::{Cond, Step};
 use crate::value::{CondError, CondValue, Operator};

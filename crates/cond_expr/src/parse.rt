@@ -1,12 +1,12 @@
 // Reading a condition: its tokens one after another, over what is still open.
 
 ghost use Rattle.std.specs.Prelude.{◌≡◌, ◌≤◌, ◌<◌, ◌+◌, ℕ, true, false, ◌++◌, ◌∷◌, List, [], length, vec_len, IfOk, OnOk, MatchResult, Ok, IsTrue};
-ghost use Rattle.cond_expr.specs.Reading.{Reading};
-ghost use Rattle.cond_expr.specs.Grammar.{IsReadingOf, IsFaultOf};
+ghost use Rattle.cond_expr.specs.ConditionTree.{Reading};
+ghost use Rattle.cond_expr.specs.ConditionGrammar.{IsReadingOf, IsFaultOf};
 ghost use Rattle.cond_expr.specs.Steps.{steps_of};
-ghost use Rattle.cond_expr.specs.Machine.{strength, reading_of};
-ghost use Rattle.cond_expr.specs.Holding.{shape_strength};
-ghost use Rattle.cond_expr.specs.Gives.{Gives};
+ghost use Rattle.cond_expr.specs.ConditionMachine.{strength, reading_of};
+ghost use Rattle.cond_expr.specs.ConditionHolding.{shape_strength};
+ghost use Rattle.cond_expr.specs.ConditionGives.{Gives};
 
 use crate::cond::{Cond, Step};
 use crate::token::{Token, token_at};
@@ -66,11 +66,11 @@ struct Parser {
 impl Parser {
     ghost use Rattle.std.specs.Prelude.{◌≡◌, ◌<◌, ◌+◌, ℕ, true, false, ◌∷◌, List, vec_len, IfOk, OnOk};
     ghost use Rattle.cond_expr.specs.declared.token.Token.TheVariants.{Value, Close, Operate};
-    ghost use Rattle.cond_expr.specs.Reading.{Reading};
-    ghost use Rattle.cond_expr.specs.Machine.{Frame, State, awaiting, complete, frame_strength, closed, settled, next, open_frame, chains};
-    ghost use Rattle.cond_expr.specs.Machine.{finish};
-    ghost use Rattle.cond_expr.specs.Gives.{Gives};
-    ghost use Rattle.cond_expr.specs.Holding.{Holds, IsOperandHeld, IsOpening, Takes, top_strength, pending_of, shape};
+    ghost use Rattle.cond_expr.specs.ConditionTree.{Reading};
+    ghost use Rattle.cond_expr.specs.ConditionMachine.{Frame, State, awaiting, complete, frame_strength, closed, settled, next, open_frame, chains};
+    ghost use Rattle.cond_expr.specs.ConditionMachine.{finish};
+    ghost use Rattle.cond_expr.specs.ConditionGives.{Gives};
+    ghost use Rattle.cond_expr.specs.ConditionHolding.{Holds, IsOperandHeld, IsOpening, Takes, top_strength, pending_of, shape};
 
     fn new(alloc: Global) -> Parser
         ensures { Holds result (awaiting []) }

@@ -9,7 +9,7 @@ use Rattle.element_tree.specs.declared.kinds.Element.{Element}
 use Rattle.element_tree.specs.declared.package.Turn.{Turn}
 use Rattle.element_tree.specs.declared.package.Turn.TheVariants.{Child, Round, Over}
 use Rattle.element_tree.specs.Tree.{Tree}
-use Rattle.cursor_steps.specs.Children.{is_left}
+use Rattle.cursor_steps.specs.RunningChildren.{is_left}
 use Rattle.var_functions.specs.declared.error.VarError.{VarError}
 use Rattle.var_functions.specs.declared.state.UserState.{UserState}
 use Rattle.var_functions.specs.Came.{CameTo}

@@ -10,8 +10,8 @@ use Rattle.element_tree.specs.declared.package.Turn.TheVariants.{Child, Round, O
 use Rattle.var_functions.specs.declared.error.VarError.{VarError}
 use Rattle.var_functions.specs.declared.state.UserState.{UserState}
 use Rattle.cursor_steps.specs.CursorStep.{Step, StepsTo, answers}
-use Rattle.cursor_steps.specs.Children.{IsAmong}
-use Rattle.logic_controllers.specs.Rounds.{begun_after}
+use Rattle.cursor_steps.specs.RunningChildren.{IsAmong}
+use Rattle.logic_controllers.specs.ControllerRounds.{begun_after}
 use Rattle.choice_controllers.specs.declared.order_cursor.OrderCursor.{OrderCursor}
 use Rattle.choice_controllers.specs.RandomOrderController.{order_of, order_runs, order_next}
 use Rattle.control_machine.specs.Load.{waiting, TakesChild}

@@ -19,8 +19,8 @@ use Rattle.logic_controllers.specs.declared.if_cursor.IfCursor.{IfCursor}
 use Rattle.logic_controllers.specs.declared.while_cursor.WhileCursor.{WhileCursor}
 use Rattle.logic_controllers.specs.declared.each_cursor.EachCursor.{EachCursor}
 use Rattle.cursor_steps.specs.CursorStep.{Step, answers, with_vars as step_vars}
-use Rattle.cursor_steps.specs.Children.{is_left, after_child, pass_over}
-use Rattle.logic_controllers.specs.Rounds.{round_begun, opened_vars, opened}
+use Rattle.cursor_steps.specs.RunningChildren.{is_left, after_child, pass_over}
+use Rattle.logic_controllers.specs.ControllerRounds.{round_begun, opened_vars, opened}
 use Rattle.logic_controllers.specs.SimpleController.{simple_next}
 use Rattle.logic_controllers.specs.OnceOnlyController.{once_next}
 use Rattle.logic_controllers.specs.LoopController.{round_begins, loop_goes, loop_next}

@@ -12,12 +12,12 @@ use Rattle.element_tree.specs.Tree.{Tree}
 use Rattle.var_functions.specs.declared.error.VarError.{VarError}
 use Rattle.var_functions.specs.declared.state.UserState.{UserState}
 use Rattle.var_functions.specs.Vars.{Variables}
-use Rattle.var_functions.specs.State.{Functions, IsLater}
+use Rattle.var_functions.specs.FunctionState.{Functions, IsLater}
 use Rattle.var_functions.specs.Came.{CameTo, Refused}
 use Rattle.var_functions.proofs.LaterLaws.{later_same}
 use Rattle.logic_controllers.specs.declared.while_cursor.WhileCursor.{WhileCursor}
 use Rattle.logic_controllers.specs.declared.each_cursor.EachCursor.{EachCursor}
-use Rattle.logic_controllers.specs.Rounds.{opened_vars, opened}
+use Rattle.logic_controllers.specs.ControllerRounds.{opened_vars, opened}
 use Rattle.logic_controllers.specs.WhileController.{WhileKept}
 use Rattle.logic_controllers.specs.ForEachController.{Row, kind_of, output_vars, AllSet, EachKept}
 use Rattle.jm_meaning.specs.State.{Own, Ending, state_of, normal, and_then, with_vars}

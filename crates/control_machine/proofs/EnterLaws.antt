@@ -13,8 +13,8 @@ use Rattle.logic_controllers.specs.declared.if_cursor.IfCursor.{IfCursor}
 use Rattle.logic_controllers.specs.declared.while_cursor.WhileCursor.{WhileCursor}
 use Rattle.logic_controllers.specs.declared.each_cursor.EachCursor.{EachCursor}
 use Rattle.cursor_steps.specs.CursorStep.{answers}
-use Rattle.cursor_steps.specs.Children.{pass_over, none_left, is_left}
-use Rattle.logic_controllers.specs.Rounds.{before_rounds}
+use Rattle.cursor_steps.specs.RunningChildren.{pass_over, none_left, is_left}
+use Rattle.logic_controllers.specs.ControllerRounds.{before_rounds}
 use Rattle.logic_controllers.specs.SimpleController.{simple_enters}
 use Rattle.logic_controllers.specs.OnceOnlyController.{once_enters}
 use Rattle.logic_controllers.specs.LoopController.{loops_of, loop_enters}
@@ -37,7 +37,7 @@ use Rattle.element_tree.specs.declared.kinds.Element.{Element}
 use Rattle.element_tree.specs.Tree.{Tree}
 use Rattle.element_tree.specs.Names.{label_of}
 use Rattle.cursor_steps.specs.declared.pass.Pass.{Pass}
-use Rattle.cursor_steps.specs.Children.{run_count}
+use Rattle.cursor_steps.specs.RunningChildren.{run_count}
 use Rattle.jm_meaning.specs.declared.signal.Signal.{Signal}
 use Rattle.jm_meaning.specs.declared.transaction.Tally.{Tally}
 use Rattle.jm_meaning.specs.Children.{children_of}

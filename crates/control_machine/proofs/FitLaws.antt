@@ -20,9 +20,9 @@ use Rattle.choice_controllers.specs.declared.order_cursor.OrderCursor.{OrderCurs
 use Rattle.choice_controllers.specs.declared.switch_cursor.SwitchCursor.{SwitchCursor}
 use Rattle.choice_controllers.specs.RandomOrderController.{places, order_of}
 use Rattle.logic_controllers.specs.ForEachController.{Row, kind_of}
-use Rattle.logic_controllers.specs.Rounds.{before_rounds}
+use Rattle.logic_controllers.specs.ControllerRounds.{before_rounds}
 use Rattle.cursor_steps.specs.CursorStep.{IsThere}
-use Rattle.cursor_steps.specs.Children.{run_count, pass_over}
+use Rattle.cursor_steps.specs.RunningChildren.{run_count, pass_over}
 use Rattle.jm_meaning.specs.Children.{children_of}
 use Rattle.control_machine.specs.declared.cursor.Cursor.TheVariants.{Simple, Once, Loop, If, While, Each, Interleave, Random, Order, Switch}
 use Rattle.control_machine.specs.Cursors.{FitsKind, begun_of}

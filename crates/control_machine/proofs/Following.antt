@@ -4,7 +4,7 @@ use Rattle.std.specs.Prelude.{slice_get}
 use Rattle.jm_base.specs.declared.types.End.TheVariants.{Completed, RoundLimit}
 use Rattle.jm_base.specs.Run.{over}
 use Rattle.element_tree.specs.Tree.{Tree}
-use Rattle.cursor_steps.specs.Children.{is_left, pass_over}
+use Rattle.cursor_steps.specs.RunningChildren.{is_left, pass_over}
 use Rattle.logic_controllers.specs.LoopController.{round_begins}
 use Rattle.var_functions.specs.declared.state.UserState.{UserState}
 use Rattle.jm_meaning.specs.declared.signal.Signal.TheVariants.{Normal}

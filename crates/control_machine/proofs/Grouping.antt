@@ -6,7 +6,7 @@ use Rattle.std.proofs.Math.ListN.{get_or}
 use Rattle.std.proofs.lemmas.Option.{slice_get-get_or}
 use Rattle.element_tree.specs.declared.kinds.Element.{Element}
 use Rattle.cursor_steps.specs.declared.pass.Pass.{Pass}
-use Rattle.cursor_steps.specs.Children.{is_left, after_child}
+use Rattle.cursor_steps.specs.RunningChildren.{is_left, after_child}
 use Rattle.jm_meaning.specs.Children.{children_of}
 use Rattle.control_machine.specs.Load.{remaining}
 use Rattle.control_machine.specs.Left.{children_at}

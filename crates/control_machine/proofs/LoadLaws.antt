@@ -6,7 +6,7 @@ use Rattle.std.proofs.lemmas.Option.{slice_get_within}
 use Rattle.std.proofs.lemmas.List.{length-take}
 use Rattle.std.proofs.lemmas.List.Sums.{length-filter, count_by-le-length}
 use Rattle.element_tree.specs.declared.kinds.Element.{Element}
-use Rattle.cursor_steps.specs.Children.{is_run_at, runs_of}
+use Rattle.cursor_steps.specs.RunningChildren.{is_run_at, runs_of}
 use Rattle.jm_meaning.specs.Children.{children_of}
 use Rattle.control_machine.specs.declared.stack.Frame.{Frame}
 use Rattle.control_machine.specs.Load.{children_count, scale, children_left, load}

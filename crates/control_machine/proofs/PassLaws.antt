@@ -9,7 +9,7 @@ use Rattle.element_tree.specs.declared.kinds.Element.{Element}
 use Rattle.cursor_steps.specs.declared.pass.Pass.{Pass}
 use Rattle.element_tree.specs.declared.package.Turn.{Turn}
 use Rattle.element_tree.specs.declared.package.Turn.TheVariants.{Child, Round, Over}
-use Rattle.cursor_steps.specs.Children.{is_left, after_child, run_count, runs_of, Passes}
+use Rattle.cursor_steps.specs.RunningChildren.{is_left, after_child, run_count, runs_of, Passes}
 use Rattle.jm_meaning.specs.Children.{children_of}
 use Rattle.control_machine.specs.Moves.{pass_left}
 use Rattle.control_machine.specs.Load.{remaining, TakesChild}

@@ -6,7 +6,7 @@ use Rattle.jm_base.specs.declared.types.End.TheVariants.{Completed, RoundLimit}
 use Rattle.jm_base.specs.Run.{over}
 use Rattle.element_tree.specs.declared.kinds.Element.{Element}
 use Rattle.element_tree.specs.Tree.{Tree}
-use Rattle.cursor_steps.specs.Children.{is_left}
+use Rattle.cursor_steps.specs.RunningChildren.{is_left}
 use Rattle.cursor_steps.specs.declared.pass.Pass.{Pass}
 use Rattle.logic_controllers.specs.LoopController.{round_begins}
 use Rattle.var_functions.specs.declared.state.UserState.{UserState}

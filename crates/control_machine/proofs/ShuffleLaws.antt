@@ -4,7 +4,7 @@ use mathlib.Core.Path.{fun_ext}
 use Rattle.std.specs.Prelude.{slice_get, swap, slice_set, slice_index_or}
 use Rattle.std.specs.List.{range_with_len}
 use Rattle.std.proofs.lemmas.List.{map-set}
-use Rattle.var_functions.specs.State.{Functions, drawn, draw}
+use Rattle.var_functions.specs.FunctionState.{Functions, drawn, draw}
 use Rattle.choice_controllers.specs.RandomOrderController.{shuffled, places, random_order}
 use Rattle.jm_meaning.specs.State.{State, and_then}
 use Rattle.jm_meaning.specs.Children.{Below, in_order}

@@ -8,7 +8,7 @@ use Rattle.element_tree.specs.declared.kinds.Kind.{Kind}
 use Rattle.element_tree.specs.declared.package.Turn.{Turn}
 use Rattle.element_tree.specs.declared.package.Turn.TheVariants.{Child, Round, Over}
 use Rattle.element_tree.specs.Tree.{Tree, Nests}
-use Rattle.logic_controllers.specs.Rounds.{begun_after}
+use Rattle.logic_controllers.specs.ControllerRounds.{begun_after}
 use Rattle.jm_meaning.specs.Children.{children_of}
 use Rattle.jm_meaning.specs.Beginning.{max_rounds}
 use Rattle.control_machine.specs.declared.cursor.Cursor.{Cursor}
@@ -21,7 +21,7 @@ use Rattle.control_machine.specs.declared.machine.Went.{Went}
 use Rattle.control_machine.specs.declared.machine.Went.TheVariants.{On}
 use Rattle.var_functions.specs.declared.error.VarError.{VarError}
 use Rattle.var_functions.specs.declared.error.VarError.TheVariants.{NoMemory}
-use Rattle.cursor_steps.specs.Children.{is_run_at, runs_of}
+use Rattle.cursor_steps.specs.RunningChildren.{is_run_at, runs_of}
 use Rattle.control_machine.specs.Load.{children_count, waiting, children_left}
 use Rattle.control_machine.specs.Left.{IsOpen, AreOpen, GroupIsOpen, IsOut, StandsIn}
 use Rattle.control_machine.specs.Turns.{IsOpened, IsRoundless, IsRoundIn}

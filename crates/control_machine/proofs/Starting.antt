@@ -9,7 +9,7 @@ use Rattle.element_tree.specs.declared.kinds.Loops.{Loops}
 use Rattle.element_props.specs.declared.choices.OnError.{OnError}
 use Rattle.element_props.specs.declared.choices.OnError.TheVariants as on_errors
 use Rattle.element_tree.specs.Tree.{Tree, IsGroup, group_of}
-use Rattle.cursor_steps.specs.Children.{run_count, is_left}
+use Rattle.cursor_steps.specs.RunningChildren.{run_count, is_left}
 use Rattle.var_functions.specs.declared.state.UserState.{UserState}
 use Rattle.jm_meaning.specs.declared.signal.Signal.{Signal}
 use Rattle.jm_meaning.specs.declared.signal.Signal.TheVariants.{Normal}

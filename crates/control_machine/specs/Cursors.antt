@@ -17,7 +17,7 @@ use Rattle.choice_controllers.specs.declared.random_cursor.RandomCursor.{RandomC
 use Rattle.choice_controllers.specs.declared.order_cursor.OrderCursor.{OrderCursor}
 use Rattle.choice_controllers.specs.declared.switch_cursor.SwitchCursor.{SwitchCursor}
 use Rattle.choice_controllers.specs.RandomOrderController.{order_of}
-use Rattle.logic_controllers.specs.Rounds.{opened_vars}
+use Rattle.logic_controllers.specs.ControllerRounds.{opened_vars}
 use Rattle.logic_controllers.specs.ForEachController.{Row, kind_of, output_vars}
 use Rattle.jm_meaning.specs.State.{Part, normal, and_then, with_vars, text}
 use Rattle.jm_meaning.specs.Rounds.{Turns, rounds, loop_turns, while_turns, each_turns}

@@ -3,8 +3,8 @@
 ghost use Rattle.std.specs.Prelude.{◌≡◌, ◌+◌, ◌≤◌, slice_get, length, Some, ℕ, IfOk, OnErr};
 ghost use Rattle.element_tree.specs.declared.kinds.Element.{Element};
 ghost use Rattle.var_functions.specs.Came.{CameTo};
-ghost use Rattle.var_functions.specs.State.{IsLater};
-ghost use Rattle.logic_controllers.specs.Rounds.{begun_after};
+ghost use Rattle.var_functions.specs.FunctionState.{IsLater};
+ghost use Rattle.logic_controllers.specs.ControllerRounds.{begun_after};
 ghost use Rattle.jm_meaning.specs.State.{Own, state_of};
 ghost use Rattle.jm_meaning.specs.Children.{Below, children_of};
 ghost use Rattle.jm_meaning.specs.Beginning.{max_rounds};

@@ -2,13 +2,13 @@
 
 ghost use Rattle.std.specs.Prelude.{◌≡◌, ◌+◌, ◌-◌, ◌≤◌, ◌<◌, ℕ, slice_get, Some, List, [], ◌∷◌, IfOk, OnErr, MatchResult};
 ghost use Rattle.std.specs.List.{filter};
-ghost use Rattle.cursor_steps.specs.Children.{is_run_at};
+ghost use Rattle.cursor_steps.specs.RunningChildren.{is_run_at};
 ghost use Rattle.element_tree.specs.declared.kinds.Element.{Element};
 ghost use Rattle.element_tree.specs.Tree.{Tree, Nests};
 ghost use Rattle.jm_base.specs.Run.{over};
 ghost use Rattle.var_functions.specs.Came.{CameTo};
-ghost use Rattle.var_functions.specs.State.{IsLater};
-ghost use Rattle.logic_controllers.specs.Rounds.{begun_after};
+ghost use Rattle.var_functions.specs.FunctionState.{IsLater};
+ghost use Rattle.logic_controllers.specs.ControllerRounds.{begun_after};
 ghost use Rattle.jm_meaning.specs.State.{normal};
 ghost use Rattle.jm_meaning.specs.Children.{children_of};
 ghost use Rattle.jm_meaning.specs.Meaning.{meaning};

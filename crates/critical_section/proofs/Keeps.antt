@@ -6,7 +6,7 @@ use native.Mathlib.Decide.{ℕ_discrete}
 use lib.ListN.{get_elem?}
 use Rattle.critical_section.specs.declared.rule.SeatView.{SeatView}
 use Rattle.critical_section.specs.declared.rule.Limits.{Limits}
-use Rattle.jm_base.specs.Totals.{total, one_if}
+use Rattle.jm_base.specs.SumTotals.{total, one_if}
 use Rattle.critical_section.specs.Book.{times, is_at, in_open, count_open, closed_list, closed_in, open_in, entered, seats_of, opened, closed, tried, counted_of, FitsView, SectionInvariant}
 use Rattle.critical_section.specs.declared.rule.TheConstants.{MOST_SECTIONS}
 use Rattle.std.proofs.lemmas.List.{set-get_or}

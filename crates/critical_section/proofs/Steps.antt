@@ -9,7 +9,7 @@ use prog.Atomic.{either}
 use Rattle.atomic_table.specs.Table.{State, Me, step, keeps, Allows, Splits, Joins, opening, Final, Seen}
 use Rattle.critical_section.specs.declared.rule.SeatView.{SeatView}
 use Rattle.critical_section.specs.declared.rule.Limits.{Limits}
-use Rattle.jm_base.specs.Totals.{total, one_if}
+use Rattle.jm_base.specs.SumTotals.{total, one_if}
 use Rattle.critical_section.specs.Book.{times, in_open, count_open, closed_in, open_in, entered, seats_of, spent, opened, closed, tried, gone, telling, itself, further_view, one_more, opening_view, taking, counted_of, FitsView, SectionInvariant, holds_of, loads, exchanges, leaves, IsPast, IsNumbered, IsAlone, Knows, OneSeatALock}
 use Rattle.critical_section.specs.declared.rule.TheConstants.{MOST_SEATS, MOST_SECTIONS}
 use Rattle.jm_base.proofs.Totals.{total_set, total_append, total_snoc, total_at, total_only, total_two}

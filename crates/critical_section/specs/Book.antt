@@ -4,7 +4,7 @@ use Rattle.std.specs.Prelude.{nat_lt}
 use mathlib.Core.Option.{some}
 use lib.ListN.{get_elem?}
 use Rattle.atomic_table.specs.Table.{State, Me, Step}
-use Rattle.jm_base.specs.Totals.{total, one_if}
+use Rattle.jm_base.specs.SumTotals.{total, one_if}
 use Rattle.critical_section.specs.declared.rule.SeatView.{SeatView}
 use Rattle.critical_section.specs.declared.rule.Limits.{Limits}
 use Rattle.critical_section.specs.declared.rule.TheConstants.{MOST_SEATS, MOST_SECTIONS}

@@ -1,7 +1,7 @@
 //! The calls: seats that enter and leave the sections of locks, and the book of all sections at the end.
 ghost use Rattle.std.specs.Prelude.{◌≡◌, ℕ, ◌<◌, ◌≤◌, ◌∷◌, length, None, IfOk};
 ghost use Rattle.critical_section.specs.Book.{closed, taking, one_more, further_view, opening_view, HasOpen, IsFirst, HasAllJoined, IsAlone, Enters, FindsBusy, HasPlacesBelow};
-ghost use Rattle.critical_section.specs.Seats.{view_of, IsSeatOf, IfEntered, IfBusy, locks_of, seats_of, book_lists, book_locks};
+ghost use Rattle.critical_section.specs.SectionSeats.{view_of, IsSeatOf, IfEntered, IfBusy, locks_of, seats_of, book_lists, book_locks};
 
 use crate::places::{SectionBook, SectionSeat, Sections};
 use crate::rule::{

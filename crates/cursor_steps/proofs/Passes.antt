@@ -3,7 +3,7 @@ use Rattle.std.proofs.Common.{◌≡◌, ℕ, ◌<◌, ◌≤◌, true, false, a
 use Rattle.std.specs.Prelude.{nat_lt}
 use Rattle.std.proofs.lemmas.Bool.Decides.{nat_tests}
 use Rattle.cursor_steps.specs.declared.pass.Pass.{Pass}
-use Rattle.cursor_steps.specs.Children.{is_left}
+use Rattle.cursor_steps.specs.RunningChildren.{is_left}
 
 below : (m n : ℕ) → m < n → nat_lt m n ≡ true
 below m n h = grind (arith, nat_tests)

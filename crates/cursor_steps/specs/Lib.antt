@@ -1,3 +1,3 @@
 pub mod CursorStep
-pub mod Children
+pub mod RunningChildren
 pub mod Numeral

@@ -2,7 +2,7 @@
 
 ghost use Rattle.std.specs.Prelude.{◌≡◌, ◌+◌, ◌<◌, ◌≤◌, MatchOption};
 ghost use Rattle.std.specs.List.{count_by};
-ghost use Rattle.cursor_steps.specs.Children.{is_run_class, is_run_at, run_count, pass_over, none_left, after_child};
+ghost use Rattle.cursor_steps.specs.RunningChildren.{is_run_class, is_run_at, run_count, pass_over, none_left, after_child};
 
 use element_tree::{Class, Element, Plan};
 

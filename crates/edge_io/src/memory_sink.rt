@@ -3,7 +3,7 @@
 ghost use Rattle.std.specs.Prelude.{◌≡◌, ◌<◌, ◌≤◌, ◌↔◌, ℕ, List, Option, Some, length, take, IfOk, OnOk, OnErr, IsErr};
 ghost use Rattle.std.specs.Io.KnownBytes.{Appends, Keeps};
 ghost use Rattle.edge_io.specs.Memory.{SinkState, new_sink, RefusesPiece, taken_count, after_write, after_failed_write};
-ghost use Rattle.jm_base.specs.Counts.{Rose};
+ghost use Rattle.jm_base.specs.FaultCounts.{Rose};
 
 use crate::numbered::{MOST, is_listed, next_count};
 use crate::sink::Sink;

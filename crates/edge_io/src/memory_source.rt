@@ -3,7 +3,7 @@
 ghost use Rattle.std.specs.Prelude.{◌≡◌, ◌++◌, ◌<◌, ◌≤◌, ◌↔◌, ℕ, List, Option, Some, length, take, drop, IfOk, OnOk, OnErr, IsErr};
 ghost use Rattle.std.specs.Io.KnownBytes.{Consumes, IsAtEnd, Keeps};
 ghost use Rattle.edge_io.specs.Memory.{SourceState, new_source, FailsNext, given_count, after_read, after_failed_read};
-ghost use Rattle.jm_base.specs.Counts.{Rose};
+ghost use Rattle.jm_base.specs.FaultCounts.{Rose};
 
 use crate::numbered::{MOST, is_listed, next_count};
 use crate::source::Source;

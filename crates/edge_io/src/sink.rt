@@ -3,7 +3,7 @@
 ghost use Rattle.std.specs.Prelude.{◌≡◌, ◌<◌, ◌≤◌, ℕ, List, Option, length, take, IfOk, OnOk, OnErr};
 ghost use Rattle.std.specs.Io.KnownBytes.{Appends, Keeps};
 ghost use Rattle.edge_io.specs.Edges.{AppendsProperPrefix};
-ghost use Rattle.jm_base.specs.Counts.{Rose};
+ghost use Rattle.jm_base.specs.FaultCounts.{Rose};
 
 use jm_base::Failed;
 

@@ -3,7 +3,7 @@
 ghost use Rattle.std.specs.Prelude.{◌≡◌, ◌+◌, ◌<◌, ◌≤◌, ℕ, List, Option, length, take, IfOk, OnOk, OnErr, IsErrOf, vec_len};
 ghost use Rattle.std.specs.Io.KnownBytes.{Consumes, IsAtEnd, Keeps};
 ghost use Rattle.edge_io.specs.Edges.{TookAll, TookAtMost, TookCount};
-ghost use Rattle.jm_base.specs.Counts.{Rose};
+ghost use Rattle.jm_base.specs.FaultCounts.{Rose};
 
 use jm_base::Failed;
 use std::alloc::Global;
@@ -38,7 +38,7 @@ pub trait Source {
 pub enum ReadError {
     /// A call of the source failed.
     ReadFault,
-    /// The source gave a byte more than the limit.
+    /// The source gave one byte more than the limit.
     TooLong,
     /// Out of memory.
     NoMemory,
@@ -76,7 +76,7 @@ pub fn read_all<S: Source>(alloc: Global, source: &mut S, limit: u32) -> Result<
     ensures fault { IsErrOf result ReadError.ReadFault → Rose (S.faults source.old) (S.faults source.new) }
     ensures fault_took { IsErrOf result ReadError.ReadFault → TookAtMost (S.left source.old) (S.left source.new) limit }
 
-    // Only here the source gave a byte more than the limit.
+    // Only here the source gave one byte more than the limit.
     ensures long { IsErrOf result ReadError.TooLong → TookCount (S.left source.old) (S.left source.new) (limit + 1) }
     ensures long_calm { IsErrOf result ReadError.TooLong → S.faults source.new ≡ S.faults source.old }
 

@@ -9,7 +9,7 @@ use Rattle.serde_json.specs.Find.{get_member}
 use Rattle.serde_json.proofs.Views.{get_member-put, get_member-put_other}
 use Rattle.element_props.specs.Forms.{has_long, members_have_long}
 use Rattle.element_props.specs.Replies.{has_only}
-use Rattle.element_props.specs.Written.{with_entry}
+use Rattle.element_props.specs.PropertiesWritten.{with_entry}
 use Rattle.element_props.specs.Again.{IsJson, HoldJson}
 
 abbrev pub Named : Type 0

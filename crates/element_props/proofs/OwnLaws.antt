@@ -1,6 +1,6 @@
 -- A reading refuses nothing by a pattern's size, so such a refusal has its cause in the maker of patterns.
 use Rattle.std.proofs.Common.{◌≡◌, ℕ, Bool, true, false, ◌||◌, List, [], ◌∷◌, Option, Some, None, Result, Ok, Err, IfOk, refl, sym, ap, ◌∙◌, IsSome, true≢false, if◌then◌else◌, option_and_then}
-use Rattle.jm_base.specs.Counts.{Rose}
+use Rattle.jm_base.specs.FaultCounts.{Rose}
 use Rattle.serde_json.specs.Data.{Data, Members}
 use Rattle.serde_json.specs.Find.{get_member, as_str, as_array}
 use Rattle.plan_json.specs.Place.{Place}

@@ -10,7 +10,7 @@ use Rattle.element_props.specs.declared.prop.Prop.{Prop}
 use Rattle.element_props.specs.Named.{NamedValue, ◌holds◌}
 use Rattle.element_props.specs.declared.rows.Row.{Row}
 use Rattle.element_props.specs.FormRows as table
-use Rattle.element_props.specs.Seen.{row_seen, presence_seen}
+use Rattle.element_props.specs.RowsSeen.{row_seen, presence_seen}
 use Rattle.element_props.specs.FormRows.{is_short, are_short}
 use Rattle.element_props.specs.Patterns.{Asked}
 use Rattle.element_props.specs.Reads.{Reads, over, refuse, ask, ◌>>=◌, Goes, Fails, Gives}

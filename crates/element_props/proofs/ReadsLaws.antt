@@ -3,7 +3,7 @@ use Rattle.std.proofs.lemmas.List.{append-nil, drop_all, take_all, map-append}
 use Rattle.std.proofs.Common.{◌≡◌, ℕ, ◌+◌, ◌<◌, ◌≤◌, List, [], ◌∷◌, ◌++◌, Option, Some, None, Result, Ok, Err, refl, sym, ap, ◌∙◌, arith, append_assoc, true, false, Bool, ◌||◌, inl, inr, length, get_or, drop, take, map, Bor, OnOk, ◌⊎◌, add-one, drop-cons, subst, option_and_then}
 use Rattle.std.proofs.Math.Seq.{take-suc}
 use Rattle.std.specs.Option.{option_map}
-use Rattle.jm_base.specs.Counts.{Rose}
+use Rattle.jm_base.specs.FaultCounts.{Rose}
 use Rattle.plan_json.specs.Place.{Place}
 use Rattle.element_props.specs.declared.choices.TestKind.TheVariants as kinds
 use Rattle.element_props.specs.declared.error.BuildError.{BuildError}

@@ -10,7 +10,7 @@ use Rattle.serde_json.specs.Data.{unsigned, negative, float, Data, null, boolean
 use Rattle.serde_json.specs.Find.{get_member, as_str, as_bool}
 use Rattle.element_props.specs.Forms.{has_long, members_have_long}
 use Rattle.element_props.specs.Replies.{has_only, at_key, natural_within, reply_keys, reply_in, ◌>>=◌}
-use Rattle.element_props.specs.Written.{text_data, unless, reply_members, reply_data}
+use Rattle.element_props.specs.PropertiesWritten.{text_data, unless, reply_members, reply_data}
 use Rattle.element_props.specs.Again.{HoldJson}
 use Rattle.element_props.proofs.FormsAgain.{ReadsBack, IsTemplateText, short_text, not_long, where_some}
 use Rattle.element_props.proofs.EntriesAgain.{Named, find, found_entry, is_short_entry, short_entries, only_entries, IsFit, got_fit}

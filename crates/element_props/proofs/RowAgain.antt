@@ -15,7 +15,7 @@ use Rattle.element_props.specs.Forms.{has_long, items_have_long, is_too_long, te
 use Rattle.element_props.specs.Choices.{word_in}
 use Rattle.element_props.specs.Replies.{reply_in}
 use Rattle.element_props.specs.Props.{absent_value, is_template, is_required}
-use Rattle.element_props.specs.Written.{text_data, pair_data, reply_data, items_by, value_data, unless, int_eq, same_truth, is_default}
+use Rattle.element_props.specs.PropertiesWritten.{text_data, pair_data, reply_data, items_by, value_data, unless, int_eq, same_truth, is_default}
 use Rattle.element_props.specs.FormRows.{Row, Form, template, plain, filled, lock, whole, up_to, flag, choice, pattern, test_patterns, pairs, replies, texts, csv, json_path, Presence, required, optional, text_default, number_default, truth_default, first_choice, no_pairs, largest, first_word}
 use Rattle.element_props.specs.Again.{IsJson, Stands}
 use Rattle.element_props.proofs.TakenLaws.{checked, pattern_taken, any_reference, tests_taken, formed, taken, value_from}

@@ -18,7 +18,7 @@ use Rattle.element_props.specs.Reads.{outcome}
 use Rattle.element_props.specs.Forms.{has_long, whole_within, all_of, few_of}
 use Rattle.element_props.specs.Choices.{word_in, test_word, tests}
 use Rattle.element_props.specs.Props.{is_required, has_row, unknown, missing, own_properties}
-use Rattle.element_props.specs.Written.{unless, is_default, value_data, entry, with_entry, written}
+use Rattle.element_props.specs.PropertiesWritten.{unless, is_default, value_data, entry, with_entry, written}
 use Rattle.element_props.specs.FormRows.{Row, Form, whole, up_to, choice, test_patterns, texts, csv, Presence, required, number_default, largest, ◌is◌otherwise◌}
 use Rattle.element_props.specs.Again.{HoldJson, are_apart, row_named, Stands, ReadsAgain}
 use Rattle.element_props.proofs.TakenLaws.{formed, value_from, value_here, values, taken_from, taken_to}

@@ -7,11 +7,11 @@ use Rattle.serde_json.specs.View.{view, items_view, members_view}
 use Rattle.serde_json.specs.declared.value.Value.{Value}
 use Rattle.serde_json.proofs.Views.{Entry, members_view-insert_entry}
 use Rattle.element_props.specs.declared.prop.Pair.{Pair}
-use Rattle.element_props.specs.Written.{items_by, no_pair, written}
+use Rattle.element_props.specs.PropertiesWritten.{items_by, no_pair, written}
 use Rattle.element_props.specs.declared.rows.Row.{Row}
 use Rattle.element_props.specs.declared.written.NamedShown.{NamedShown}
-use Rattle.element_props.specs.Seen.{row_seen}
-use Rattle.element_props.specs.Shown.{named_shown_seen}
+use Rattle.element_props.specs.RowsSeen.{row_seen}
+use Rattle.element_props.specs.ValueShown.{named_shown_seen}
 
 -- one list after another
 abbrev pub joined : Items → Items → Items

@@ -8,7 +8,7 @@ use Rattle.element_props.specs.Choices.{test_word, tests}
 use Rattle.element_props.specs.FormRows.{Row, Form, whole, up_to, csv, texts, test_patterns, choice, number_default, required, largest, ◌is◌otherwise◌}
 use Rattle.element_props.specs.Props.{has_row, own_properties}
 use Rattle.element_props.specs.Reads.{outcome}
-use Rattle.element_props.specs.Written.{written}
+use Rattle.element_props.specs.PropertiesWritten.{written}
 
 abbrev pub HasWidth : Num → Type 0
 HasWidth (unsigned n) = n < 2 ^ 64

@@ -1,7 +1,7 @@
 -- The first condition of a template that can't be read.
 use Rattle.std.specs.Prelude.{ℕ, ◌+◌, Bool, true, false, List, length, codes, bytes_eq, if◌then◌else◌, Option, Some, None, Result, Ok, Err, option_and_then}
 use Rattle.template_text.specs.Pieces.{Reference, variable, call, Pieces, no_more, text, reference, Arguments, no_arguments, argument}
-use Rattle.cond_expr.specs.Machine.{reading_of}
+use Rattle.cond_expr.specs.ConditionMachine.{reading_of}
 
 -- the first of two, where there is one
 abbrev pub first_of : {A : Type 0} → Option A → Option A → Option A

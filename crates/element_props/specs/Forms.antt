@@ -11,7 +11,7 @@ use Rattle.element_props.specs.declared.choices.TestKind.TheVariants as kinds
 use Rattle.element_props.specs.Choices.{word_in, test_word}
 use Rattle.element_props.specs.Conditions.{first_of, bad_condition, plain_bytes}
 use Rattle.serde_json.specs.Events.{items_len}
-use Rattle.json_path.specs.Machine.{path_of}
+use Rattle.json_path.specs.PathMachine.{path_of}
 use Rattle.std.specs.Result.{is_ok}
 use Rattle.element_props.specs.Replies.{reply_in}
 use Rattle.element_props.specs.Tables.{is_table, rows_of}

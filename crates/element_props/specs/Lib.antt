@@ -3,7 +3,7 @@ pub mod Conditions
 pub mod PieceViews
 pub mod Patterns
 pub mod FormRows
-pub mod Seen
+pub mod RowsSeen
 pub mod Makers
 pub mod Named
 pub mod Reads
@@ -12,6 +12,6 @@ pub mod Replies
 pub mod Tables
 pub mod Forms
 pub mod Props
-pub mod Written
-pub mod Shown
+pub mod PropertiesWritten
+pub mod ValueShown
 pub mod Again

@@ -1,6 +1,6 @@
 -- A reading of a plan asks for patterns on its way, and ends with a value or a refusal.
 use Rattle.std.specs.Prelude.{◌≡◌, ℕ, Bool, List, [], ◌∷◌, ◌++◌, Option, Some, None, Result, Ok, Err, if◌then◌else◌}
-use Rattle.jm_base.specs.Counts.{Rose}
+use Rattle.jm_base.specs.FaultCounts.{Rose}
 use Rattle.plan_json.specs.Place.{Place}
 use Rattle.element_props.specs.declared.error.BuildError.{BuildError}
 use Rattle.element_props.specs.declared.error.BuildError.TheVariants as errors

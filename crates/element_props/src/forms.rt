@@ -12,7 +12,7 @@ ghost use Rattle.element_props.specs.Forms.{has_long, is_too_long, template_text
 ghost use Rattle.element_props.specs.Choices.{word_in};
 ghost use Rattle.element_props.specs.Conditions.{plain_bytes};
 ghost use Rattle.element_props.specs.Replies.{reply_in};
-ghost use Rattle.element_props.specs.Seen.{form_seen, words_seen};
+ghost use Rattle.element_props.specs.RowsSeen.{form_seen, words_seen};
 
 use crate::prop::{Pair, Prop, Word};
 use crate::replies::reply_in;

@@ -1,7 +1,7 @@
 // Patterns, each with what was made of it.
 
 ghost use Rattle.std.specs.Prelude.{◌≡◌, ◌≤◌, ◌∷◌, ◌⊎◌, [], Err, None, IfOk, OnOk};
-ghost use Rattle.jm_base.specs.Counts.{Rose};
+ghost use Rattle.jm_base.specs.FaultCounts.{Rose};
 ghost use Rattle.regex.specs.Strings.{regex_source};
 ghost use Rattle.element_props.specs.Patterns.{Asked, Asks, HasReading, IsKept, reading_of};
 

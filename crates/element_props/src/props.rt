@@ -11,10 +11,10 @@ ghost use Rattle.element_props.specs.Answers.{Answered, IsByPlan};
 ghost use Rattle.element_props.specs.declared.error.PatternFault.TheVariants.{Size};
 ghost use Rattle.element_props.specs.declared.error.BuildError.{BuildError};
 ghost use Rattle.plan_json.specs.Place.{Place};
-ghost use Rattle.jm_base.specs.Counts.{Rose};
+ghost use Rattle.jm_base.specs.FaultCounts.{Rose};
 ghost use Rattle.element_props.specs.Forms.{cond_checked, pairs_checked, finished, given, bad_pair, is_pattern, is_test_patterns, AreShort, IsShort};
 ghost use Rattle.element_props.specs.Props.{prop_at, absent_value, property, properties, unknown, missing, own_properties, is_template, is_required, has_row};
-ghost use Rattle.element_props.specs.Seen.{form_seen, presence_seen, row_seen};
+ghost use Rattle.element_props.specs.RowsSeen.{form_seen, presence_seen, row_seen};
 
 use crate::asking::{pattern_prop, tests_given};
 use crate::conditions::bad_condition;

@@ -1,7 +1,7 @@
 // A maker of patterns over the regular expressions of `regex`.
 
 ghost use Rattle.std.specs.Prelude.{◌≡◌, ◌≤◌, ◌∷◌, [], ◌↔◌, ◌⊎◌, Err, None, IfOk, OnOk, IsTrue, Contains};
-ghost use Rattle.jm_base.specs.Counts.{Rose};
+ghost use Rattle.jm_base.specs.FaultCounts.{Rose};
 ghost use Rattle.regex.specs.Strings.{regex_source};
 ghost use Rattle.element_props.specs.Patterns.{Asks, HasReading, IsKept, reading_of};
 ghost use Rattle.element_props.specs.Makers.{Maker, new_maker, after_call, after_too_large, asked_of, one_more};

@@ -3,7 +3,7 @@
 ghost use Rattle.std.specs.Prelude.{◌≡◌, option_map, slice_get};
 ghost use Rattle.element_props.specs.Choices.{word_in};
 ghost use Rattle.element_props.specs.FormRows.{first_word};
-ghost use Rattle.element_props.specs.Seen.{form_seen, words_seen};
+ghost use Rattle.element_props.specs.RowsSeen.{form_seen, words_seen};
 
 use crate::choice::{word_at, word_of};
 use crate::choices::{AtEnd, Comparison, Field, OnError, Share, TestKind};

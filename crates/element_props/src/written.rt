@@ -5,9 +5,9 @@ ghost use Rattle.serde_json.specs.View.{view, members_view};
 ghost use Rattle.serde_json.specs.Data.{string, boolean, number, unsigned, array, put};
 ghost use Rattle.serde_json.specs.Find.{of_integer};
 ghost use Rattle.template_text.specs.Pieces.{spelling};
-ghost use Rattle.element_props.specs.Seen.{form_seen, presence_seen, row_seen};
-ghost use Rattle.element_props.specs.Shown.{named_shown_seen, shown_seen};
-ghost use Rattle.element_props.specs.Written.{entry, is_default, is_first, is_no_pairs, is_nothing, is_number, is_text, is_truth, items_by, no_pair, pair_data, reply_data, reply_members, text_data, unless, value_data, with_entry, written};
+ghost use Rattle.element_props.specs.RowsSeen.{form_seen, presence_seen, row_seen};
+ghost use Rattle.element_props.specs.ValueShown.{named_shown_seen, shown_seen};
+ghost use Rattle.element_props.specs.PropertiesWritten.{entry, is_default, is_first, is_no_pairs, is_nothing, is_number, is_text, is_truth, items_by, no_pair, pair_data, reply_data, reply_members, text_data, unless, value_data, with_entry, written};
 
 use crate::patterns::Pattern;
 use crate::prop::Pair;

@@ -15,7 +15,7 @@ use Rattle.element_props.specs.Again.{HoldJson, ReadsAgain}
 use Rattle.element_props.specs.Props.{own_properties}
 use Rattle.element_props.specs.Reads.{over, ◌>>=◌, refuse_if, or_refuse, outcome}
 use Rattle.element_props.specs.FormRows.{Row}
-use Rattle.element_props.specs.Written.{written}
+use Rattle.element_props.specs.PropertiesWritten.{written}
 use Rattle.element_tree.specs.declared.kinds.Kind.{Kind}
 use Rattle.element_tree.specs.declared.kinds.Element.{Element}
 use Rattle.element_tree.specs.declared.types.ElementType.{ElementType}
@@ -28,7 +28,7 @@ use Rattle.element_tree.specs.Names.{labels_of, locks_of}
 use Rattle.element_tree.specs.Threads.{threads_in, is_group_element}
 use Rattle.element_tree.specs.Tree.{Tree}
 use Rattle.element_tree.specs.Walk.{Spot, placed, own, is_right, child_spot, at_place, elements, below, is_enabled, has_enabled, root_spot, known_version, version_of, props_of, tree_of, counted, walked, reading}
-use Rattle.element_tree.specs.Written.{data_of, items_of, written_props, plan_tree, written_tree}
+use Rattle.element_tree.specs.PlanWritten.{data_of, items_of, written_props, plan_tree, written_tree}
 use Rattle.element_tree.proofs.OfJson.{IsJsonTree}
 use Rattle.element_tree.proofs.GrownLaws.{bind_ok, bind_again, over_ok, own_type}
 use Rattle.element_tree.proofs.StandLaws.{both, at_most, Placed, own_placed}

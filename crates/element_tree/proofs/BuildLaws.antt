@@ -2,10 +2,10 @@
 use Rattle.std.proofs.Common.{◌≡◌, ℕ, Bool, false, List, [], ◌++◌, length, None, Result, Ok, Err, IfOk, refl, sym, ap, ◌∙◌, subst}
 use Rattle.serde_json.specs.View.{view}
 use Rattle.plan_json.specs.Shape.{Raw, members_in}
-use Rattle.plan_json.specs.Seen.{raw_view}
+use Rattle.plan_json.specs.TreeSeen.{raw_view}
 use Rattle.plan_json.specs.declared.raw.RawElement.{RawElement, out-RawElement}
 use Rattle.element_props.specs.declared.error.BuildError.{BuildError}
-use Rattle.jm_base.specs.Counts.{Rose}
+use Rattle.jm_base.specs.FaultCounts.{Rose}
 use Rattle.element_props.specs.Answers.{IsByPlan}
 use Rattle.element_props.specs.Patterns.{Asked}
 use Rattle.element_props.specs.declared.error.BuildError.TheVariants.{BadPattern, NoMemory}

@@ -12,13 +12,13 @@ use Rattle.element_props.specs.Named.{NamedValue}
 use Rattle.element_props.specs.declared.prop.Prop.{Prop}
 use Rattle.element_props.specs.declared.prop.Prop.TheVariants.{Absent, Template, Text, Number, Truth, Word, Pattern, Pairs, Replies, Texts, Patterns}
 use Rattle.element_props.specs.FormRows.{Row}
-use Rattle.element_props.specs.Written.{text_data, with_entry, unless, reply_members, pair_data, reply_data, items_by, value_data, is_default, entry, written}
+use Rattle.element_props.specs.PropertiesWritten.{text_data, with_entry, unless, reply_members, pair_data, reply_data, items_by, value_data, is_default, entry, written}
 use Rattle.element_tree.specs.declared.kinds.Element.{Element}
 use Rattle.element_tree.specs.Table.{rows}
 use Rattle.element_tree.specs.Types.{type_of}
 use Rattle.element_tree.specs.Values.{values_of}
 use Rattle.element_tree.specs.Tree.{Tree}
-use Rattle.element_tree.specs.Written.{data_of, items_of, trees, tree_at, written_tree, plan_tree}
+use Rattle.element_tree.specs.PlanWritten.{data_of, items_of, trees, tree_at, written_tree, plan_tree}
 use Rattle.element_tree.proofs.AgainLaws.{shape_again}
 
 both_within : (a b m : ℕ) → a ≤ m → b ≤ m → max a b ≤ m

@@ -17,7 +17,7 @@ use Rattle.element_tree.specs.Table.{rows}
 use Rattle.element_tree.specs.Kinds.{kind_of}
 use Rattle.element_tree.specs.Values.{values_of}
 use Rattle.element_tree.specs.Fits.{FitsAll}
-use Rattle.element_tree.specs.Forms.{HasForms}
+use Rattle.element_tree.specs.FormedPlan.{HasForms}
 use Rattle.element_tree.specs.Threads.{group_size, group_threads, threads_with, threads_from, is_group_element}
 use Rattle.element_tree.specs.Walk.{Spot, placed, own}
 use Rattle.element_tree.proofs.Grown.{Grown, grown, Growns, none_grown, then_grown, size, flat, flats, Stand, spot_at, stand_below, WereRead, AllRead}

@@ -16,7 +16,7 @@ use Rattle.element_tree.specs.declared.threads.Thread.{Thread}
 use Rattle.element_tree.specs.Types.{type_of, class_of, may_stand, is_root, is_group, is_section}
 use Rattle.element_tree.specs.Names.{labels_of, locks_of}
 use Rattle.element_tree.specs.Threads.{threads_in, threads_from, threads_with, group_threads, group_size, is_group_element}
-use Rattle.element_tree.specs.Forms.{HasForms}
+use Rattle.element_tree.specs.FormedPlan.{HasForms}
 use Rattle.element_tree.specs.Tree.{Tree, Nests, Apart, IsBelow, IsChild, Stands, IsRoot, IsGroup, IsPlan, AreTables, IsWellKept}
 use Rattle.element_tree.specs.Walk.{root_spot, version_of, props_of, version_in, version_in_kind, walked, counted, tree_of, node, IsWalked}
 use Rattle.element_tree.proofs.Grown.{Grown, grown, Growns, size, sizes, numbers, flat, flats, Stand, stand_of, stand_below, WereRead, AllRead}

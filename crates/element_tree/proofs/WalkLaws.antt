@@ -6,7 +6,7 @@ use Rattle.serde_json.specs.Data.{Members}
 use Rattle.serde_json.specs.View.{view}
 use Rattle.plan_json.specs.Shape.{Raw, raw, Raws, no_raws, raw_then, members_in}
 use Rattle.plan_json.specs.Place.{Place, at}
-use Rattle.plan_json.specs.Seen.{raw_view, raws_of}
+use Rattle.plan_json.specs.TreeSeen.{raw_view, raws_of}
 use Rattle.plan_json.specs.declared.raw.RawElement.{RawElement, out-RawElement, the_lemmas}
 use Rattle.element_props.specs.declared.error.BuildError.{BuildError}
 use Rattle.element_props.specs.declared.error.BuildError.TheVariants as errors

@@ -2,7 +2,7 @@
 use Rattle.std.specs.Prelude.{◌≡◌, ℕ, pos, Bool, true, false, ◌&&◌, List, [], ◌∷◌, length, bytes_eq, nat_lt, int_le, is_some}
 use Rattle.std.specs.List.{list_any}
 use Rattle.std.specs.Result.{is_ok}
-use Rattle.json_path.specs.Machine.{path_of}
+use Rattle.json_path.specs.PathMachine.{path_of}
 use Rattle.element_props.specs.declared.prop.Prop.{Prop}
 use Rattle.element_props.specs.declared.prop.Prop.TheVariants.{Absent, Template, Text, Number, Truth, Word, Pattern, Pairs, Replies, Texts, Patterns}
 use Rattle.element_props.specs.Named.{NamedValue}

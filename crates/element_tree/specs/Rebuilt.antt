@@ -4,7 +4,7 @@ use Rattle.plan_json.specs.Shape.{Raw, reading_of}
 use Rattle.element_props.specs.Reads.{outcome}
 use Rattle.element_tree.specs.Tree.{Tree}
 use Rattle.element_tree.specs.Walk.{reading}
-use Rattle.element_tree.specs.Written.{plan_tree}
+use Rattle.element_tree.specs.PlanWritten.{plan_tree}
 
 -- From a text that is a plan, the tree that is written of the plan is that plan again.
 abbrev pub BuiltAgain : Type 0

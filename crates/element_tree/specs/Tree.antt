@@ -10,7 +10,7 @@ use Rattle.element_tree.specs.declared.kinds.Loops.{Loops}
 use Rattle.element_props.specs.declared.choices.OnError.{OnError}
 use Rattle.element_tree.specs.declared.threads.Thread.{Thread}
 use Rattle.element_tree.specs.Types.{class_of, may_stand, is_section}
-use Rattle.element_tree.specs.Forms.{HasForms}
+use Rattle.element_tree.specs.FormedPlan.{HasForms}
 use Rattle.element_tree.specs.Names.{labels_of, locks_of, label_of, lock_of, lock_name}
 use Rattle.element_tree.specs.Threads.{threads_in, thread_text}
 

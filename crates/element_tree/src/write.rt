@@ -8,11 +8,11 @@ ghost use Rattle.serde_json.specs.Data.{string};
 ghost use Rattle.serde_json.specs.View.{view, items_view, members_view};
 ghost use Rattle.plan_json.specs.Shape.{reading_of};
 ghost use Rattle.element_tree.specs.declared.kinds.Element.{Element};
-ghost use Rattle.element_tree.specs.Forms.{HasForms};
+ghost use Rattle.element_tree.specs.FormedPlan.{HasForms};
 ghost use Rattle.element_tree.specs.Table.{type_name};
 ghost use Rattle.element_tree.specs.Tree.{Nests};
 ghost use Rattle.element_tree.specs.Types.{type_of};
-ghost use Rattle.element_tree.specs.Written.{data_of, five_keys, plan_text, plan_tree, written_props, written_tree};
+ghost use Rattle.element_tree.specs.PlanWritten.{data_of, five_keys, plan_text, plan_tree, written_props, written_tree};
 
 use crate::kinds::{Element, Kind};
 use crate::plan::Plan;

@@ -17,7 +17,7 @@ pub const TWO_SAMPLES: &[u8] =
 pub const TWO_THREADS: &[u8] =
     b"{\"type\":\"TestPlan\",\"children\":[{\"type\":\"ThreadGroup\",\"name\":\"TG\",\"props\":{\"threads\":2},\"children\":[{\"type\":\"Script\",\"name\":\"A\",\"props\":{\"replies\":[{\"ms\":5}]}}]}]}";
 
-// A plan of so many threads, each of which makes 100 samples of 5 milliseconds: the text before and after the number.
+// A plan of that many threads, each of which makes 100 samples of 5 milliseconds: the text before and after the number.
 const BEFORE: &[u8] =
     b"{\"type\":\"TestPlan\",\"children\":[{\"type\":\"ThreadGroup\",\"name\":\"TG\",\"props\":{\"loops\":100,\"threads\":";
 

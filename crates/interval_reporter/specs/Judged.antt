@@ -4,7 +4,7 @@ use denote.Ref.{Bor}
 use denote.Param.Members.{Shared}
 use Rattle.interval_tables.specs.declared.report.Report.{Report}
 use Rattle.interval_tables.specs.declared.row.Row.{Row}
-use Rattle.jm_base.specs.Totals.{total}
+use Rattle.jm_base.specs.SumTotals.{total}
 use Rattle.interval_tables.specs.Rows.{IsInBounds}
 use Rattle.interval_reporter.specs.declared.hook.Reporter.{Reporter}
 use Rattle.interval_reporter.specs.declared.verdict.Verdict.{Verdict}

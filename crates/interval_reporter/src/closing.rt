@@ -3,7 +3,7 @@
 ghost use Rattle.std.specs.Prelude.{◌≡◌, ◌<◌, length};
 ghost use Rattle.interval_tables.specs.Rows.{IsInBounds};
 ghost use Rattle.phaser_core.specs.Shares.{SumsOfLists};
-ghost use Rattle.recorder_core.specs.Seats.{reports, numbers_of, IsReporter};
+ghost use Rattle.recorder_core.specs.RecorderSeats.{reports, numbers_of, IsReporter};
 ghost use Rattle.recorder_core.specs.Stands.{closed_as};
 
 use interval_tables::Report;

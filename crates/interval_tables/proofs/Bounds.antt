@@ -2,7 +2,7 @@
 use Rattle.std.proofs.Common.{length-append, ◌≡◌, ℕ, zero, suc, ◌+◌, ◌*◌, not, Bool, true, false, ◌<◌, ◌≤◌, List, [], ◌∷◌, ◌++◌, length, get_or, set, take, drop, sym, refl, ap, ◌∙◌, subst, arith, add-one}
 use Rattle.jm_base.specs.declared.types.Entry.{Entry}
 use Rattle.interval_tables.specs.declared.row.Row.{Row}
-use Rattle.jm_base.specs.Totals.{total, one_if}
+use Rattle.jm_base.specs.SumTotals.{total, one_if}
 use Rattle.interval_tables.specs.Rows.{failed, sum_of, AllLabels, no_samples, with_entry, merged, rows_with, merged_rows, IsInBounds, CanTake, CanMerge, CanMergeRows}
 use Rattle.interval_tables.proofs.Totals.{total_written}
 use Rattle.interval_tables.proofs.Sums.{counts_over, errors_over, over_labels, length-sum_of, sum_of_add}

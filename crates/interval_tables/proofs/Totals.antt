@@ -1,6 +1,6 @@
 -- Sums over a list that is cut, or of which one element changes.
 use Rattle.std.proofs.Common.{◌≡◌, ℕ, zero, suc, ◌+◌, ◌<◌, ◌≤◌, List, [], ◌∷◌, length, get_or, set, take, refl, arith, add-one, ap, ◌∙◌}
-use Rattle.jm_base.specs.Totals.{total}
+use Rattle.jm_base.specs.SumTotals.{total}
 
 module _ {A : Type 0} where
   pub total_written : (f : A → ℕ) (l : List A) (i : ℕ) (w : A) → i < length l → f w ≤ total f (set l i w)

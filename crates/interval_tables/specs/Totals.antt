@@ -1,2 +1,2 @@
 -- Sums over a list.
-pub use Rattle.jm_base.specs.Totals.{total, one_if}
+pub use Rattle.jm_base.specs.SumTotals.{total, one_if}

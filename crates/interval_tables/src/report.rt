@@ -3,7 +3,7 @@
 ghost use Rattle.std.specs.Prelude.{◌≡◌, ◌++◌, [], ◌∷◌, ◌<◌, List, IfOk, length, slice_set};
 ghost use Rattle.jm_base.specs.declared.types.Entry.{Entry};
 ghost use Rattle.interval_tables.specs.declared.row.Row.{Row};
-ghost use Rattle.jm_base.specs.Totals.{total};
+ghost use Rattle.jm_base.specs.SumTotals.{total};
 ghost use Rattle.interval_tables.specs.Rows.{failed, sum_of, rows_with, merged_rows, AllLabels, IsInBounds, CanMergeRows};
 
 use crate::row::{NO_SAMPLES, Row};

@@ -2,7 +2,7 @@
 use Rattle.std.proofs.Common.{◌≡◌, ℕ, zero, suc, ◌+◌, ◌*◌, ◌≤◌, List, [], ◌∷◌, ◌++◌, set, sym, refl, ap, arith, mul-add}
 use mathlib.Core.Option.{some, some-injective, some-ne-none}
 use lib.ListN.{get_elem?}
-use Rattle.jm_base.specs.Totals.{total}
+use Rattle.jm_base.specs.SumTotals.{total}
 
 module _ {A : Type 0} where
   pub total_set : (f : A → ℕ) (l : List A) (i : ℕ) (v w : A) → get_elem? l i ≡ some v → total f (set l i w) + f v ≡ total f l + f w

@@ -1,4 +1,4 @@
-pub mod Counts
+pub mod FaultCounts
 pub mod Run
 pub mod Outside
-pub mod Totals
+pub mod SumTotals

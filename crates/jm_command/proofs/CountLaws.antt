@@ -19,7 +19,7 @@ use Rattle.thread_machine.specs.Stepped.{entry_of}
 use Rattle.thread_machine.specs.declared.trace.TraceItem.{TraceItem}
 use Rattle.thread_machine.specs.declared.trace.TraceItem.TheVariants.{Paused, Sampled, Null, Entered, Left, Ended}
 use Rattle.thread_machine.specs.Bare.{bare, bare_item, IsLabelled}
-use Rattle.thread_machine.specs.Counts.{one_if_sample, samples_in}
+use Rattle.thread_machine.specs.SampleCounts.{one_if_sample, samples_in}
 use Rattle.jm_command.specs.Printed.{entries_in, entries_of}
 
 -- ---- the entries of a trace

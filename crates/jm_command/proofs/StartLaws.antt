@@ -9,7 +9,7 @@ use Rattle.std.proofs.lemmas.List.Elements.{All-nil, All-cons}
 use Rattle.thread_machine.specs.Bare.{IsLabelled}
 use Rattle.run_engine.specs.Joins.{AllLabelled}
 use Rattle.std.specs.Io.KnownBytes.{Appends}
-use Rattle.jm_base.specs.Counts.{Rose}
+use Rattle.jm_base.specs.FaultCounts.{Rose}
 use Rattle.element_props.specs.Patterns.{Asked}
 use Rattle.edge_io.proofs.EdgeLaws.{Appends-append}
 use Rattle.element_tree.specs.Tree.{Tree, threads_of}
@@ -18,7 +18,7 @@ use Rattle.outside_world.specs.Tickers.{Ticks, with_period}
 use Rattle.thread_machine.specs.declared.trace.TraceItem.{TraceItem}
 use Rattle.reporter_loop.specs.Ticked.{HasTickedWhere}
 use Rattle.run_engine.specs.Served.{AreServed}
-use Rattle.command_words.specs.Grammar.{Word, Given, is_word, given_for, value_of}
+use Rattle.command_words.specs.CommandGrammar.{Word, Given, is_word, given_for, value_of}
 use Rattle.command_words.specs.Commands.{run, run_of, asked_of, command_of, names_run}
 use Rattle.command_words.proofs.OptionLaws.{same_text}
 use Rattle.command_words.proofs.RunLaws.{run_is_named}

@@ -4,7 +4,7 @@ use Rattle.std.specs.Prelude.{if◌then◌else◌}
 use Rattle.std.proofs.lemmas.List.{append-nil, drop_all}
 use Rattle.serde_json.specs.View.{view}
 use Rattle.plan_json.specs.Shape.{raw, raw_then, members_in}
-use Rattle.plan_json.specs.Seen.{raw_view, raws_of}
+use Rattle.plan_json.specs.TreeSeen.{raw_view, raws_of}
 use Rattle.plan_json.specs.declared.raw.RawElement.{RawElement, out-RawElement, the_lemmas}
 use Rattle.element_tree.specs.Walk.{is_enabled}
 use Rattle.jm_command.specs.Refusals.{places_of, places_below}

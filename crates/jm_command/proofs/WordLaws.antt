@@ -8,7 +8,7 @@ use Rattle.std.proofs.lemmas.Bool.Decides.{nat_tests}
 use Rattle.command_words.specs.declared.command.Command.{Command}
 use Rattle.command_words.specs.declared.command.Command.TheVariants.{Make, Solo as RunSolo}
 use Rattle.command_words.specs.declared.command.Solo.{Solo}
-use Rattle.command_words.specs.Grammar.{Word, Given, is_word, given_for, value_of}
+use Rattle.command_words.specs.CommandGrammar.{Word, Given, is_word, given_for, value_of}
 use Rattle.command_words.specs.WordValues.{is_number}
 use Rattle.command_words.specs.Commands.{CommandRule, check, make, solo, run, make_from, solo_of, asked_of, command_of, names_run}
 use Rattle.jm_command.specs.Parts.{IsInRange}

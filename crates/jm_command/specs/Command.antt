@@ -1,7 +1,7 @@
 -- What the program's statuses say.
 use Rattle.std.specs.Prelude.{◌≡◌, ◌⊎◌, ℕ, ◌+◌, ◌≤◌, List, length, Option, Some, None, Result, Ok, Err, codes, nat_le, if◌then◌else◌}
 use Rattle.std.specs.Io.KnownBytes.{Appends, Keeps}
-use Rattle.jm_base.specs.Counts.{Rose}
+use Rattle.jm_base.specs.FaultCounts.{Rose}
 use Rattle.edge_io.specs.Edges.{TookAll, TookCount, TookAtMost, AppendsProperPrefix}
 use Rattle.line_output.specs.OutputPieces.{AppendsPart}
 use Rattle.plan_json.specs.Shape.{Raw, reading_of}

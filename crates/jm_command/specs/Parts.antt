@@ -1,7 +1,7 @@
 -- What the parts of the program say.
 use Rattle.std.specs.Prelude.{◌≡◌, ◌⊎◌, ℕ, ◌<◌, ◌≤◌, Bool, true, List, length, Option, Some, None}
 use Rattle.std.specs.Io.KnownBytes.{Appends}
-use Rattle.jm_base.specs.Counts.{Rose}
+use Rattle.jm_base.specs.FaultCounts.{Rose}
 use Rattle.edge_io.specs.Edges.{AppendsProperPrefix}
 use Rattle.line_output.specs.OutputPieces.{AppendsPart}
 use Rattle.trace_output.specs.Printing.{TextOut, TextFailed, TextCut}

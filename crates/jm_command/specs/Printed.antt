@@ -10,7 +10,7 @@ use Rattle.jm_base.specs.Run.{over_value}
 use Rattle.jm_base.specs.Outside.{script_form}
 use Rattle.element_tree.specs.Tree.{Tree}
 use Rattle.element_tree.specs.Names.{labels_of}
-use Rattle.element_tree.specs.Written.{plan_text}
+use Rattle.element_tree.specs.PlanWritten.{plan_text}
 use Rattle.interval_tables.specs.declared.report.Report.{Report}
 use Rattle.interval_tables.specs.Rows.{sum_of}
 use Rattle.command_words.specs.declared.command.Solo.{Solo}
@@ -20,7 +20,7 @@ use Rattle.jm_meaning.specs.declared.item.Item.{Item}
 use Rattle.jm_meaning.specs.declared.item.Item.TheVariants.{Paused, Sampled, Null, Entered, Left, Ended}
 use Rattle.jm_meaning.specs.Beginning.{Options}
 use Rattle.jm_meaning.specs.Meaning.{events}
-use Rattle.jm_meaning.specs.Shown.{shown}
+use Rattle.jm_meaning.specs.TraceShown.{shown}
 use Rattle.outside_world.specs.Scripted.{scripts_of}
 use Rattle.output_lines.specs.Lines.{header_text, result_text, end_text}
 use Rattle.output_lines.specs.Reports.{summary_text}

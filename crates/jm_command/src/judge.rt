@@ -1,7 +1,7 @@
 // Whether the bytes of a plan are fit for a command.
 
 ghost use Rattle.std.specs.Prelude.{◌≡◌};
-ghost use Rattle.plan_json.specs.Seen.{raw_view};
+ghost use Rattle.plan_json.specs.TreeSeen.{raw_view};
 ghost use Rattle.jm_command.specs.Parts.{Judges, JudgesSolo, JudgesRun};
 ghost use Rattle.jm_command.specs.Refusals.{ReadsPlan, solo_fault, samples_fault};
 

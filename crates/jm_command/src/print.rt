@@ -3,12 +3,12 @@
 ghost use Rattle.std.specs.Prelude.{◌≡◌, ◌<◌, ◌≤◌, ◌++◌, All, codes, true, length, IfOk};
 ghost use Rattle.element_tree.specs.Tree.{threads_of};
 ghost use Rattle.element_tree.specs.Names.{labels_of};
-ghost use Rattle.element_tree.specs.Written.{plan_text};
+ghost use Rattle.element_tree.specs.PlanWritten.{plan_text};
 ghost use Rattle.jm_command.specs.Parts.{CanRun, HasThread, TextSays, MadeSays, PlanSays, sinks};
 ghost use Rattle.jm_command.specs.Printed.{IsShown, default_solo};
 ghost use Rattle.command_words.specs.declared.command.Command.TheVariants.{Solo as SoloCommand};
 ghost use Rattle.thread_machine.specs.Bare.{bare, IsCountedIn, IsLabelled};
-ghost use Rattle.thread_machine.specs.Counts.{samples_in};
+ghost use Rattle.thread_machine.specs.SampleCounts.{samples_in};
 
 use crate::report::report_ran;
 use crate::status::Status;

@@ -7,7 +7,7 @@ ghost use Rattle.interval_tables.specs.Rows.{IsInBounds, rows_with};
 ghost use Rattle.output_lines.specs.Lines.{end_text};
 ghost use Rattle.output_lines.specs.Reports.{summary_text};
 ghost use Rattle.thread_machine.specs.Bare.{bare, IsLabelled};
-ghost use Rattle.thread_machine.specs.Counts.{samples_in};
+ghost use Rattle.thread_machine.specs.SampleCounts.{samples_in};
 ghost use Rattle.jm_command.specs.Parts.{ReportSays, WholeSays};
 ghost use Rattle.jm_command.specs.Printed.{counted, end_is_whole};
 

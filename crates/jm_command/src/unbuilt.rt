@@ -1,7 +1,7 @@
 // Where the first element stands that does not run yet.
 
 ghost use Rattle.std.specs.Prelude.{◌≡◌, ◌++◌, IfOk, OnOk, [], position, slice_get, unwrap_or};
-ghost use Rattle.plan_json.specs.Seen.{raw_view};
+ghost use Rattle.plan_json.specs.TreeSeen.{raw_view};
 ghost use Rattle.jm_command.specs.Refusals.{places_of, does_not_run, not_built, stops_test, unbuilt_prop, is_unbuilt_beside, not_built_beside};
 
 use element_tree::{Element, Kind, OnError, Plan};

@@ -11,7 +11,7 @@ use Rattle.var_functions.specs.declared.error.VarError.{VarError}
 use Rattle.var_functions.specs.declared.error.VarError.TheVariants.{ValueLimit, NoMemory}
 use Rattle.var_functions.specs.declared.state.UserState.{UserState}
 use Rattle.var_functions.specs.Vars.{Variables, Puts}
-use Rattle.var_functions.specs.State.{IsLater}
+use Rattle.var_functions.specs.FunctionState.{IsLater}
 use Rattle.var_functions.specs.Came.{LeftOf, Refused, by_limit, by_memory}
 use Rattle.var_functions.proofs.CameLaws.{refused-bind}
 use Rattle.var_functions.proofs.LaterLaws.{later_same}

@@ -7,7 +7,7 @@ use Rattle.element_tree.specs.declared.kinds.Element.{Element}
 use Rattle.element_tree.specs.declared.kinds.Kind.{Kind}
 use Rattle.element_tree.specs.declared.kinds.Kind.TheVariants.{UserVariables}
 use Rattle.element_tree.specs.Tree.{Tree, threads_of}
-use Rattle.var_functions.specs.State.{first_functions}
+use Rattle.var_functions.specs.FunctionState.{first_functions}
 use Rattle.jm_meaning.specs.State.{State, Part, normal, and_then, tried, text, put}
 
 -- the seed of the random words, the properties, and the sample budget of a thread

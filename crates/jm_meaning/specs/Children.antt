@@ -2,7 +2,7 @@
 use Rattle.std.specs.Prelude.{ℕ, List, [], ◌∷◌, Option, Some, None, Bool, true, false, take, ◌==◌, if◌then◌else◌}
 use Rattle.jm_base.specs.Run.{over}
 use Rattle.element_tree.specs.declared.kinds.Element.{Element}
-use Rattle.cursor_steps.specs.Children.{runs_of}
+use Rattle.cursor_steps.specs.RunningChildren.{runs_of}
 use Rattle.logic_controllers.specs.IfController.{is_true}
 use Rattle.jm_meaning.specs.State.{Part, normal, and_then, Try, tried}
 

@@ -2,7 +2,7 @@
 use Rattle.std.specs.Prelude.{ℕ, ◌-◌, ◌%◌, ◌==◌, List, length, Option, slice_get, if◌then◌else◌}
 use Rattle.std.specs.Option.{option_and_then}
 use Rattle.jm_base.specs.Run.{over}
-use Rattle.var_functions.specs.State.{Functions}
+use Rattle.var_functions.specs.FunctionState.{Functions}
 use Rattle.choice_controllers.specs.InterleaveController.{next_place}
 use Rattle.choice_controllers.specs.RandomController.{random_place, random_fns}
 use Rattle.choice_controllers.specs.RandomOrderController.{shuffled}

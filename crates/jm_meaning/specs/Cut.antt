@@ -4,7 +4,7 @@ use Rattle.jm_base.specs.Run.{over}
 use Rattle.jm_base.specs.Outside.{Account, Goes}
 use Rattle.element_props.specs.declared.prop.Pair.{Pair}
 use Rattle.var_functions.specs.declared.state.UserState.{UserState}
-use Rattle.var_functions.specs.State.{IsLater}
+use Rattle.var_functions.specs.FunctionState.{IsLater}
 use Rattle.var_functions.specs.Came.{LeftOf}
 use Rattle.jm_meaning.specs.State.{Own, state_of, normal}
 use Rattle.jm_meaning.specs.Beginning.{set_all}

@@ -5,7 +5,7 @@ use Rattle.jm_base.specs.declared.types.End.TheVariants.{RoundLimit}
 use Rattle.jm_base.specs.Run.{Run, over, ◌>>=◌}
 use Rattle.template_text.specs.Pieces.{Pieces}
 use Rattle.element_tree.specs.declared.kinds.Loops.{Loops}
-use Rattle.logic_controllers.specs.Rounds.{index_name}
+use Rattle.logic_controllers.specs.ControllerRounds.{index_name}
 use Rattle.logic_controllers.specs.LoopController.{round_begins}
 use Rattle.logic_controllers.specs.WhileController.{last_ok, goes_on}
 use Rattle.logic_controllers.specs.ForEachController.{Row, value_at}

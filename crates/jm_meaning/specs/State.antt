@@ -5,7 +5,7 @@ use Rattle.jm_base.specs.declared.types.End.TheVariants.{SampleLimit, RoundLimit
 use Rattle.jm_base.specs.Run.{Run, over, ◌>>=◌}
 use Rattle.template_text.specs.Pieces.{Pieces}
 use Rattle.var_functions.specs.declared.state.UserState.{UserState}
-use Rattle.var_functions.specs.State.{Functions}
+use Rattle.var_functions.specs.FunctionState.{Functions}
 use Rattle.var_functions.specs.Vars.{Variables, put_var}
 use Rattle.var_functions.specs.Expansion.{Expanded, expansion}
 use Rattle.jm_meaning.specs.declared.signal.Signal.{Signal}

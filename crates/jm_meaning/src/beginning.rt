@@ -4,7 +4,7 @@ ghost use Rattle.std.specs.Prelude.{◌≡◌, OnErr};
 ghost use Rattle.jm_base.specs.Run.{over};
 ghost use Rattle.jm_base.specs.declared.types.End.TheVariants.{ValueLimit as PastValueLimit};
 ghost use Rattle.var_functions.specs.Came.{CameTo};
-ghost use Rattle.var_functions.specs.State.{IsLater};
+ghost use Rattle.var_functions.specs.FunctionState.{IsLater};
 ghost use Rattle.jm_meaning.specs.State.{Own, state_of, normal, stopped, tried, text, put};
 ghost use Rattle.jm_meaning.specs.Beginning.{set_first, set_all, user_variables};
 ghost use Rattle.jm_meaning.specs.Cut.{SetsPrefix};

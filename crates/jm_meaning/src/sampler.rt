@@ -4,7 +4,7 @@ ghost use Rattle.std.specs.Prelude.{IfSome, ◌≡◌, [], IfOk, OnErr, Option, 
 ghost use Rattle.jm_base.specs.Run.{over};
 ghost use Rattle.jm_base.specs.Outside.{Account, Goes};
 ghost use Rattle.var_functions.specs.Came.{CameTo};
-ghost use Rattle.var_functions.specs.State.{IsLater};
+ghost use Rattle.var_functions.specs.FunctionState.{IsLater};
 ghost use Rattle.var_functions.specs.Vars.{put_var, Puts};
 ghost use Rattle.jm_meaning.specs.Left.{LeftOf};
 ghost use Rattle.jm_meaning.specs.State.{fine, past_limit};

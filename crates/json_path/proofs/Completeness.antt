@@ -7,8 +7,8 @@ use Rattle.std.proofs.lemmas.Bool.Decides.{nat_tests}
 use Rattle.json_path.specs.declared.path.Step.{Step}
 use Rattle.json_path.specs.declared.path.Step.TheVariants.{Name, Index, All}
 use Rattle.json_path.specs.declared.parse.Place.TheVariants.{Between, AfterDot, InName, AfterBracket, InQuotes, AfterQuote, InIndex, AfterStar}
-use Rattle.json_path.specs.Grammar.{is_name_byte, is_quotable, IsStepText, AreSteps, no_step, a_step, IsPathOf}
-use Rattle.json_path.specs.Machine.{State, start, next, begin_step, with_index, run, finish, or_else_fault}
+use Rattle.json_path.specs.PathGrammar.{is_name_byte, is_quotable, IsStepText, AreSteps, no_step, a_step, IsPathOf}
+use Rattle.json_path.specs.PathMachine.{State, start, next, begin_step, with_index, run, finish, or_else_fault}
 use Rattle.json_path.proofs.Reading.{run-next, run-none, run-then}
 
 -- the states by their places

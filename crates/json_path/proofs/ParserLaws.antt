@@ -8,9 +8,9 @@ use Rattle.std.proofs.lemmas.Int.Digits.{digits_value_push, digits_value-lt}
 use Rattle.std.proofs.Math.Nat.{pow-le-pow_right}
 use Rattle.json_path.specs.declared.parse.Parser.{Parser}
 use Rattle.json_path.specs.declared.parse.Place.TheVariants.{InName, InIndex}
-use Rattle.json_path.specs.Grammar.{is_name_byte}
-use Rattle.json_path.specs.Machine.{State, next_at, with_index, with_name, begin_step}
-use Rattle.json_path.specs.Holding.{Holds, Takes}
+use Rattle.json_path.specs.PathGrammar.{is_name_byte}
+use Rattle.json_path.specs.PathMachine.{State, next_at, with_index, with_name, begin_step}
+use Rattle.json_path.specs.PathHolding.{Holds, Takes}
 
 -- another byte after a name ends it
 pub name_ends : (old mid new : Parser) (b : ℕ) (stands : Bool) → is_name_byte b ≡ false → ((s : State) → Holds old s → Holds mid (with_name s)) → ((s : State) → Holds mid s → Takes stands (begin_step b s) new) →

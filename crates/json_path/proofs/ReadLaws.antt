@@ -5,10 +5,10 @@ use Rattle.json_path.specs.declared.path.Step.{Step}
 use Rattle.json_path.specs.declared.path.PathError.{PathError}
 use Rattle.json_path.specs.declared.path.PathError.TheVariants.{BadPath}
 use Rattle.json_path.specs.declared.parse.Parser.{Parser}
-use Rattle.json_path.specs.Grammar.{IsPathOf, IsFaultOf}
-use Rattle.json_path.specs.Machine.{State, start, next, run, finish, or_else_fault, path_of}
-use Rattle.json_path.specs.Holding.{Holds, Takes}
-use Rattle.json_path.specs.Gives.{Gives}
+use Rattle.json_path.specs.PathGrammar.{IsPathOf, IsFaultOf}
+use Rattle.json_path.specs.PathMachine.{State, start, next, run, finish, or_else_fault, path_of}
+use Rattle.json_path.specs.PathHolding.{Holds, Takes}
+use Rattle.json_path.specs.PathGives.{Gives}
 use Rattle.json_path.proofs.Reading.{run-next, run-stuck, run-none}
 use Rattle.json_path.proofs.Soundness.{path_is_right, one_path}
 

@@ -1,6 +1,6 @@
 -- Bytes that are read one after another.
 use Rattle.std.proofs.Common.{◌≡◌, ℕ, suc, ◌+◌, List, [], ◌∷◌, ◌++◌, length, Option, Some, None, Ok, Err, refl, ap, ◌∙◌, arith}
-use Rattle.json_path.specs.Machine.{State, next, run, state_or_fault, or_else_fault}
+use Rattle.json_path.specs.PathMachine.{State, next, run, state_or_fault, or_else_fault}
 
 -- a byte that can stand
 pub run-next : (at b : ℕ) (bs : List ℕ) (s s' : State) → next b s ≡ Some s' → run at (b ∷ bs) s ≡ run (at + 1) bs s'

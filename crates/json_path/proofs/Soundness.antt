@@ -6,8 +6,8 @@ use Rattle.std.specs.Str.Parse.{digits_value}
 use Rattle.std.proofs.lemmas.Bool.Decides.{nat_tests}
 use Rattle.json_path.specs.declared.path.Step.{Step}
 use Rattle.json_path.specs.declared.path.Step.TheVariants.{Name, Index, All}
-use Rattle.json_path.specs.Grammar.{is_name_byte, is_quotable, IsStepText, AreSteps, no_step, a_step, IsPathOf, BeginsPath, IsFaultOf}
-use Rattle.json_path.specs.Machine.{State, start, next, begin_step, with_index, run, state_or_fault, finish, or_else_fault, path_of}
+use Rattle.json_path.specs.PathGrammar.{is_name_byte, is_quotable, IsStepText, AreSteps, no_step, a_step, IsPathOf, BeginsPath, IsFaultOf}
+use Rattle.json_path.specs.PathMachine.{State, start, next, begin_step, with_index, run, state_or_fault, finish, or_else_fault, path_of}
 use Rattle.json_path.proofs.Reading.{run-next, run-stuck, run-none, run-then}
 use Rattle.json_path.proofs.Completeness.{between, after_dot, in_name, after_bracket, in_quotes, after_quote, in_index, after_star, append-nil, whole_path}
 

@@ -1,6 +1,6 @@
-pub mod Grammar
-pub mod Machine
-pub mod Gives
-pub mod Holding
+pub mod PathGrammar
+pub mod PathMachine
+pub mod PathGives
+pub mod PathHolding
 pub mod Selection
 pub mod JsonViews

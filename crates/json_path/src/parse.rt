@@ -2,9 +2,9 @@
 
 ghost use Rattle.std.specs.Prelude.{◌≡◌, ◌≤◌, ℕ, List, length, IfOk, Ok, Err};
 ghost use Rattle.json_path.specs.declared.path.Step.{Step};
-ghost use Rattle.json_path.specs.Grammar.{is_name_byte, IsPathOf, IsFaultOf};
-ghost use Rattle.json_path.specs.Machine.{path_of};
-ghost use Rattle.json_path.specs.Gives.{Gives, steps_of};
+ghost use Rattle.json_path.specs.PathGrammar.{is_name_byte, IsPathOf, IsFaultOf};
+ghost use Rattle.json_path.specs.PathMachine.{path_of};
+ghost use Rattle.json_path.specs.PathGives.{Gives, steps_of};
 
 use crate::path::{JsonPath, PathError, Step};
 use jm_base::{M, Text};
@@ -57,9 +57,9 @@ fn is_name_byte(byte: u8) -> bool
 impl Parser {
     ghost use Rattle.std.specs.Prelude.{◌≡◌, ◌+◌, ℕ, List, IfOk, OnOk};
     ghost use Rattle.json_path.specs.declared.parse.Place.TheVariants.{Start, Between, AfterDot, InName, AfterBracket, InQuotes, AfterQuote, InIndex, AfterStar};
-    ghost use Rattle.json_path.specs.Machine.{State, start, next, next_at, begin_step, with_name, with_index, with_all, finish};
-    ghost use Rattle.json_path.specs.Holding.{Holds, Takes};
-    ghost use Rattle.json_path.specs.Gives.{Gives, steps_of};
+    ghost use Rattle.json_path.specs.PathMachine.{State, start, next, next_at, begin_step, with_name, with_index, with_all, finish};
+    ghost use Rattle.json_path.specs.PathHolding.{Holds, Takes};
+    ghost use Rattle.json_path.specs.PathGives.{Gives, steps_of};
 
     fn new(alloc: Global) -> Parser
         ensures { Holds result start }

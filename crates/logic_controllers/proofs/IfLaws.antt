@@ -11,7 +11,7 @@ use Rattle.var_functions.specs.Came.{Refused}
 use Rattle.element_tree.specs.declared.package.Turn.TheVariants.{Child, Over}
 use Rattle.cursor_steps.specs.declared.pass.Pass.{Pass}
 use Rattle.cursor_steps.specs.CursorStep.{answers, past_limit, expanding}
-use Rattle.cursor_steps.specs.Children.{is_left, after_child, pass_over}
+use Rattle.cursor_steps.specs.RunningChildren.{is_left, after_child, pass_over}
 use Rattle.cursor_steps.proofs.Steps.{text-came, text-refused}
 use Rattle.cursor_steps.proofs.Passes.{some-left, none-left}
 use Rattle.logic_controllers.specs.declared.if_cursor.IfCursor.{IfCursor}

@@ -15,7 +15,7 @@ use Rattle.element_tree.specs.declared.kinds.Loops.{Loops}
 use Rattle.element_tree.specs.declared.package.Turn.{Turn}
 use Rattle.logic_controllers.specs.declared.rounds.Rounds.{Rounds}
 use Rattle.cursor_steps.specs.CursorStep.{answers, past_limit}
-use Rattle.logic_controllers.specs.Rounds.{before_rounds, opened_vars, opened}
+use Rattle.logic_controllers.specs.ControllerRounds.{before_rounds, opened_vars, opened}
 use Rattle.cursor_steps.proofs.Steps.{text-came, text-refused, vars-came, vars-refused, goes-same}
 use Rattle.logic_controllers.specs.declared.loop_cursor.LoopCursor.{LoopCursor}
 use Rattle.logic_controllers.specs.LoopController.{loops_of, loop_enters, loop_goes, loop_next}

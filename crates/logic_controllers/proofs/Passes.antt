@@ -8,7 +8,7 @@ use Rattle.cursor_steps.specs.declared.pass.Pass.{Pass}
 use Rattle.logic_controllers.specs.declared.simple_cursor.SimpleCursor.{SimpleCursor}
 use Rattle.logic_controllers.specs.declared.once_cursor.OnceCursor.{OnceCursor}
 use Rattle.cursor_steps.specs.CursorStep.{answers}
-use Rattle.cursor_steps.specs.Children.{is_left, after_child}
+use Rattle.cursor_steps.specs.RunningChildren.{is_left, after_child}
 use Rattle.cursor_steps.proofs.Passes.{some-left, none-left}
 use Rattle.logic_controllers.specs.SimpleController.{simple_next}
 use Rattle.logic_controllers.specs.OnceOnlyController.{once_next}

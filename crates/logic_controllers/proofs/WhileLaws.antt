@@ -14,8 +14,8 @@ use Rattle.element_tree.specs.declared.package.Turn.TheVariants.{Child, Round, O
 use Rattle.cursor_steps.specs.declared.pass.Pass.{Pass}
 use Rattle.logic_controllers.specs.declared.rounds.Rounds.{Rounds}
 use Rattle.cursor_steps.specs.CursorStep.{Step, answers, past_limit, expanding}
-use Rattle.cursor_steps.specs.Children.{is_left, after_child}
-use Rattle.logic_controllers.specs.Rounds.{round_begun, opened_vars, opened}
+use Rattle.cursor_steps.specs.RunningChildren.{is_left, after_child}
+use Rattle.logic_controllers.specs.ControllerRounds.{round_begun, opened_vars, opened}
 use Rattle.cursor_steps.proofs.Steps.{text-came, text-refused, vars-refused}
 use Rattle.cursor_steps.proofs.Passes.{some-left, none-left}
 use Rattle.logic_controllers.specs.declared.while_cursor.WhileCursor.{WhileCursor}

@@ -9,8 +9,8 @@ use Rattle.element_tree.specs.declared.package.Turn.{Turn}
 use Rattle.element_tree.specs.declared.package.Turn.TheVariants.{Child, Round, Over}
 use Rattle.logic_controllers.specs.declared.each_cursor.EachCursor.{EachCursor}
 use Rattle.cursor_steps.specs.CursorStep.{Step, answers, with_vars}
-use Rattle.cursor_steps.specs.Children.{is_left, after_child}
-use Rattle.logic_controllers.specs.Rounds.{before_rounds, round_begun, opened_vars, opened}
+use Rattle.cursor_steps.specs.RunningChildren.{is_left, after_child}
+use Rattle.logic_controllers.specs.ControllerRounds.{before_rounds, round_begun, opened_vars, opened}
 
 -- the variables that it reads: the first part of their names, whether `_` stands after it, the number before the first
 -- one and the number of the last one

@@ -8,7 +8,7 @@ use Rattle.element_tree.specs.declared.package.Turn.{Turn}
 use Rattle.element_tree.specs.declared.package.Turn.TheVariants.{Child, Over}
 use Rattle.logic_controllers.specs.declared.if_cursor.IfCursor.{IfCursor}
 use Rattle.cursor_steps.specs.CursorStep.{Step, answers, expanding}
-use Rattle.cursor_steps.specs.Children.{pass_over, is_left, after_child}
+use Rattle.cursor_steps.specs.RunningChildren.{pass_over, is_left, after_child}
 
 -- a condition is true where its text is `true`, in capitals or not
 abbrev pub is_true : List ℕ → Bool

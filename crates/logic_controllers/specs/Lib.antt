@@ -1,4 +1,4 @@
-pub mod Rounds
+pub mod ControllerRounds
 pub mod SimpleController
 pub mod OnceOnlyController
 pub mod LoopController

@@ -11,9 +11,9 @@ use Rattle.element_tree.specs.declared.package.Turn.{Turn}
 use Rattle.element_tree.specs.declared.package.Turn.TheVariants.{Child, Round, Over}
 use Rattle.logic_controllers.specs.declared.loop_cursor.LoopCursor.{LoopCursor}
 use Rattle.cursor_steps.specs.CursorStep.{Step, answers, expanding, with_vars}
-use Rattle.cursor_steps.specs.Children.{is_left, after_child}
+use Rattle.cursor_steps.specs.RunningChildren.{is_left, after_child}
 use Rattle.cursor_steps.specs.Numeral.{is_decimal}
-use Rattle.logic_controllers.specs.Rounds.{before_rounds, round_begun, opened_vars, opened}
+use Rattle.logic_controllers.specs.ControllerRounds.{before_rounds, round_begun, opened_vars, opened}
 
 -- The rounds that a text asks for: `-1` for ever, a decimal number that many, any other text none. No thread comes to
 -- more than 16,777,216 rounds, so that a number past 32 bits asks for as many as the greatest of 32 bits.

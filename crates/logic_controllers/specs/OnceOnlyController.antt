@@ -6,7 +6,7 @@ use Rattle.element_tree.specs.declared.package.Turn.{Turn}
 use Rattle.element_tree.specs.declared.package.Turn.TheVariants.{Child, Over}
 use Rattle.logic_controllers.specs.declared.once_cursor.OnceCursor.{OnceCursor}
 use Rattle.cursor_steps.specs.CursorStep.{Step, answers}
-use Rattle.cursor_steps.specs.Children.{pass_over, is_left, after_child}
+use Rattle.cursor_steps.specs.RunningChildren.{pass_over, is_left, after_child}
 
 -- a pass over this many children begins
 abbrev pub once_enters : ℕ → OnceCursor → UserState → Run (Step (Unit {0}) OnceCursor)

@@ -6,7 +6,7 @@ use Rattle.element_tree.specs.declared.package.Turn.{Turn}
 use Rattle.element_tree.specs.declared.package.Turn.TheVariants.{Child, Over}
 use Rattle.logic_controllers.specs.declared.simple_cursor.SimpleCursor.{SimpleCursor}
 use Rattle.cursor_steps.specs.CursorStep.{Step, answers}
-use Rattle.cursor_steps.specs.Children.{pass_over, is_left, after_child}
+use Rattle.cursor_steps.specs.RunningChildren.{pass_over, is_left, after_child}
 
 -- a pass over this many children begins
 abbrev pub simple_enters : ℕ → SimpleCursor → UserState → Run (Step (Unit {0}) SimpleCursor)

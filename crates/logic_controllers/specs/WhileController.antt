@@ -11,8 +11,8 @@ use Rattle.element_tree.specs.declared.package.Turn.{Turn}
 use Rattle.element_tree.specs.declared.package.Turn.TheVariants.{Child, Round, Over}
 use Rattle.logic_controllers.specs.declared.while_cursor.WhileCursor.{WhileCursor}
 use Rattle.cursor_steps.specs.CursorStep.{Step, answers, expanding, with_vars}
-use Rattle.cursor_steps.specs.Children.{is_left, after_child}
-use Rattle.logic_controllers.specs.Rounds.{before_rounds, round_begun, opened_vars, opened}
+use Rattle.cursor_steps.specs.RunningChildren.{is_left, after_child}
+use Rattle.logic_controllers.specs.ControllerRounds.{before_rounds, round_begun, opened_vars, opened}
 
 -- spaces only
 abbrev pub is_blank : List ℕ → Bool

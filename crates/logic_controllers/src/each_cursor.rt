@@ -5,11 +5,11 @@ ghost use Rattle.jm_base.specs.Run.{Run};
 ghost use Rattle.jm_base.specs.Outside.{Account};
 ghost use Rattle.element_tree.specs.declared.kinds.Element.{Element};
 ghost use Rattle.var_functions.specs.Vars.{Puts, value_of};
-ghost use Rattle.var_functions.specs.State.{Functions};
+ghost use Rattle.var_functions.specs.FunctionState.{Functions};
 ghost use Rattle.var_functions.specs.Came.{CameTo};
 ghost use Rattle.cursor_steps.specs.CursorStep.{Step, past_limit, StepsTo, IsThere};
-ghost use Rattle.cursor_steps.specs.Children.{IsAmong, run_count, Passes};
-ghost use Rattle.logic_controllers.specs.Rounds.{before_rounds, begun_after, opened};
+ghost use Rattle.cursor_steps.specs.RunningChildren.{IsAmong, run_count, Passes};
+ghost use Rattle.logic_controllers.specs.ControllerRounds.{before_rounds, begun_after, opened};
 ghost use Rattle.logic_controllers.specs.ForEachController.{Row, kind_of, input_name, value_at, output_vars, each_enters, each_goes, each_opens, each_next, AllSet, EachKept};
 
 use crate::rounds::{Rounds, decimal_text, put_text};

@@ -3,9 +3,9 @@
 ghost use Rattle.std.specs.Prelude.{◌≡◌, ◌<◌, ◌≤◌, slice_get, Some, Bool, IfOk, OnOk, OnErr, if◌then◌else◌};
 ghost use Rattle.template_text.specs.Pieces.{Pieces};
 ghost use Rattle.element_tree.specs.declared.kinds.Element.{Element};
-ghost use Rattle.var_functions.specs.State.{IsLater};
+ghost use Rattle.var_functions.specs.FunctionState.{IsLater};
 ghost use Rattle.cursor_steps.specs.CursorStep.{StepsTo, IsThere};
-ghost use Rattle.cursor_steps.specs.Children.{IsAmong, run_count, pass_over, Passes};
+ghost use Rattle.cursor_steps.specs.RunningChildren.{IsAmong, run_count, pass_over, Passes};
 ghost use Rattle.logic_controllers.specs.IfController.{is_true, if_enters, if_next};
 
 use cursor_steps::{Pass, run_count};

@@ -4,10 +4,10 @@ ghost use Rattle.std.specs.Prelude.{◌≡◌, ◌<◌, ◌≤◌, ◌-◌, slic
 ghost use Rattle.template_text.specs.Pieces.{Pieces};
 ghost use Rattle.var_functions.specs.declared.state.UserState.{UserState};
 ghost use Rattle.element_tree.specs.declared.kinds.Element.{Element};
-ghost use Rattle.var_functions.specs.State.{IsLater};
+ghost use Rattle.var_functions.specs.FunctionState.{IsLater};
 ghost use Rattle.cursor_steps.specs.CursorStep.{StepsTo, IsThere, answers};
-ghost use Rattle.cursor_steps.specs.Children.{IsAmong, run_count, Passes};
-ghost use Rattle.logic_controllers.specs.Rounds.{most_rounds, before_rounds, begun_after};
+ghost use Rattle.cursor_steps.specs.RunningChildren.{IsAmong, run_count, Passes};
+ghost use Rattle.logic_controllers.specs.ControllerRounds.{most_rounds, before_rounds, begun_after};
 ghost use Rattle.logic_controllers.specs.LoopController.{loops_of, round_begins, loop_enters, loop_goes, loop_next};
 
 use crate::rounds::Rounds;

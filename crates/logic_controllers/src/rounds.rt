@@ -2,7 +2,7 @@
 
 ghost use Rattle.std.specs.Prelude.{◌≡◌, ◌+◌, ◌-◌, ◌^◌, ◌<◌, OnOk, OnErr, IfOk, decimal, List, ℕ};
 ghost use Rattle.var_functions.specs.Vars.{put_var, Puts};
-ghost use Rattle.logic_controllers.specs.Rounds.{before_rounds, round_begun, index_name, opened_vars, opened};
+ghost use Rattle.logic_controllers.specs.ControllerRounds.{before_rounds, round_begun, index_name, opened_vars, opened};
 
 use cursor_steps::Pass;
 use jm_base::{M, Text};

@@ -3,7 +3,7 @@
 ghost use Rattle.std.specs.Prelude.{◌≡◌, ◌<◌, slice_get, Some, IsOkAnd};
 ghost use Rattle.element_tree.specs.declared.kinds.Element.{Element};
 ghost use Rattle.cursor_steps.specs.CursorStep.{StepsTo, IsThere};
-ghost use Rattle.cursor_steps.specs.Children.{IsAmong, run_count, pass_over, Passes};
+ghost use Rattle.cursor_steps.specs.RunningChildren.{IsAmong, run_count, pass_over, Passes};
 ghost use Rattle.logic_controllers.specs.SimpleController.{simple_enters, simple_next};
 
 use cursor_steps::{Pass, run_count};

@@ -3,10 +3,10 @@
 ghost use Rattle.std.specs.Prelude.{◌≡◌, ◌<◌, ◌≤◌, slice_get, Some, IfOk, OnErr};
 ghost use Rattle.template_text.specs.Pieces.{Pieces};
 ghost use Rattle.element_tree.specs.declared.kinds.Element.{Element};
-ghost use Rattle.var_functions.specs.State.{IsLater};
+ghost use Rattle.var_functions.specs.FunctionState.{IsLater};
 ghost use Rattle.cursor_steps.specs.CursorStep.{StepsTo, IsThere};
-ghost use Rattle.cursor_steps.specs.Children.{IsAmong, run_count, Passes};
-ghost use Rattle.logic_controllers.specs.Rounds.{most_rounds, before_rounds, begun_after};
+ghost use Rattle.cursor_steps.specs.RunningChildren.{IsAmong, run_count, Passes};
+ghost use Rattle.logic_controllers.specs.ControllerRounds.{most_rounds, before_rounds, begun_after};
 ghost use Rattle.logic_controllers.specs.WhileController.{is_blank, last_ok, goes_on, while_enters, while_goes, while_next, WhileKept};
 
 use crate::rounds::Rounds;

@@ -1,6 +1,6 @@
 -- How often a ticker was asked, and what it answered.
 use Rattle.std.specs.Prelude.{ℕ, ◌+◌, ◌-◌, ◌^◌, min, Bool, false, List, [], ◌∷◌}
-use Rattle.jm_base.specs.Totals.{one_if}
+use Rattle.jm_base.specs.SumTotals.{one_if}
 
 -- the milliseconds last given to `every`, 0 before; how many answers were true; how many answers there were, a count that
 -- stands still at the end of 64 bits

@@ -17,7 +17,7 @@ use Rattle.phaser_core.specs.declared.view.ReporterStage.TheVariants.{Idle, Swap
 use Rattle.phaser_core.specs.declared.view.ReporterView.{ReporterView}
 use Rattle.phaser_core.specs.declared.view.View.{View}
 use Rattle.phaser_core.specs.declared.view.View.TheVariants.{Reporter, Writer, Gone}
-use Rattle.jm_base.specs.Totals.{one_if, total}
+use Rattle.jm_base.specs.SumTotals.{one_if, total}
 use Rattle.interval_tables.specs.Rows.{no_samples}
 use Rattle.interval_tables.specs.declared.row.Row.{Row}
 use Rattle.phaser_core.proofs.Halves.{Phased, TimelyStage, AllTimely, Timely, IsLive, Counted, worth_report}

@@ -2,7 +2,7 @@
 use Rattle.std.proofs.Common.{◌≡◌, ℕ, zero, suc, ◌+◌, ◌<◌, List, [], ◌∷◌, ◌++◌, set, sym, refl, ap, ◌∙◌, arith}
 use mathlib.Core.Option.{some, some-injective, some-ne-none}
 use lib.ListN.{get_elem?}
-use Rattle.jm_base.specs.Totals.{total}
+use Rattle.jm_base.specs.SumTotals.{total}
 use Rattle.phaser_core.specs.Cells.{combine, vacant, gather, folded}
 use Rattle.phaser_core.proofs.Lists.{set_else}
 

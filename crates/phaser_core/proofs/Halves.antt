@@ -3,7 +3,7 @@ use Rattle.std.proofs.Common.{◌≡◌, ℕ, ◌+◌, ◌%◌, ◌<◌, ◌≤�
 use mathlib.Core.Option.{some}
 use lib.ListN.{get_elem?}
 use Rattle.interval_tables.specs.declared.report.Report.{Report}
-use Rattle.jm_base.specs.Totals.{total, one_if}
+use Rattle.jm_base.specs.SumTotals.{total, one_if}
 use Rattle.phaser_core.specs.declared.view.Numbers.{Numbers}
 use Rattle.phaser_core.specs.declared.view.Stage.{Stage}
 use Rattle.phaser_core.specs.declared.view.Stage.TheVariants.{Out, In, On}

@@ -13,7 +13,7 @@ use Rattle.phaser_core.specs.declared.view.ReporterStage.{ReporterStage}
 use Rattle.phaser_core.specs.declared.view.ReporterView.{ReporterView}
 use Rattle.phaser_core.specs.declared.view.View.{View}
 use Rattle.phaser_core.specs.declared.view.View.TheVariants.{Reporter, Writer, Gone}
-use Rattle.jm_base.specs.Totals.{one_if, total}
+use Rattle.jm_base.specs.SumTotals.{one_if, total}
 use Rattle.phaser_core.proofs.Halves.{Phased}
 use Rattle.phaser_core.specs.Cells.{is_odd, end_at, initial, phase, word_count}
 use Rattle.phaser_core.specs.Invariant.{InsideBefore, AllKept, Fits}

@@ -17,7 +17,7 @@ use Rattle.phaser_core.specs.declared.view.ReporterStage.TheVariants.{Idle, Swap
 use Rattle.phaser_core.specs.declared.view.ReporterView.{ReporterView}
 use Rattle.phaser_core.specs.declared.view.View.{View}
 use Rattle.phaser_core.specs.declared.view.View.TheVariants.{Reporter, Writer, Gone}
-use Rattle.jm_base.specs.Totals.{one_if, total}
+use Rattle.jm_base.specs.SumTotals.{one_if, total}
 use Rattle.phaser_core.proofs.Halves.{Phased, StaysPhased}
 use Rattle.phaser_core.specs.Cells.{is_odd, same, end_at, initial, phase, part, column, place, folded, vacant, cell_at, table_cells}
 use Rattle.phaser_core.specs.Invariant.{InsideBefore, AllKept, Fits}

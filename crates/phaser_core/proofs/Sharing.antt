@@ -7,7 +7,7 @@ use lib.ListN.{get_elem?}
 use Rattle.std.proofs.lemmas.Bool.Decides.{nat_tests}
 use Rattle.jm_base.specs.declared.types.Entry.{Entry}
 use Rattle.interval_tables.specs.declared.row.Row.{Row}
-use Rattle.jm_base.specs.Totals.{total, one_if}
+use Rattle.jm_base.specs.SumTotals.{total, one_if}
 use Rattle.interval_tables.specs.Rows.{failed, least_after, greatest_of, of_label, elapsed_of, tally_of, row_of, sum_of, AllLabels, no_samples, IsInBounds}
 use Rattle.interval_tables.specs.declared.report.Report.{Report}
 use Rattle.interval_tables.proofs.Bounds.{AllSmall as AllSmallEntries, sum_in_bounds}

@@ -6,7 +6,7 @@ use lib.ListN.{get_elem?}
 use lib.Seq.{map-set}
 use Rattle.std.proofs.lemmas.List.{set-get_or}
 use Rattle.jm_base.specs.declared.types.Entry.{Entry}
-use Rattle.jm_base.specs.Totals.{one_if}
+use Rattle.jm_base.specs.SumTotals.{one_if}
 use Rattle.phaser_core.specs.declared.view.Numbers.{Numbers}
 use Rattle.phaser_core.specs.declared.view.Stage.{Stage}
 use Rattle.phaser_core.specs.declared.view.Stage.TheVariants.{Out, In, On}

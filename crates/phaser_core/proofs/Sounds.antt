@@ -16,7 +16,7 @@ use Rattle.phaser_core.specs.declared.view.ReporterStage.TheVariants.{Idle, Swap
 use Rattle.phaser_core.specs.declared.view.ReporterView.{ReporterView}
 use Rattle.phaser_core.specs.declared.view.View.{View}
 use Rattle.phaser_core.specs.declared.view.View.TheVariants.{Reporter, Writer, Gone}
-use Rattle.jm_base.specs.Totals.{one_if, total}
+use Rattle.jm_base.specs.SumTotals.{one_if, total}
 use Rattle.phaser_core.proofs.Halves.{Phased, Sound, StaysSound, TimelyStage, Timely, Counted}
 use Rattle.phaser_core.specs.Cells.{is_odd, end_at, initial, phase, combine, vacant, gather, folded, part, column, sums, place, cell_at, table_cells, no_report, report_from, row_at}
 use Rattle.phaser_core.specs.Invariant.{InsideBefore, raised_in, saw_in, ShowsStop, InTable}

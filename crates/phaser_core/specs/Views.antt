@@ -1,7 +1,7 @@
 -- What the views of all actors say: who is inside, what was recorded, and how far the reporter is.
 use Rattle.std.specs.Prelude.{◌≡◌, ℕ, ◌+◌, ◌*◌, ◌%◌, ◌<◌, ◌≤◌, ◌==◌, not, Bool, true, false, List, [], length}
 use Rattle.jm_base.specs.declared.types.Entry.{Entry}
-use Rattle.jm_base.specs.Totals.{total, one_if}
+use Rattle.jm_base.specs.SumTotals.{total, one_if}
 use Rattle.phaser_core.specs.declared.view.Numbers.{Numbers}
 use Rattle.phaser_core.specs.declared.view.Stage.{Stage}
 use Rattle.phaser_core.specs.declared.view.Stage.TheVariants.{Out, In, On}

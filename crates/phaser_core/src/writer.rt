@@ -1,7 +1,7 @@
 // What the core keeps of a writer, and the steps of its events.
 
 ghost use Rattle.std.specs.Prelude.{◌≡◌, ◌+◌, ◌%◌, ◌≤◌, not, IsSome};
-ghost use Rattle.jm_base.specs.Totals.{one_if};
+ghost use Rattle.jm_base.specs.SumTotals.{one_if};
 ghost use Rattle.phaser_core.specs.Cells.{column, end_at, place, sums};
 ghost use Rattle.phaser_core.specs.Plain.{cell_change, cell_step, on_step, in_step, out_step, writer_step, stage_after, writer_after, split_of, is_out, FitsStage, FitsWriter, CanGoOn};
 

@@ -7,7 +7,7 @@ use Rattle.std.proofs.lemmas.Bool.Decides.{nat_tests}
 use Rattle.std.proofs.lemmas.List.{set-get_or}
 use Rattle.atomic_table.specs.Table.{Me, Act, Valid, carried_after, stepped, step, keeps, Allows, Splits, Joins, opening, Final, Seen}
 use Rattle.jm_base.specs.declared.types.Entry.{Entry}
-use Rattle.jm_base.specs.Totals.{one_if}
+use Rattle.jm_base.specs.SumTotals.{one_if}
 use Rattle.interval_tables.specs.Rows.{sum_of, IsInBounds}
 use Rattle.phaser_core.specs.declared.view.Numbers.{Numbers}
 use Rattle.phaser_core.specs.declared.view.Stage.{Stage}

@@ -1,6 +1,6 @@
 //! The words at the end.
 ghost use Rattle.std.specs.Prelude.{◌≡◌, ◌<◌, length, slice_index};
-ghost use Rattle.phaser_words.specs.Seats.{last_words};
+ghost use Rattle.phaser_words.specs.WordSeats.{last_words};
 
 use crate::places::LastWords;
 

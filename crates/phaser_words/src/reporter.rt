@@ -4,7 +4,7 @@ ghost use Rattle.phaser_core.specs.Cells.{table_cells, cell_at};
 ghost use Rattle.phaser_core.specs.Views.{at_closing, joined_at, AllJoined};
 ghost use Rattle.phaser_core.specs.CoreMoves.{gathered, reporter_raised};
 ghost use Rattle.phaser_words.specs.RecorderKinds.{IsWaiting, HasCell, taken_in, Recalled};
-ghost use Rattle.phaser_words.specs.Seats.{reading, numbers, IsReporterOf, IsLook};
+ghost use Rattle.phaser_words.specs.WordSeats.{reading, numbers, IsReporterOf, IsLook};
 
 use crate::cells::{ACTIVE, START, STOP, end_word, initial, vacant_cell};
 use crate::places::{ReporterWordSeat, Words};

@@ -3,7 +3,7 @@ ghost use Rattle.std.specs.Prelude.{◌≡◌, ◌<◌, ◌++◌, ◌∷◌, IfO
 ghost use Rattle.phaser_core.specs.Views.{IsSized, ready_reading, writer_zero, AllJoined, further};
 ghost use Rattle.phaser_core.specs.CoreMoves.{splitting, taking_in};
 ghost use Rattle.phaser_core.specs.declared.view.View.TheVariants.{Writer};
-ghost use Rattle.phaser_words.specs.Seats.{writing, reading, numbers, IsWriterOf, IsReporterOf, last_words, Ends};
+ghost use Rattle.phaser_words.specs.WordSeats.{writing, reading, numbers, IsWriterOf, IsReporterOf, last_words, Ends};
 
 use crate::cells::opening_words;
 use crate::places::{LastWords, ReporterWordSeat, Words, WriterWordSeat};

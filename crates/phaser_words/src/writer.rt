@@ -5,7 +5,7 @@ ghost use Rattle.phaser_core.specs.Views.{at_stage};
 ghost use Rattle.phaser_core.specs.Shares.{AllUpTo};
 ghost use Rattle.phaser_core.specs.CoreMoves.{marked, or};
 ghost use Rattle.phaser_words.specs.RecorderKinds.{IsIn, HasSum, HasLeast, HasGreatest, HasAll, one_further, parity_in, interval_in, entry_in};
-ghost use Rattle.phaser_words.specs.Seats.{writing, numbers, IsWriterOf};
+ghost use Rattle.phaser_words.specs.WordSeats.{writing, numbers, IsWriterOf};
 
 use crate::cells::{ACTIVE, HALF, START, STOP, column_of, end_word, part_of};
 use crate::places::{Words, WriterWordSeat};

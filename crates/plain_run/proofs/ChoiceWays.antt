@@ -7,8 +7,8 @@ use Rattle.jm_base.specs.declared.types.End.TheVariants.{ValueLimit as PastValue
 use Rattle.jm_base.specs.Run.{over}
 use Rattle.jm_base.specs.Outside.{Account, Goes}
 use Rattle.element_tree.specs.declared.kinds.Element.{Element}
-use Rattle.var_functions.specs.State.{Functions}
-use Rattle.cursor_steps.specs.Children.{runs_of}
+use Rattle.var_functions.specs.FunctionState.{Functions}
+use Rattle.cursor_steps.specs.RunningChildren.{runs_of}
 use Rattle.choice_controllers.specs.RandomController.{random_place, random_fns}
 use Rattle.choice_controllers.specs.SwitchController.{picks}
 use Rattle.jm_meaning.specs.declared.signal.Signal.{Signal}

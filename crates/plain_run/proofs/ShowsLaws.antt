@@ -8,7 +8,7 @@ use Rattle.jm_base.proofs.RunLaws.{goes-append, goes-bind, goes-give, goes-nothi
 use Rattle.jm_meaning.specs.declared.item.Item.{Item}
 use Rattle.jm_meaning.specs.declared.item.Item.TheVariants.{Paused}
 use Rattle.jm_meaning.specs.Meaning.{after_pause}
-use Rattle.jm_meaning.specs.Shown.{shown, Shows}
+use Rattle.jm_meaning.specs.TraceShown.{shown, Shows}
 
 unfoldable pub shows-append : {A : Type 0} {a b c : Account} {xs ys zs : List Item} {r s t : Run A} → Shows a xs r s ys b → Shows b ys s t zs c → Shows a xs r t zs c
 shows-append {xs = xs} g h = record {

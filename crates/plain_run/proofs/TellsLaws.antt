@@ -4,7 +4,7 @@ use Rattle.jm_base.specs.Run.{Run, give, ◌>>=◌, Event}
 use Rattle.jm_base.specs.Outside.{Account, Goes}
 use Rattle.jm_meaning.specs.declared.item.Item.{Item}
 use Rattle.jm_meaning.specs.declared.transaction.Tally.{Tally}
-use Rattle.jm_meaning.specs.Shown.{shown}
+use Rattle.jm_meaning.specs.TraceShown.{shown}
 use Rattle.jm_meaning.specs.Transactions.{counting, counted}
 use Rattle.plain_run.specs.Plays.{Tells}
 use Rattle.plain_run.proofs.ShowsLaws.{shows-append, shows-bind, shows-nothing, shows-quiet, shows-give}

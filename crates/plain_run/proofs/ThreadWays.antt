@@ -20,7 +20,7 @@ use Rattle.jm_meaning.specs.Rounds.{rounds, group_turns, caught, round_of_group}
 use Rattle.jm_meaning.specs.Children.{in_order, children_of}
 use Rattle.jm_meaning.specs.Meaning.{meaning, group_part, group_meaning, here_at, failure_in, failure_of, signal_of, thread_part, events, end_of, and_end, after_pause}
 use Rattle.jm_meaning.specs.RampUp.{pause_of}
-use Rattle.jm_meaning.specs.Shown.{Shows}
+use Rattle.jm_meaning.specs.TraceShown.{Shows}
 use Rattle.plain_run.specs.declared.progress.Progress.{Progress}
 use Rattle.plain_run.specs.Plays.{state_in, ended, Tells, Plays, here_of, caught_signal}
 use Rattle.plain_run.proofs.ShowsLaws.{shows-append, shows-bind, shows-give}

@@ -7,7 +7,7 @@ use Rattle.jm_base.proofs.RunLaws.{goes-bind, goes-nothing}
 use Rattle.jm_meaning.specs.declared.signal.Signal.{Signal}
 use Rattle.jm_meaning.specs.declared.signal.Signal.TheVariants.{Normal, NextLoop, Stop}
 use Rattle.jm_meaning.specs.State.{State, Part, state_of, on_normal, and_then, Try, fine, past_limit, tried, on_came, stopped}
-use Rattle.jm_meaning.specs.Shown.{shown}
+use Rattle.jm_meaning.specs.TraceShown.{shown}
 use Rattle.jm_meaning.specs.Transactions.{counting}
 use Rattle.plain_run.specs.declared.progress.Progress.{Progress}
 use Rattle.plain_run.specs.Plays.{state_in, ended, Tells, Plays}

@@ -12,7 +12,7 @@ use Rattle.jm_meaning.specs.declared.transaction.Tally.{Tally}
 use Rattle.jm_meaning.specs.State.{State, Ending, Part, state_of}
 use Rattle.jm_meaning.specs.Transactions.{counted}
 use Rattle.jm_meaning.specs.Meaning.{Here}
-use Rattle.jm_meaning.specs.Shown.{Shows}
+use Rattle.jm_meaning.specs.TraceShown.{Shows}
 use Rattle.plain_run.specs.declared.progress.Progress.{Progress}
 
 -- the state of a thread that has come so far

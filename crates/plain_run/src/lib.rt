@@ -13,7 +13,7 @@ ghost use Rattle.jm_base.specs.Run.{Run, over};
 ghost use Rattle.element_tree.specs.Tree.{threads_of};
 ghost use Rattle.jm_meaning.specs.Beginning.{first_of};
 ghost use Rattle.jm_meaning.specs.Meaning.{events, end_of, after_pause};
-ghost use Rattle.jm_meaning.specs.Shown.{Shows};
+ghost use Rattle.jm_meaning.specs.TraceShown.{Shows};
 
 use crate::group::run_thread;
 use crate::progress::Progress;

@@ -4,7 +4,7 @@ ghost use Rattle.std.specs.Prelude.{◌≡◌, ◌≤◌, ◌<◌, ◌%◌, [], 
 ghost use Rattle.jm_base.specs.declared.types.End.TheVariants.{ValueLimit as PastValueLimit};
 ghost use Rattle.jm_base.specs.Run.{over};
 ghost use Rattle.jm_base.specs.Outside.{Account, Goes};
-ghost use Rattle.logic_controllers.specs.Rounds.{index_name};
+ghost use Rattle.logic_controllers.specs.ControllerRounds.{index_name};
 ghost use Rattle.jm_meaning.specs.State.{and_then, normal, place_of, put, text, with_round, with_unit};
 ghost use Rattle.jm_meaning.specs.Rounds.{set_index};
 ghost use Rattle.jm_meaning.specs.Choices.{moved_on};

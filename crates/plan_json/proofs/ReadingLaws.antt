@@ -10,7 +10,7 @@ use Rattle.plan_json.specs.declared.raw.RawElement.{RawElement}
 use Rattle.plan_json.specs.Place.{Place, at}
 use Rattle.plan_json.specs.Shape.{Raw, shape, shape_of_json, reading_of}
 use Rattle.plan_json.specs.FirstFault.{Fault, no_element, another_key, IsFaultless, IsFirstFault, HasFirstFault, IsTree}
-use Rattle.plan_json.specs.Seen.{raw_view, Gives, ExactlyWhere, SucceedsWhere}
+use Rattle.plan_json.specs.TreeSeen.{raw_view, Gives, ExactlyWhere, SucceedsWhere}
 use Rattle.plan_json.proofs.FirstFaultLaws.{refusal_of, first_fault, faultless, one_first}
 
 not_true : (b : Bool) → (b ≡ true → ⊥) → b ≡ false

@@ -17,7 +17,7 @@ use Rattle.serde_json.specs.View.{view, items_view}
 use Rattle.serde_json.specs.declared.value.Value.{Value}
 use Rattle.plan_json.specs.Place.{at}
 use Rattle.plan_json.specs.Shape.{Raw, Raws, raw_then, ◌>>=◌, children_key, fits, is_element, has_other_key, members_in, children_in, element_of, shape, shape_below, shapes}
-use Rattle.plan_json.specs.Seen.{raw_view, has_objects, raws_of, Fails, Gives, IsElement}
+use Rattle.plan_json.specs.TreeSeen.{raw_view, has_objects, raws_of, Fails, Gives, IsElement}
 use Rattle.plan_json.specs.declared.error.TreeError.{TreeError}
 use Rattle.plan_json.specs.declared.error.TreeError.TheVariants as errors
 

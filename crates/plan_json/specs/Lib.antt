@@ -1,4 +1,4 @@
 pub mod Place
 pub mod Shape
 pub mod FirstFault
-pub mod Seen
+pub mod TreeSeen

@@ -10,7 +10,7 @@ ghost use Rattle.serde_json.specs.Find.{as_str, as_bool, as_object, as_array, ge
 ghost use Rattle.plan_json.specs.Place.{Place, at};
 ghost use Rattle.plan_json.specs.Shape.{shape, shape_of_json, reading_of, is_element, has_other_key, is_key, members_in, fits, at_key, children_in};
 ghost use Rattle.plan_json.specs.FirstFault.{no_element, another_key, HasFirstFault, IsTree};
-ghost use Rattle.plan_json.specs.Seen.{raw_view, has_objects, Gives, IsElement, ExactlyWhere, SucceedsWhere};
+ghost use Rattle.plan_json.specs.TreeSeen.{raw_view, has_objects, Gives, IsElement, ExactlyWhere, SucceedsWhere};
 
 use crate::error::TreeError;
 use crate::path::Path;

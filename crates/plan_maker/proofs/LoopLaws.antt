@@ -2,7 +2,7 @@
 use Rattle.std.proofs.Common.{◌≡◌, ℕ, ◌+◌, List, [], ◌∷◌, ◌++◌, map, refl, arith}
 use Rattle.std.proofs.lemmas.List.{map-append}
 use Rattle.std.proofs.lemmas.List.FromFn.{map-range_with_len_more}
-use Rattle.plan_json.specs.Seen.{raw_view}
+use Rattle.plan_json.specs.TreeSeen.{raw_view}
 use Rattle.plan_json.specs.declared.raw.RawElement.{RawElement}
 use Rattle.plan_maker.specs.Generated.{numbers_below}
 use Rattle.plan_maker.specs.Raws.{loop_raw}

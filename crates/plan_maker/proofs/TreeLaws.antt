@@ -5,7 +5,7 @@ use Rattle.std.proofs.lemmas.List.{append-nil}
 use Rattle.std.proofs.lemmas.Nat.{mod_below}
 use Rattle.plan_json.specs.Shape.{raw_then, no_raws}
 use Rattle.template_text.specs.Pieces.{text, no_more}
-use Rattle.plan_json.specs.Seen.{raws_of}
+use Rattle.plan_json.specs.TreeSeen.{raws_of}
 use Rattle.element_props.specs.Reads.{over}
 use Rattle.element_tree.specs.declared.kinds.Kind.TheVariants.{Loop, Script}
 use Rattle.element_tree.specs.Walk.{elements, below, walked}

@@ -2,7 +2,7 @@
 use Rattle.std.specs.Prelude.{ℕ, ◌+◌, ◌%◌, true, map, codes}
 use Rattle.serde_json.specs.Data.{Data, unsigned, number, array, object, item, no_items, Members, member, no_members}
 use Rattle.plan_json.specs.Shape.{Raw, raw, no_raws, raw_then}
-use Rattle.plan_json.specs.Seen.{raws_of}
+use Rattle.plan_json.specs.TreeSeen.{raws_of}
 use Rattle.plan_maker.specs.Generated.{numbers_below, loop_name, sampler_name, code_of}
 
 abbrev pub reply_with : ℕ → ℕ → Data

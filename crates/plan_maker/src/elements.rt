@@ -1,7 +1,7 @@
 // The elements of a plan, as JSON has them.
 
 ghost use Rattle.std.specs.Prelude.{◌≡◌, IfOk, map};
-ghost use Rattle.plan_json.specs.Seen.{raw_view};
+ghost use Rattle.plan_json.specs.TreeSeen.{raw_view};
 ghost use Rattle.plan_maker.specs.Generated.{numbers_below};
 ghost use Rattle.plan_maker.specs.Raws.{sampler_raw, loop_raw, group_raw, plan_raw};
 

@@ -1,7 +1,7 @@
 // Makes the plan of a size.
 
 ghost use Rattle.std.specs.Prelude.{◌≡◌, ◌≤◌, IfOk, IfErr};
-ghost use Rattle.plan_json.specs.Seen.{raw_view};
+ghost use Rattle.plan_json.specs.TreeSeen.{raw_view};
 ghost use Rattle.plan_maker.specs.Generated.{generated};
 ghost use Rattle.plan_maker.specs.Raws.{plan_raw};
 

@@ -2,7 +2,7 @@
 
 ghost use Rattle.std.specs.Prelude.{◌≡◌, map, true};
 ghost use Rattle.element_props.specs.FormRows.{are_short};
-ghost use Rattle.element_props.specs.Seen.{row_seen};
+ghost use Rattle.element_props.specs.RowsSeen.{row_seen};
 
 use element_props::{Form, Presence, Row, Words};
 

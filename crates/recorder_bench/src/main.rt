@@ -4,7 +4,7 @@
 #![tactic(auto)]
 
 ghost use Rattle.std.specs.Prelude.{◌≡◌, ◌+◌, ◌<◌, ◌≤◌, ◌*◌, [], All, length, IfOk};
-ghost use Rattle.recorder_core.specs.Seats.{IsReporter, IsWriter, numbers_of, reports, writes};
+ghost use Rattle.recorder_core.specs.RecorderSeats.{IsReporter, IsWriter, numbers_of, reports, writes};
 
 use interval_reporter::close_interval;
 use interval_tables::{Report, Row};

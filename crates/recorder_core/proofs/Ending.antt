@@ -13,7 +13,7 @@ use Rattle.phaser_core.specs.Shares.{entries_in, Partition, SumsOfLists}
 use Rattle.phaser_core.proofs.CellSteps.{last_is}
 use Rattle.phaser_words.specs.RecorderKinds.{lists_of, Recalled}
 use Rattle.recorder_core.specs.Stands.{closed_as}
-use Rattle.recorder_core.specs.Seats.{last_report, EndsWith}
+use Rattle.recorder_core.specs.RecorderSeats.{last_report, EndsWith}
 
 -- the last of the closed reports is in bounds, as each is
 pub harvested_bounds : (n : Numbers) (r s : ReporterView) (report : Report) → SumsOfLists n s → s ≡ closed_as r report → IsInBounds report.rows

@@ -3,7 +3,7 @@ ghost use Rattle.std.specs.Prelude.{◌≡◌, ◌<◌, ◌≤◌, length, true}
 ghost use Rattle.phaser_core.specs.declared.view.ReporterStage.TheVariants.{Idle};
 ghost use Rattle.phaser_core.specs.declared.view.Stage.TheVariants.{Out};
 ghost use Rattle.phaser_core.specs.Views.{made_known};
-ghost use Rattle.phaser_words.specs.Seats.{writing, reading};
+ghost use Rattle.phaser_words.specs.WordSeats.{writing, reading};
 ghost use Rattle.recorder_core.specs.Stands.{stands, HasClosed};
 
 use phaser_words::{ReporterWordSeat, Words, WriterWordSeat};

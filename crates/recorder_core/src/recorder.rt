@@ -1,6 +1,6 @@
 //! The calls of a recorder.
 ghost use Rattle.std.specs.Prelude.{◌≡◌, ◌+◌, ◌<◌, ◌≤◌, ◌↔◌, not, [], ◌∷◌, ◌++◌, length, false, true, IfOk};
-ghost use Rattle.jm_base.specs.Totals.{one_if};
+ghost use Rattle.jm_base.specs.SumTotals.{one_if};
 ghost use Rattle.interval_tables.specs.Rows.{IsInBounds};
 ghost use Rattle.phaser_core.specs.Views.{IsSized, at_stage, ready_reading, writer_zero, further, AllJoined};
 ghost use Rattle.phaser_core.specs.Shares.{AllUpTo, Partition, SumsOfLists};
@@ -9,9 +9,9 @@ ghost use Rattle.phaser_core.specs.declared.view.Stage.TheVariants.{Out};
 ghost use Rattle.phaser_core.specs.declared.view.ReporterStage.TheVariants.{Idle, Harvest};
 ghost use Rattle.phaser_core.specs.declared.view.View.TheVariants.{Writer};
 ghost use Rattle.phaser_words.specs.RecorderKinds.{lists_of};
-ghost use Rattle.phaser_words.specs.Seats.{writing, reading, numbers, IsWriterOf, IsReporterOf};
+ghost use Rattle.phaser_words.specs.WordSeats.{writing, reading, numbers, IsWriterOf, IsReporterOf};
 ghost use Rattle.recorder_core.specs.Stands.{Same, closed_as, open_count};
-ghost use Rattle.recorder_core.specs.Seats.{writes, reports, closes, is_settled, numbers_of, IsWriter, IsReporter, IsClosing, IsPoll, books_of, all_reports_of, EndsWith};
+ghost use Rattle.recorder_core.specs.RecorderSeats.{writes, reports, closes, is_settled, numbers_of, IsWriter, IsReporter, IsClosing, IsPoll, books_of, all_reports_of, EndsWith};
 
 use crate::places::{Books, Closing, Recorder, ReporterSeat, WriterSeat};
 use crate::rows::{read_rows, take_rows};

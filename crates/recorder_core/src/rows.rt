@@ -4,7 +4,7 @@ ghost use Rattle.phaser_core.specs.Cells.{row_from, rows_from, table_cells};
 ghost use Rattle.phaser_core.specs.Views.{joined_at, AllJoined};
 ghost use Rattle.phaser_core.specs.CoreMoves.{gathered};
 ghost use Rattle.phaser_core.specs.declared.view.ReporterStage.TheVariants as closing;
-ghost use Rattle.phaser_words.specs.Seats.{reading, numbers, IsReporterOf};
+ghost use Rattle.phaser_words.specs.WordSeats.{reading, numbers, IsReporterOf};
 ghost use Rattle.recorder_core.specs.Stands.{closed_as};
 
 use interval_tables::Row;

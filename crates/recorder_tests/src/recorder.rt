@@ -1,6 +1,6 @@
 //! What no clause says: that the calls succeed with ample memory, and that running threads' samples are all counted.
 ghost use Rattle.std.specs.Prelude.{◌≡◌, ◌+◌, ◌<◌, ◌≤◌, [], length};
-ghost use Rattle.recorder_core.specs.Seats.{writes, reports, numbers_of, IsWriter, IsReporter};
+ghost use Rattle.recorder_core.specs.RecorderSeats.{writes, reports, numbers_of, IsWriter, IsReporter};
 
 use interval_reporter::close_interval;
 use interval_tables::{Report, Row};

@@ -4,8 +4,8 @@ use Rattle.std.specs.Prelude.{min}
 use Rattle.std.specs.Option.{option_map}
 use mathlib.Core.Logic.{dite}
 use native.Mathlib.Decide.{ℕ_discrete}
-use Rattle.jm_base.specs.Counts.{Rose}
-use Rattle.jm_base.specs.Totals.{one_if}
+use Rattle.jm_base.specs.FaultCounts.{Rose}
+use Rattle.jm_base.specs.SumTotals.{one_if}
 use Rattle.outside_world.specs.Tickers.{Ticks, answered}
 use Rattle.reporter_loop.specs.Ticked.{HasTicked, HasTickedWhere, TickedSoFar}
 

@@ -1,6 +1,6 @@
 -- Why a run fails.
 use Rattle.std.specs.Prelude.{◌≡◌, ℕ}
-use Rattle.jm_base.specs.Counts.{Rose}
+use Rattle.jm_base.specs.FaultCounts.{Rose}
 use Rattle.reporter_loop.specs.declared.error.RunError.{RunError}
 use Rattle.reporter_loop.specs.declared.error.RunError.TheVariants.{WriteFault, NoMemory}
 

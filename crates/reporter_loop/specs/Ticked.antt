@@ -1,6 +1,6 @@
 -- How a ticker was asked.
 use Rattle.std.specs.Prelude.{◌≡◌, ◌⊎◌, ℕ, ◌+◌, Option, Some, None}
-use Rattle.jm_base.specs.Counts.{Rose}
+use Rattle.jm_base.specs.FaultCounts.{Rose}
 use Rattle.outside_world.specs.Tickers.{Ticks}
 
 -- It was asked, and gave that many true answers. Its period is as before.

@@ -8,7 +8,7 @@ use Rattle.phaser_core.specs.declared.view.Joined.{Joined}
 use Rattle.phaser_core.specs.declared.view.ReporterView.{ReporterView}
 use Rattle.phaser_words.specs.RecorderKinds.{lists_of}
 use Rattle.recorder_core.specs.declared.places.Recorder.{Recorder}
-use Rattle.recorder_core.specs.Seats.{numbers_of}
+use Rattle.recorder_core.specs.RecorderSeats.{numbers_of}
 use Rattle.run_engine.specs.declared.job.Job.{Job}
 use Rattle.run_engine.specs.Joins.{joined_of, trace_of, AllDone, AllEnd}
 use Rattle.run_engine.specs.Keeps.{AllKeep}

@@ -9,7 +9,7 @@ use Rattle.phaser_core.specs.declared.view.ReporterView.{ReporterView}
 use Rattle.phaser_core.specs.Views.{made_known, AllJoined}
 use Rattle.phaser_words.specs.RecorderKinds.{lists_of}
 use Rattle.recorder_core.specs.declared.places.Recorder.{Recorder}
-use Rattle.recorder_core.specs.Seats.{writes, numbers_of}
+use Rattle.recorder_core.specs.RecorderSeats.{writes, numbers_of}
 use Rattle.run_engine.specs.declared.job.Job.{Job}
 use Rattle.run_engine.specs.Followed.{EndsWith}
 use Rattle.run_engine.specs.Joins.{joined_of, trace_of, number_of, AllDone, AllEnd}

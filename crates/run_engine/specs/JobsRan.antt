@@ -10,7 +10,7 @@ use Rattle.thread_machine.specs.declared.trace.TraceItem.{TraceItem}
 use Rattle.thread_machine.specs.Standing.{Stands}
 use Rattle.thread_machine.specs.Follows.{HasRun}
 use Rattle.recorder_core.specs.declared.places.Recorder.{Recorder}
-use Rattle.recorder_core.specs.Seats.{writes, numbers_of, IsWriter}
+use Rattle.recorder_core.specs.RecorderSeats.{writes, numbers_of, IsWriter}
 use Rattle.run_engine.specs.declared.job.Job.{Job}
 use Rattle.run_engine.specs.Marks.{IsMarked}
 use Rattle.run_engine.specs.Keeps.{KeepsTo}

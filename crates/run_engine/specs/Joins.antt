@@ -9,7 +9,7 @@ use Rattle.phaser_core.specs.declared.view.Joined.{Joined}
 use Rattle.phaser_core.specs.declared.view.ReporterView.{ReporterView}
 use Rattle.phaser_core.specs.Views.{Pair, left_of}
 use Rattle.recorder_core.specs.declared.places.Recorder.{Recorder}
-use Rattle.recorder_core.specs.Seats.{writes, numbers_of, IsWriter}
+use Rattle.recorder_core.specs.RecorderSeats.{writes, numbers_of, IsWriter}
 use Rattle.run_engine.specs.declared.job.Job.{Job}
 use Rattle.run_engine.specs.Made.{made_at}
 use Rattle.run_engine.specs.Keeps.{KeepsTo}

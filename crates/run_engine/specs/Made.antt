@@ -7,7 +7,7 @@ use Rattle.outside_world.specs.Scripted.{told_when}
 use Rattle.thread_machine.specs.Standing.{Stands}
 use Rattle.recorder_core.specs.declared.places.Recorder.{Recorder}
 use Rattle.recorder_core.specs.declared.places.WriterSeat.{WriterSeat}
-use Rattle.recorder_core.specs.Seats.{writes, IsWriter}
+use Rattle.recorder_core.specs.RecorderSeats.{writes, IsWriter}
 use Rattle.run_engine.specs.declared.job.Job.{Job}
 use Rattle.run_engine.specs.JobsRan.{CanRun}
 

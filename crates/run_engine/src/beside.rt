@@ -3,7 +3,7 @@
 ghost use Rattle.std.specs.Prelude.{All, ◌≡◌, ◌<◌, ◌≤◌, ℕ, length, IfErr, OnOk, OnErr, [], false};
 ghost use Rattle.element_tree.specs.Names.{labels_of};
 ghost use Rattle.output_lines.specs.Reports.{report_text};
-ghost use Rattle.recorder_core.specs.Seats.{reports, numbers_of, IsReporter};
+ghost use Rattle.recorder_core.specs.RecorderSeats.{reports, numbers_of, IsReporter};
 ghost use Rattle.interval_reporter.specs.Judged.{Keeps};
 ghost use Rattle.reporter_loop.specs.Failing.{IsCause};
 ghost use Rattle.reporter_loop.specs.Reported.{Reported};

@@ -8,7 +8,7 @@ ghost use Rattle.output_lines.specs.Reports.{report_text};
 ghost use Rattle.phaser_core.specs.Shares.{Partition};
 ghost use Rattle.phaser_core.specs.Views.{AllJoined};
 ghost use Rattle.phaser_words.specs.RecorderKinds.{lists_of};
-ghost use Rattle.recorder_core.specs.Seats.{reports, numbers_of, books_of, all_reports_of, IsReporter};
+ghost use Rattle.recorder_core.specs.RecorderSeats.{reports, numbers_of, books_of, all_reports_of, IsReporter};
 ghost use Rattle.reporter_loop.specs.Failing.{IsCause};
 ghost use Rattle.reporter_loop.specs.Reported.{Reported};
 ghost use Rattle.reporter_loop.specs.ReportsWritten.{texts_of, WritesPrefix};

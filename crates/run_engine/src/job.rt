@@ -1,7 +1,7 @@
 // A worker with all that goes into its thread.
 
 ghost use Rattle.std.specs.Prelude.{◌≡◌};
-ghost use Rattle.recorder_core.specs.Seats.{writes};
+ghost use Rattle.recorder_core.specs.RecorderSeats.{writes};
 ghost use Rattle.run_engine.specs.Paired.{pairs};
 
 use recorder_core::WriterSeat;

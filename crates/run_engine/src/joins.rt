@@ -5,7 +5,7 @@ ghost use Rattle.std.specs.List.{range_with_len};
 ghost use Rattle.element_tree.specs.Names.{labels_of};
 ghost use Rattle.phaser_core.specs.Views.{AllJoined};
 ghost use Rattle.phaser_words.specs.RecorderKinds.{lists_of};
-ghost use Rattle.recorder_core.specs.Seats.{reports, numbers_of, IsReporter};
+ghost use Rattle.recorder_core.specs.RecorderSeats.{reports, numbers_of, IsReporter};
 ghost use Rattle.run_engine.specs.Asked.{options_of};
 ghost use Rattle.run_engine.specs.Followed.{AllFollow};
 ghost use Rattle.run_engine.specs.Joins.{joined_of, trace_of, OnlyJoined, AllDone, AllEnd, AllLabelled};

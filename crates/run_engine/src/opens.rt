@@ -4,7 +4,7 @@ ghost use Rattle.std.specs.Prelude.{◌≡◌, ◌<◌, ◌≤◌, ◌+◌, ◌+
 ghost use Rattle.std.specs.List.{range_with_len};
 ghost use Rattle.element_tree.specs.Tree.{threads_of};
 ghost use Rattle.element_tree.specs.Names.{labels_of};
-ghost use Rattle.recorder_core.specs.Seats.{numbers_of};
+ghost use Rattle.recorder_core.specs.RecorderSeats.{numbers_of};
 ghost use Rattle.run_engine.specs.Asked.{options_of};
 ghost use Rattle.run_engine.specs.Made.{IsNew, IsFresh, AllFresh, AllOpened};
 ghost use Rattle.run_engine.specs.Served.{AreServed};

@@ -8,7 +8,7 @@ ghost use Rattle.interval_tables.specs.Rows.{sum_of, IsInBounds};
 ghost use Rattle.output_lines.specs.Reports.{report_text};
 ghost use Rattle.phaser_core.specs.Shares.{Partition};
 ghost use Rattle.phaser_words.specs.RecorderKinds.{lists_of};
-ghost use Rattle.recorder_core.specs.Seats.{books_of, all_reports_of};
+ghost use Rattle.recorder_core.specs.RecorderSeats.{books_of, all_reports_of};
 ghost use Rattle.interval_reporter.specs.Judged.{Keeps};
 ghost use Rattle.reporter_loop.specs.Failing.{IsCause};
 ghost use Rattle.reporter_loop.specs.Reported.{any_over};

@@ -7,7 +7,7 @@ ghost use Rattle.jm_meaning.specs.Beginning.{Options};
 ghost use Rattle.thread_machine.specs.Standing.{Stands};
 ghost use Rattle.phaser_core.specs.Views.{at_stage};
 ghost use Rattle.phaser_core.specs.declared.view.Stage.TheVariants.{Out};
-ghost use Rattle.recorder_core.specs.Seats.{writes, numbers_of, IsWriter};
+ghost use Rattle.recorder_core.specs.RecorderSeats.{writes, numbers_of, IsWriter};
 ghost use Rattle.run_engine.specs.Keeps.{KeepsTo};
 ghost use Rattle.run_engine.specs.Paired.{pairs};
 ghost use Rattle.run_engine.specs.Followed.{EndsWith};

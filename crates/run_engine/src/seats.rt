@@ -3,7 +3,7 @@
 ghost use Rattle.std.specs.Prelude.{◌≡◌, ◌<◌, ◌≤◌, ℕ, length, IfOk, slice_index_or};
 ghost use Rattle.phaser_core.specs.Views.{writer_zero};
 ghost use Rattle.phaser_core.specs.declared.view.View.TheVariants.{Writer};
-ghost use Rattle.recorder_core.specs.Seats.{writes, numbers_of, IsWriter};
+ghost use Rattle.recorder_core.specs.RecorderSeats.{writes, numbers_of, IsWriter};
 ghost use Rattle.run_engine.specs.Made.{IsNew};
 
 use jm_base::M;

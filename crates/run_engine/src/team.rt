@@ -1,7 +1,7 @@
 // All workers, each in a thread of its own where one can be started.
 
 ghost use Rattle.std.specs.Prelude.{All, ◌≡◌, ◌<◌, ℕ, false, length, slice_index_or};
-ghost use Rattle.recorder_core.specs.Seats.{writes, IsWriter};
+ghost use Rattle.recorder_core.specs.RecorderSeats.{writes, IsWriter};
 ghost use Rattle.run_engine.specs.Marks.{is_stop_test};
 ghost use Rattle.run_engine.specs.JobsRan.{CanRun, JobRan};
 

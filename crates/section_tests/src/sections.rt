@@ -1,7 +1,7 @@
 //! What no clause says: that the calls succeed with ample memory, and that two threads are never inside one section.
 ghost use Rattle.std.specs.Prelude.{◌≡◌, ◌+◌, ◌<◌, ◌≤◌, length, None};
 ghost use Rattle.critical_section.specs.Book.{further_view, opening_view};
-ghost use Rattle.critical_section.specs.Seats.{view_of, IsSeatOf, locks_of, seats_of};
+ghost use Rattle.critical_section.specs.SectionSeats.{view_of, IsSeatOf, locks_of, seats_of};
 
 use critical_section::{MOST_SECTIONS, SectionSeat, Sections, Try};
 use std::process::Abort;

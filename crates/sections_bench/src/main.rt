@@ -3,7 +3,7 @@
 
 ghost use Rattle.std.specs.Prelude.{◌≡◌, ◌<◌, ◌≤◌, length, None};
 ghost use Rattle.critical_section.specs.Book.{HasAllJoined, IsFirst, opening_view};
-ghost use Rattle.critical_section.specs.Seats.{IsSeatOf, locks_of, view_of};
+ghost use Rattle.critical_section.specs.SectionSeats.{IsSeatOf, locks_of, view_of};
 
 use critical_section::{MOST_SECTIONS, SectionSeat, Sections};
 use std::env;

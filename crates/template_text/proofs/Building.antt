@@ -12,7 +12,7 @@ use Rattle.template_text.specs.declared.scan.Found.TheVariants.{Variable, Call}
 use Rattle.template_text.specs.declared.builders.ArgumentsBuilder.{ArgumentsBuilder}
 use Rattle.template_text.specs.declared.builders.TemplateBuilder.{TemplateBuilder}
 use Rattle.template_text.specs.Pieces.{Reference, variable, call, Pieces, no_more, reference, Arguments, no_arguments, argument, reference_spelling, nesting, nesting_of_arguments}
-use Rattle.template_text.specs.Grammar.{begins_with, opens, IsReference}
+use Rattle.template_text.specs.TemplateGrammar.{begins_with, opens, IsReference}
 use Rattle.template_text.specs.Scan.{token_of, step_of, follow, put, join, with_byte, inside, table, first_at, arguments_at, normal, shape, pieces_from, reading, found_length, AreFound}
 use Rattle.template_text.specs.Builders.{joined, joined_arguments}
 use Rattle.template_text.proofs.Before.{arguments_before}

@@ -7,7 +7,7 @@ use Rattle.template_text.specs.declared.scan.Token.TheVariants.{Open, Close, Sep
 use Rattle.template_text.specs.declared.scan.Step.TheVariants.{Ends, Fails, Goes}
 use Rattle.template_text.specs.declared.scan.Extent.{Extent}
 use Rattle.template_text.specs.Pieces.{Reference, variable, call, Pieces, no_more, text, reference, Arguments, no_arguments, argument, escaped, reference_spelling, arguments_spelling, argument_spelling, further_spelling, nesting, nesting_of_arguments}
-use Rattle.template_text.specs.Grammar.{opens, begins_with}
+use Rattle.template_text.specs.TemplateGrammar.{opens, begins_with}
 use Rattle.template_text.specs.Scan.{token_of, step_of, follow, put, add, with_byte, inside, table, first_at, arguments_at, shape, extent_of, extent_after, first_of, found_depth, found_nesting}
 use Rattle.template_text.proofs.Tokens.{TokenIs, token_is, inside_step}
 use Rattle.template_text.proofs.Standing.{nesting-with_byte}

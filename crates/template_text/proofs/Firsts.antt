@@ -3,7 +3,7 @@ use Rattle.std.proofs.Common.{◌≡◌, ℕ, zero, suc, ◌<◌, ◌≤◌, Lis
 use Rattle.std.proofs.lemmas.Bool.{true≢false}
 use Rattle.std.proofs.Math.Seq.{drop-length}
 use Rattle.template_text.specs.declared.scan.Found.{Found}
-use Rattle.template_text.specs.Grammar.{begins_with, opens}
+use Rattle.template_text.specs.TemplateGrammar.{begins_with, opens}
 use Rattle.template_text.specs.Scan.{table, first_of, first_at, arguments_at, name_length, named, call_of, shape, AreFound}
 use Rattle.template_text.proofs.Tokens.{and_first}
 use Rattle.template_text.proofs.Names.{table_drop}
@@ -38,7 +38,7 @@ first_opened (c ∷ s) e =
     ap (λ b. if b then named (take n (drop 1 s)) (drop n (drop 1 s)) (drop n (drop 1 (table s))) else None) e
     ∙ ap (named (take n (drop 1 s)) (drop n (drop 1 s))) (opened s n)
 
--- a place more, on the left
+-- one place more, on the left
 pub place_more : (s : List ℕ) (f : List (Option Found)) (a : ℕ) (x : Option Found) → a < length s → length f ≡ length s → AreFound (drop (suc a) s) (drop (suc a) f)
     → x ≡ option_map shape (first_at (drop a s)) → AreFound (drop a s) (drop a (set f a x))
 unfolding table

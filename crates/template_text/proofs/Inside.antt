@@ -5,7 +5,7 @@ use Rattle.std.proofs.Math.Seq.{drop-append_seam}
 use Rattle.template_text.specs.declared.scan.Token.{Token}
 use Rattle.template_text.specs.declared.scan.Token.TheVariants.{Open, Close, Separator, Comma, Start, Byte}
 use Rattle.template_text.specs.Pieces.{Reference, variable, call, Pieces, no_more, text, reference, Arguments, no_arguments, argument, reference_spelling, nesting, nesting_of_pieces, nesting_of_arguments}
-use Rattle.template_text.specs.Grammar.{begins_with, open_after, plain_text_of_arguments, IsReference, AreArguments}
+use Rattle.template_text.specs.TemplateGrammar.{begins_with, open_after, plain_text_of_arguments, IsReference, AreArguments}
 use Rattle.template_text.specs.Scan.{token_of, step_of, follow, add, join, inside, table, first_at}
 use Rattle.template_text.proofs.Before.{escaped_before, reference_before, arguments_before, further_before, argument_before, reference-before}
 use Rattle.template_text.proofs.Tokens.{TokenIs, token_is, inside_step, inside_ends, inside_open, inside_close, inside_separator, inside_comma, inside_byte, inside_reference}

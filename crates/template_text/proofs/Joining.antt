@@ -5,7 +5,7 @@ use Rattle.template_text.specs.declared.template.Piece.{Piece}
 use Rattle.template_text.specs.declared.template.Piece.TheVariants.{Text, Var, Call}
 use Rattle.template_text.specs.declared.builders.TemplateBuilder.{TemplateBuilder}
 use Rattle.template_text.specs.Pieces.{Reference, variable, call, Pieces, no_more, text, reference, Arguments, no_arguments, argument}
-use Rattle.template_text.specs.Grammar.{begins_with_text}
+use Rattle.template_text.specs.TemplateGrammar.{begins_with_text}
 use Rattle.template_text.specs.Scan.{with_byte, add, join}
 use Rattle.template_text.specs.View.{arguments_of, pieces_of, reference_of}
 use Rattle.template_text.specs.Builders.{pieces_then, text_then, joined, arguments_then, first_joined}

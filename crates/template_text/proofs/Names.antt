@@ -6,7 +6,7 @@ use Rattle.std.proofs.lemmas.Bool.{eqb-true, ne_eqb, true≢false, leb-true, le-
 use Rattle.std.proofs.lemmas.List.{take-append-drop}
 use Rattle.std.proofs.Math.Seq.{drop-append_seam, take-append_seam}
 use Rattle.template_text.specs.Pieces.{Reference, variable, call, no_more, text, reference, Arguments, no_arguments, argument, nesting, nesting_of_arguments}
-use Rattle.template_text.specs.Grammar.{is_name_byte, is_letter_or_digit, IsName, begins_with, opens, open_after, plain_text_of_arguments, IsReference, AreArguments}
+use Rattle.template_text.specs.TemplateGrammar.{is_name_byte, is_letter_or_digit, IsName, begins_with, opens, open_after, plain_text_of_arguments, IsReference, AreArguments}
 use Rattle.template_text.specs.Scan.{inside, table, first_at, first_of, name_length, is_empty, call_name, normal, shallow, call_of, named}
 use Rattle.template_text.proofs.Before.{reference_before, arguments_before}
 use Rattle.template_text.proofs.Tokens.{and_first, inside_ends}

@@ -3,7 +3,7 @@ use Rattle.std.proofs.Common.{◌≡◌, ℕ, zero, suc, ◌-◌, List, [], ◌�
 use Rattle.std.proofs.lemmas.Bool.{true≢false}
 use Rattle.std.proofs.Math.Seq.{drop-append_seam}
 use Rattle.template_text.specs.Pieces.{Reference, variable, call, Pieces, no_more, text, reference, reference_spelling, spelling}
-use Rattle.template_text.specs.Grammar.{Begins, ArePieces, IsReadingOf}
+use Rattle.template_text.specs.TemplateGrammar.{Begins, ArePieces, IsReadingOf}
 use Rattle.template_text.specs.Scan.{with_byte, table, first_at, pieces_from, reading}
 use Rattle.template_text.proofs.Before.{reference-before}
 use Rattle.template_text.proofs.Standing.{not_empty}

@@ -3,7 +3,7 @@ use Rattle.std.proofs.Common.{◌≡◌, ◌≢◌, ℕ, List, [], ◌∷◌, �
 use Rattle.std.proofs.lemmas.Bool.{eqb-true, eq-eqb}
 use Rattle.std.proofs.Math.Bool.{and-false}
 use Rattle.template_text.specs.Pieces.{Reference, variable, call, Pieces, no_more, text, reference, Arguments, no_arguments, argument, nesting_of_pieces}
-use Rattle.template_text.specs.Grammar.{begins_with, opens, open_after, plain_text_of_arguments, ends_with_backslash, AreArguments, IsArgument}
+use Rattle.template_text.specs.TemplateGrammar.{begins_with, opens, open_after, plain_text_of_arguments, ends_with_backslash, AreArguments, IsArgument}
 use Rattle.template_text.specs.Scan.{with_byte}
 use Rattle.template_text.proofs.Before.{escaped_before, reference_before, arguments_before, further_before, argument_before}
 

@@ -4,7 +4,7 @@ use Rattle.std.proofs.lemmas.Bool.{eqb-true, eqb-false, eq-eqb, ne_eqb}
 use Rattle.template_text.specs.declared.scan.Token.{Token}
 use Rattle.template_text.specs.declared.scan.Token.TheVariants.{Open, Close, Separator, Comma, Start, Byte}
 use Rattle.template_text.specs.Pieces.{Reference, no_more, Arguments, no_arguments, argument, reference_spelling}
-use Rattle.template_text.specs.Grammar.{begins_with, opens}
+use Rattle.template_text.specs.TemplateGrammar.{begins_with, opens}
 use Rattle.template_text.specs.Scan.{token_of, step_of, follow, add, join, inside, table, first_at}
 
 -- a byte of plain text, which s follows

@@ -1,5 +1,5 @@
 pub mod Pieces
-pub mod Grammar
+pub mod TemplateGrammar
 pub mod Scan
 pub mod Code
 pub mod View

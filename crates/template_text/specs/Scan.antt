@@ -10,7 +10,7 @@ use Rattle.template_text.specs.declared.scan.Found.{Found}
 use Rattle.template_text.specs.declared.scan.Found.TheVariants.{Variable, Call}
 use Rattle.template_text.specs.declared.scan.Extent.{Extent}
 use Rattle.template_text.specs.Pieces.{Reference, variable, call, Pieces, no_more, text, reference, Arguments, no_arguments, argument, reference_spelling, arguments_spelling, nesting, nesting_of_arguments}
-use Rattle.template_text.specs.Grammar.{is_name_byte, is_letter_or_digit, begins_with, opens}
+use Rattle.template_text.specs.TemplateGrammar.{is_name_byte, is_letter_or_digit, begins_with, opens}
 
 -- the token that begins a text
 abbrev pub token_of : List ℕ → Token

@@ -2,7 +2,7 @@
 
 ghost use Rattle.std.specs.Prelude.{◌≡◌, ◌≤◌, length, IfOk, IsSome, Some, option_map};
 ghost use Rattle.template_text.specs.Pieces.{spelling};
-ghost use Rattle.template_text.specs.Grammar.{IsReadingOf};
+ghost use Rattle.template_text.specs.TemplateGrammar.{IsReadingOf};
 ghost use Rattle.template_text.specs.Scan.{AreFound, shape, normal, first_at, arguments_at, reading};
 ghost use Rattle.template_text.specs.View.{reference_of, arguments_of};
 

@@ -2,7 +2,7 @@
 
 ghost use Rattle.std.specs.Prelude.{◌≡◌, [], false, IfOk, OnOk, IsSome, Some, None};
 ghost use Rattle.template_text.specs.Pieces.{Reference, Pieces, reference, no_more, Arguments, argument, no_arguments};
-ghost use Rattle.template_text.specs.Grammar.{begins_with_text};
+ghost use Rattle.template_text.specs.TemplateGrammar.{begins_with_text};
 ghost use Rattle.template_text.specs.Scan.{with_byte, add, join, put};
 ghost use Rattle.template_text.specs.View.{reference_of, arguments_of};
 ghost use Rattle.template_text.specs.Builders.{pieces_then, joined, joined_arguments};

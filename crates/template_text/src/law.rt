@@ -2,7 +2,7 @@
 
 ghost use Rattle.std.specs.Prelude.{◌≡◌, List, ℕ};
 ghost use Rattle.template_text.specs.Pieces.{Pieces, spelling};
-ghost use Rattle.template_text.specs.Grammar.{IsReadingOf};
+ghost use Rattle.template_text.specs.TemplateGrammar.{IsReadingOf};
 ghost use Rattle.template_text.specs.Scan.{reading};
 
 /// The law of templates: every text has a reading, it has no second one, and its reading is spelled as the text.

@@ -2,7 +2,7 @@
 // to the left: what begins at a place is known before the places on its left ask for it, so no text is read again.
 
 ghost use Rattle.std.specs.Prelude.{◌≡◌, ◌+◌, ◌^◌, ◌<◌, ◌≤◌, ℕ, length, drop, map, max, option_map, is_some, slice_index_or, IfOk, IfSome, None};
-ghost use Rattle.template_text.specs.Grammar.{begins_with, opens, is_name_byte, is_letter_or_digit};
+ghost use Rattle.template_text.specs.TemplateGrammar.{begins_with, opens, is_name_byte, is_letter_or_digit};
 ghost use Rattle.std.specs.List.{list_all};
 ghost use Rattle.template_text.specs.Scan.{token_of, step_of, first_at, arguments_at, name_length, variable_named, named, table, call_name, call_of, shape, extent_of, AreFound, MovesOn, found_length, found_depth, found_nesting};
 
@@ -199,7 +199,7 @@ fn deeper(depth: u32, found: Option<Found>) -> u32
 }
 
 /// Whether a byte may stand in the name of a variable.
-#[tactic(auto, unfolding(crate::specs::Grammar::is_name_byte))]
+#[tactic(auto, unfolding(crate::specs::TemplateGrammar::is_name_byte))]
 fn is_name_byte(byte: u8) -> bool
     ensures { result ≡ is_name_byte byte }
 {
@@ -220,7 +220,7 @@ fn name_length(text: &[u8]) -> usize
 }
 
 /// Whether a byte may stand in the name of a function.
-#[tactic(auto, unfolding(crate::specs::Grammar::is_letter_or_digit))]
+#[tactic(auto, unfolding(crate::specs::TemplateGrammar::is_letter_or_digit))]
 fn is_letter_or_digit(byte: u8) -> bool
     ensures { result ≡ is_letter_or_digit byte }
 {

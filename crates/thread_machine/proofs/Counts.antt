@@ -10,7 +10,7 @@ use Rattle.jm_base.specs.Outside.{Account}
 use Rattle.thread_machine.specs.declared.trace.TraceItem.{TraceItem}
 use Rattle.thread_machine.specs.declared.trace.TraceItem.TheVariants.{Paused as PausedItem, Sampled as SampledItem, Null as NullItem, Ended as EndedItem}
 use Rattle.thread_machine.specs.declared.step.Step.TheVariants.{Sampled, Null, Ended}
-use Rattle.thread_machine.specs.Counts.{one_if_sample, samples_in}
+use Rattle.thread_machine.specs.SampleCounts.{one_if_sample, samples_in}
 use Rattle.element_tree.specs.Tree.{Tree}
 use Rattle.jm_meaning.specs.Beginning.{Options}
 use Rattle.thread_machine.specs.Standing.{Standing, rest, IsAtStart}

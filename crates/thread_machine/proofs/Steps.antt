@@ -11,7 +11,7 @@ use Rattle.var_functions.specs.declared.error.VarError.{VarError}
 use Rattle.var_functions.specs.declared.error.VarError.TheVariants.{ValueLimit, NoMemory}
 use Rattle.var_functions.specs.declared.state.UserState.{UserState}
 use Rattle.var_functions.specs.Vars.{Variables}
-use Rattle.var_functions.specs.State.{Functions, first_functions}
+use Rattle.var_functions.specs.FunctionState.{Functions, first_functions}
 use Rattle.var_functions.specs.Came.{CameTo, Refused, by_limit, by_memory}
 use Rattle.var_functions.proofs.CameLaws.{came-bind, refused-first}
 use Rattle.element_tree.specs.declared.threads.Thread.{Thread}

@@ -8,7 +8,7 @@ use Rattle.jm_base.specs.Outside.{Account, Scripts, list_form, script_form}
 use Rattle.element_tree.specs.Tree.{Tree}
 use Rattle.jm_meaning.specs.Beginning.{Options}
 use Rattle.jm_meaning.specs.Meaning.{events}
-use Rattle.jm_meaning.specs.Shown.{shown}
+use Rattle.jm_meaning.specs.TraceShown.{shown}
 use Rattle.thread_machine.specs.declared.trace.TraceItem.{TraceItem}
 use Rattle.thread_machine.specs.declared.trace.TraceItem.TheVariants.{Ended as EndedItem}
 use Rattle.thread_machine.specs.Bare.{bare}

@@ -6,4 +6,4 @@ pub mod Follows
 pub mod Inside
 pub mod Ran
 pub mod SoFar
-pub mod Counts
+pub mod SampleCounts

@@ -6,7 +6,7 @@ use Rattle.jm_base.specs.Outside.{Account, list_form}
 use Rattle.jm_meaning.specs.declared.item.Item.{Item}
 use Rattle.jm_meaning.specs.Beginning.{Options}
 use Rattle.jm_meaning.specs.Meaning.{events}
-use Rattle.jm_meaning.specs.Shown.{shown}
+use Rattle.jm_meaning.specs.TraceShown.{shown}
 use Rattle.thread_machine.specs.declared.step.Step.{Step}
 use Rattle.thread_machine.specs.declared.step.Step.TheVariants.{Sampled, Null, Enter, Leave, Ended}
 use Rattle.thread_machine.specs.Bare.{bare}

@@ -10,7 +10,7 @@ use Rattle.jm_meaning.specs.declared.item.Item.TheVariants.{Sampled}
 use Rattle.jm_meaning.specs.State.{State, Ending, and_then}
 use Rattle.jm_meaning.specs.Beginning.{Options, set_first}
 use Rattle.jm_meaning.specs.Meaning.{events, and_end, after_pause}
-use Rattle.jm_meaning.specs.Shown.{shown}
+use Rattle.jm_meaning.specs.TraceShown.{shown}
 use Rattle.control_machine.specs.declared.machine.Machine.{Machine}
 use Rattle.control_machine.specs.Left.{left_of}
 use Rattle.thread_machine.specs.declared.trace.TraceItem.{TraceItem}

@@ -6,7 +6,7 @@ ghost use Rattle.element_tree.specs.Names.{labels_of};
 ghost use Rattle.jm_base.specs.Outside.{Account};
 ghost use Rattle.jm_meaning.specs.Beginning.{Options};
 ghost use Rattle.thread_machine.specs.Bare.{IsCountedIn, IsLabelled};
-ghost use Rattle.thread_machine.specs.Counts.{samples_in};
+ghost use Rattle.thread_machine.specs.SampleCounts.{samples_in};
 ghost use Rattle.thread_machine.specs.Standing.{Stands};
 ghost use Rattle.thread_machine.specs.Follows.{HasRun};
 

@@ -3,7 +3,7 @@ use Rattle.std.proofs.Common.{◌≡◌, ℕ, ◌+◌, ◌<◌, List, [], ◌∷
 use Rattle.std.proofs.Math.Seq.{take-suc}
 use Rattle.std.proofs.lemmas.List.{append-nil, take-append-drop, length-take-le}
 use Rattle.std.proofs.lemmas.Grind.{flat_map-append}
-use Rattle.jm_base.specs.Counts.{Rose}
+use Rattle.jm_base.specs.FaultCounts.{Rose}
 use Rattle.edge_io.specs.Edges.{AppendsProperPrefix}
 use Rattle.line_output.specs.OutputPieces.{AppendsPart}
 use Rattle.line_output.proofs.PieceLaws.{moves_none, moves_more, front_wider, front_more, front_sent, part_sent, part_none, part_more}

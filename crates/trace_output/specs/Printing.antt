@@ -1,7 +1,7 @@
 -- What printing a text comes to.
 use Rattle.std.specs.Prelude.{◌≡◌, ℕ, ◌++◌, List, Option}
 use Rattle.std.specs.Io.KnownBytes.{Appends}
-use Rattle.jm_base.specs.Counts.{Rose}
+use Rattle.jm_base.specs.FaultCounts.{Rose}
 use Rattle.edge_io.specs.Edges.{AppendsProperPrefix}
 use Rattle.line_output.specs.OutputPieces.{Moves, MovesPart, AppendsPart}
 

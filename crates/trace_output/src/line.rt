@@ -2,7 +2,7 @@
 
 ghost use Rattle.std.specs.Prelude.{◌≡◌, ◌≢◌, OnOk, IsErrOf};
 ghost use Rattle.std.specs.Io.KnownBytes.{Appends};
-ghost use Rattle.jm_base.specs.Counts.{Rose};
+ghost use Rattle.jm_base.specs.FaultCounts.{Rose};
 ghost use Rattle.edge_io.specs.Edges.{AppendsProperPrefix};
 ghost use Rattle.trace_output.specs.Printing.{way, IsPut, IsFailed};
 

@@ -14,7 +14,7 @@ use Rattle.var_functions.specs.declared.error.VarError.{VarError}
 use Rattle.var_functions.specs.declared.error.VarError.TheVariants.{ValueLimit, NoMemory}
 use Rattle.var_functions.specs.declared.function.Function.{Function}
 use Rattle.var_functions.specs.Vars.{Variables, value_of}
-use Rattle.var_functions.specs.State.{Functions}
+use Rattle.var_functions.specs.FunctionState.{Functions}
 use Rattle.var_functions.specs.Functions.{value, Answer, function_named}
 use Rattle.var_functions.specs.Came.{CameTo, LeftOf, Refused, by_limit, by_memory}
 use Rattle.var_functions.specs.Expansion.{Expanded, expanded, on_expanded, and_then, limited, appended, count, taking, function_of_name, named, referred, called, value_or_spelling, after_pieces, after_texts, after_piece, Grows}

@@ -1,7 +1,7 @@
 -- One moment of what functions keep after another.
 use Rattle.std.proofs.Common.{◌≡◌, ℕ, zero, suc, ◌+◌, ◌≤◌, ◌^◌, ◌-◌, refl, sym, ap, ◌∙◌, arith}
 use Rattle.rand_chacha.specs.ChaCha.{ChaCha}
-use Rattle.var_functions.specs.State.{Functions, after_draw, after_draws, draw, count, IsLater}
+use Rattle.var_functions.specs.FunctionState.{Functions, after_draw, after_draws, draw, count, IsLater}
 
 -- draws and further draws
 draws-draws : (m n : ℕ) (g : ChaCha) → after_draws (m + n) g ≡ after_draws m (after_draws n g)

@@ -10,7 +10,7 @@ use Rattle.var_functions.specs.declared.error.VarError.{VarError}
 use Rattle.var_functions.specs.declared.error.VarError.TheVariants.{ValueLimit, NoMemory}
 use Rattle.var_functions.specs.declared.function.Function.{Function}
 use Rattle.var_functions.specs.Vars.{Variables, value_of, most_text}
-use Rattle.var_functions.specs.State.{Functions}
+use Rattle.var_functions.specs.FunctionState.{Functions}
 use Rattle.var_functions.specs.Functions.{function_named, takes, Answer, value}
 
 -- what came, or none where it would be past a limit, and what functions keep then

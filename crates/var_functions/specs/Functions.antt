@@ -6,13 +6,13 @@ use lib.Pointwise.{pointwise}
 use Rattle.jm_base.specs.Run.{Run, over, ◌>>=◌, reading}
 use Rattle.cond_expr.specs.declared.value.CondValue.{CondValue}
 use Rattle.cond_expr.specs.declared.value.CondValue.TheVariants.{Number, Text, Truth}
-use Rattle.cond_expr.specs.Machine.{condition}
+use Rattle.cond_expr.specs.ConditionMachine.{condition}
 use Rattle.var_functions.specs.declared.function.Function.{Function}
 use Rattle.var_functions.specs.declared.function.Function.TheVariants.{ThreadNum, Counter, Random, IntSum, Variable, Time, Property, IsVarDefined, Condition}
 use Rattle.var_functions.specs.Vars.{Variables, value_of}
 use Rattle.var_functions.specs.RunProps.{property_of}
 use Rattle.var_functions.specs.Numbers.{number, picked, int_sum}
-use Rattle.var_functions.specs.State.{Functions, draw, drawn, count}
+use Rattle.var_functions.specs.FunctionState.{Functions, draw, drawn, count}
 
 -- the names, without the `__` before them
 abbrev pub table : List (List ℕ × Function)

@@ -1,7 +1,7 @@
 pub mod Vars
 pub mod RunProps
 pub mod Numbers
-pub mod State
+pub mod FunctionState
 pub mod Functions
 pub mod Expansion
 pub mod Came

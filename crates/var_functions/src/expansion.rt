@@ -8,7 +8,7 @@ ghost use Rattle.template_text.specs.View.{arguments_of};
 ghost use Rattle.var_functions.specs.Vars.{most_text};
 ghost use Rattle.var_functions.specs.Functions.{function_named};
 ghost use Rattle.var_functions.specs.Came.{CameTo};
-ghost use Rattle.var_functions.specs.State.{IsLater};
+ghost use Rattle.var_functions.specs.FunctionState.{IsLater};
 ghost use Rattle.var_functions.specs.Expansion.{expanded, and_then, appended, limited, taking, function_of_name, referred, after_piece, after_pieces, after_texts, expansion, Grows};
 
 use crate::error::VarError;

@@ -2,7 +2,7 @@
 
 ghost use Rattle.std.specs.Prelude.{◌≡◌, IfOk, option_map};
 ghost use Rattle.var_functions.specs.RunProps.{property_of};
-ghost use Rattle.var_functions.specs.State.{first_functions, first_state, drawn, draw, count, IsLater};
+ghost use Rattle.var_functions.specs.FunctionState.{first_functions, first_state, drawn, draw, count, IsLater};
 
 use crate::props::Props;
 use crate::vars::Vars;
@@ -24,7 +24,7 @@ pub struct FnState {
 }
 
 impl Model for FnState {
-    ghost use Rattle.var_functions.specs.State.{Functions};
+    ghost use Rattle.var_functions.specs.FunctionState.{Functions};
 
     ghost Value = { Functions };
 

@@ -5,11 +5,11 @@ ghost use Rattle.std.specs.Fmt.{signed_decimal};
 ghost use Rattle.var_functions.specs.RunProps.{property_of};
 ghost use Rattle.jm_base.specs.Run.{over};
 ghost use Rattle.jm_base.specs.Outside.{Goes};
-ghost use Rattle.cond_expr.specs.Machine.{condition};
-ghost use Rattle.cond_expr.specs.Gives.{Gives};
+ghost use Rattle.cond_expr.specs.ConditionMachine.{condition};
+ghost use Rattle.cond_expr.specs.ConditionGives.{Gives};
 ghost use Rattle.var_functions.specs.Vars.{most_text, value_of};
 ghost use Rattle.var_functions.specs.Came.{LeftOf};
-ghost use Rattle.var_functions.specs.State.{IsLater};
+ghost use Rattle.var_functions.specs.FunctionState.{IsLater};
 ghost use Rattle.var_functions.specs.Functions.{argument, second_or, counter_value, random_value, truth_text, condition_text, value};
 
 use crate::function::Function;

@@ -1,5 +1,5 @@
 use Rattle.std.proofs.Common.{◌≡◌, length}
-use Rattle.recorder_core.specs.Seats.{reports, numbers_of, IsReporter}
+use Rattle.recorder_core.specs.RecorderSeats.{reports, numbers_of, IsReporter}
 use Rattle.recorder_bench.proofs.report_until.Given as goal
 
 abbrev pub invariant-loop-interval : goal.invariant-loop-interval

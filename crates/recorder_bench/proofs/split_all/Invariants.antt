@@ -1,5 +1,5 @@
 use Rattle.std.proofs.Common.{◌≡◌, [], All}
-use Rattle.recorder_core.specs.Seats.{writes, IsWriter}
+use Rattle.recorder_core.specs.RecorderSeats.{writes, IsWriter}
 use Rattle.recorder_bench.proofs.split_all.Given as goal
 
 abbrev pub invariant-loop-made : goal.invariant-loop-made

@@ -1,6 +1,6 @@
 use Rattle.std.proofs.Common.{◌≡◌, length, None}
 use Rattle.critical_section.specs.Book.{HasAllJoined, IsFirst}
-use Rattle.critical_section.specs.Seats.{IsSeatOf, view_of}
+use Rattle.critical_section.specs.SectionSeats.{IsSeatOf, view_of}
 use Rattle.sections_bench.proofs.pass.Given as goal
 
 abbrev pub invariant-loop-round : goal.invariant-loop-round

@@ -1,6 +1,6 @@
 use Rattle.std.proofs.Common.{◌≡◌, ◌-◌, length}
 use Rattle.std.specs.Prelude.{IsPermutation}
-use Rattle.var_functions.specs.State.{IsLater}
+use Rattle.var_functions.specs.FunctionState.{IsLater}
 use Rattle.choice_controllers.specs.RandomOrderController.{shuffled}
 use Rattle.choice_controllers.proofs.order_cursor.shuffle.Given as goal
 

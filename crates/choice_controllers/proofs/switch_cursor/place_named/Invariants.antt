@@ -1,6 +1,6 @@
 use Rattle.std.proofs.Common.{◌≡◌, ◌≤◌, drop}
 use Rattle.choice_controllers.specs.SwitchController.{is_name}
-use Rattle.cursor_steps.specs.Children.{is_run_at}
+use Rattle.cursor_steps.specs.RunningChildren.{is_run_at}
 use Rattle.choice_controllers.specs.SwitchController.{name_at, place_named, run_names}
 use Rattle.choice_controllers.proofs.NameLaws.{found}
 use Rattle.choice_controllers.proofs.switch_cursor.place_named.Given as goal

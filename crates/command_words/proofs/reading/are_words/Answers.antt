@@ -3,7 +3,7 @@ use borrow.Author.Tests.{tests}
 use Rattle.std.proofs.lemmas.Iterator.Search.{all_from_yields_List}
 use Rattle.std.proofs.lemmas.Iterator.{YieldsList-from_slice}
 use Rattle.std.proofs.lemmas.List.Folds.{list_all-map}
-use Rattle.command_words.specs.Grammar.{is_word}
+use Rattle.command_words.specs.CommandGrammar.{is_word}
 use Rattle.command_words.proofs.reading.are_words.Goals as goal
 
 pub returns : goal.returns

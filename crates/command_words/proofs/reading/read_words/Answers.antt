@@ -1,6 +1,6 @@
 use Rattle.std.proofs.Common.{◌≡◌, true, map, string_bytes, rules, Some, None}
 use Rattle.std.specs.List.{list_all}
-use Rattle.command_words.specs.Grammar.{is_word}
+use Rattle.command_words.specs.CommandGrammar.{is_word}
 use Rattle.command_words.specs.Commands.{command_of}
 use Rattle.command_words.proofs.ReadingLaws.{answer_is, no_answer, is_some_not_none, is_none_not_some}
 use Rattle.command_words.proofs.SpellingLaws.{answered_is_line, none_is_no_line}

@@ -1,6 +1,6 @@
 use Rattle.std.proofs.Common.{[], sym, ap, ◌∙◌, subst, arith}
 use Rattle.std.proofs.lemmas.List.{drop_all}
-use Rattle.cond_expr.specs.Meaning.{value_of}
+use Rattle.cond_expr.specs.ConditionWorth.{value_of}
 use Rattle.cond_expr.specs.Steps.{AreSteps, reading_of_steps}
 use Rattle.cond_expr.specs.Piles.{outcome_of}
 use Rattle.cond_expr.proofs.EvaluationLaws.{cond_outcome, first_step, ready, left_value, left_some}

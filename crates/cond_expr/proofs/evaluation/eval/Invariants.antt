@@ -1,6 +1,6 @@
 use Rattle.std.proofs.Common.{◌≡◌, List, Some, drop}
 use Rattle.cond_expr.specs.declared.value.CondValue.{CondValue}
-use Rattle.cond_expr.specs.Meaning.{value_of}
+use Rattle.cond_expr.specs.ConditionWorth.{value_of}
 use Rattle.cond_expr.specs.Piles.{pile, outcome_of}
 use Rattle.cond_expr.proofs.evaluation.eval.Given as goal
 

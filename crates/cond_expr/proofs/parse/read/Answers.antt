@@ -1,8 +1,8 @@
 use Rattle.std.proofs.Common.{[], ◌∙◌, Bool, refl, ap, subst}
 use Rattle.std.proofs.lemmas.List.{take_rest}
 use Rattle.cond_expr.specs.Tokens.{token_at}
-use Rattle.cond_expr.specs.Machine.{State, awaiting, next}
-use Rattle.cond_expr.specs.Holding.{Holds, Takes}
+use Rattle.cond_expr.specs.ConditionMachine.{State, awaiting, next}
+use Rattle.cond_expr.specs.ConditionHolding.{Holds, Takes}
 use Rattle.cond_expr.proofs.ReadLaws.{space_turn, token_turn, token_stop, end_turn}
 use Rattle.cond_expr.proofs.parse.read.Goals as goal
 

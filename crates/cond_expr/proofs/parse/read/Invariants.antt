@@ -1,7 +1,7 @@
 use Rattle.std.proofs.Common.{◌≡◌, ◌-◌, [], length, drop}
 use Rattle.cond_expr.specs.Tokens.{tokens_from, tokens}
-use Rattle.cond_expr.specs.Machine.{State, awaiting, run}
-use Rattle.cond_expr.specs.Holding.{Holds}
+use Rattle.cond_expr.specs.ConditionMachine.{State, awaiting, run}
+use Rattle.cond_expr.specs.ConditionHolding.{Holds}
 use Rattle.cond_expr.proofs.parse.read.Given as goal
 
 abbrev pub invariant-loop-at : goal.invariant-loop-at

@@ -1,6 +1,6 @@
 use Rattle.std.proofs.Common.{sym}
 use Rattle.std.specs.Prelude.{Ok, None}
-use Rattle.cursor_steps.specs.Children.{run_count}
+use Rattle.cursor_steps.specs.RunningChildren.{run_count}
 use Rattle.jm_meaning.specs.State.{at_places}
 use Rattle.jm_meaning.specs.Children.{children_of}
 use Rattle.control_machine.specs.Cursors.{interleave_left}

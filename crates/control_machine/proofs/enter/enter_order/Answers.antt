@@ -1,6 +1,6 @@
 use Rattle.std.proofs.Common.{sym, ap, ◌∙◌}
 use Rattle.std.specs.Prelude.{Ok, Err}
-use Rattle.cursor_steps.specs.Children.{run_count}
+use Rattle.cursor_steps.specs.RunningChildren.{run_count}
 use Rattle.jm_meaning.specs.State.{state_of}
 use Rattle.jm_meaning.specs.Children.{children_of}
 use Rattle.control_machine.specs.Cursors.{order_left}

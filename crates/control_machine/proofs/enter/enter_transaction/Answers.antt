@@ -1,5 +1,5 @@
 use Rattle.std.proofs.Common.{ap, ◌∙◌, refl, arith}
-use Rattle.cursor_steps.specs.Children.{pass_over}
+use Rattle.cursor_steps.specs.RunningChildren.{pass_over}
 use Rattle.control_machine.proofs.EnterLaws.{transaction-enter}
 use Rattle.control_machine.proofs.PassLaws.{count-is}
 use Rattle.control_machine.proofs.enter.enter_transaction.Goals as goal

@@ -1,6 +1,6 @@
 use Rattle.std.proofs.Common.{ap, ◌∙◌}
 use Rattle.std.specs.Prelude.{Ok}
-use Rattle.cursor_steps.specs.Children.{run_count}
+use Rattle.cursor_steps.specs.RunningChildren.{run_count}
 use Rattle.jm_meaning.specs.State.{state_of}
 use Rattle.jm_meaning.specs.Children.{children_of}
 use Rattle.control_machine.specs.Cursors.{while_left_in}

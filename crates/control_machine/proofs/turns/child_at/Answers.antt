@@ -1,7 +1,7 @@
 use Rattle.std.proofs.Common.{sym, ap, ◌∙◌, arith}
 use Rattle.std.specs.Prelude.{slice_get}
 use Rattle.std.specs.List.{filter}
-use Rattle.cursor_steps.specs.Children.{is_run_at, runs_of}
+use Rattle.cursor_steps.specs.RunningChildren.{is_run_at, runs_of}
 use Rattle.control_machine.proofs.CameSteps.{same_element}
 use Rattle.control_machine.proofs.OpenLaws.{none_some}
 use Rattle.control_machine.proofs.PassLaws.{past_taken, taken_get}

@@ -1,7 +1,7 @@
 use Rattle.std.proofs.Common.{◌≡◌, drop}
 use Rattle.std.specs.Prelude.{slice_get}
 use Rattle.std.specs.List.{filter}
-use Rattle.cursor_steps.specs.Children.{is_run_at}
+use Rattle.cursor_steps.specs.RunningChildren.{is_run_at}
 use Rattle.control_machine.proofs.turns.run_at.Given as goal
 
 abbrev pub invariant-loop-number : goal.invariant-loop-number

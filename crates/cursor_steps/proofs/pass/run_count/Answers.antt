@@ -1,7 +1,7 @@
 use Rattle.std.proofs.Common.{ap, sym, ◌∙◌}
 use Rattle.std.specs.Prelude.{min}
 use Rattle.std.proofs.lemmas.List.Sums.{length-filter}
-use Rattle.cursor_steps.specs.Children.{is_run_at}
+use Rattle.cursor_steps.specs.RunningChildren.{is_run_at}
 use Rattle.cursor_steps.proofs.pass.run_count.Goals as goal
 
 pub returns : goal.returns

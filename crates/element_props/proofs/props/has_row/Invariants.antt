@@ -1,6 +1,6 @@
 use Rattle.std.proofs.Common.{◌≡◌, drop, map}
 use Rattle.element_props.specs.Props.{has_row}
-use Rattle.element_props.specs.Seen.{row_seen}
+use Rattle.element_props.specs.RowsSeen.{row_seen}
 use Rattle.element_props.proofs.props.has_row.Given as goal
 
 abbrev pub invariant-loop-row : goal.invariant-loop-row

@@ -2,7 +2,7 @@ use Rattle.std.proofs.Common.{◌≡◌, drop, map}
 use Rattle.serde_json.specs.View.{view}
 use Rattle.plan_json.specs.Shape.{members_in}
 use Rattle.element_props.specs.Props.{missing}
-use Rattle.element_props.specs.Seen.{row_seen}
+use Rattle.element_props.specs.RowsSeen.{row_seen}
 use Rattle.element_props.proofs.props.missing.Given as goal
 
 abbrev pub invariant-loop-row : goal.invariant-loop-row

@@ -3,7 +3,7 @@ use Rattle.serde_json.specs.View.{view}
 use Rattle.plan_json.specs.Shape.{members_in}
 use Rattle.element_props.specs.Reads.{Goes}
 use Rattle.element_props.specs.Props.{properties}
-use Rattle.element_props.specs.Seen.{row_seen}
+use Rattle.element_props.specs.RowsSeen.{row_seen}
 use Rattle.element_props.proofs.PropsLoop.{props_before}
 use Rattle.element_props.proofs.props.properties.Given as goal
 

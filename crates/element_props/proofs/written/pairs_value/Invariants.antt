@@ -1,6 +1,6 @@
 use Rattle.std.proofs.Common.{◌≡◌, drop}
 use Rattle.serde_json.specs.View.{items_view}
-use Rattle.element_props.specs.Written.{items_by, pair_data}
+use Rattle.element_props.specs.PropertiesWritten.{items_by, pair_data}
 use Rattle.element_props.proofs.WrittenLaws.{joined}
 use Rattle.element_props.proofs.written.pairs_value.Given as goal
 

@@ -1,5 +1,5 @@
 use Rattle.std.proofs.Common.{ap, ◌∙◌, arith}
-use Rattle.element_props.specs.Written.{text_data}
+use Rattle.element_props.specs.PropertiesWritten.{text_data}
 use Rattle.serde_json.specs.Data.{array}
 use Rattle.serde_json.proofs.Views.{view-Array}
 use Rattle.element_props.proofs.WrittenLaws.{written_more, written_all}

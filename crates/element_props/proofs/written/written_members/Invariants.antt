@@ -1,8 +1,8 @@
 use Rattle.std.proofs.Common.{◌≡◌, ◌≤◌, drop, map, length}
 use Rattle.serde_json.specs.View.{members_view}
-use Rattle.element_props.specs.Seen.{row_seen}
-use Rattle.element_props.specs.Shown.{named_shown_seen}
-use Rattle.element_props.specs.Written.{written}
+use Rattle.element_props.specs.RowsSeen.{row_seen}
+use Rattle.element_props.specs.ValueShown.{named_shown_seen}
+use Rattle.element_props.specs.PropertiesWritten.{written}
 use Rattle.element_props.proofs.written.written_members.Given as goal
 
 abbrev pub invariant-loop-left : goal.invariant-loop-left

@@ -1,5 +1,5 @@
 use Rattle.std.proofs.Common.{◌≡◌, ◌+◌, ◌≤◌, List, [], ◌∷◌, ◌++◌, length, map, drop}
-use Rattle.plan_json.specs.Seen.{raw_view, raws_of}
+use Rattle.plan_json.specs.TreeSeen.{raw_view, raws_of}
 use Rattle.plan_json.specs.declared.raw.RawElement.{out-RawElement}
 use Rattle.element_tree.specs.declared.kinds.Element.{Element}
 use Rattle.element_props.specs.Reads.{Goes}

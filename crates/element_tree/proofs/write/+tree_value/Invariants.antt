@@ -1,6 +1,6 @@
 use Rattle.std.proofs.Common.{◌≡◌, ◌-◌, take, map}
 use Rattle.serde_json.specs.View.{view}
-use Rattle.element_tree.specs.Written.{data_of, written_tree}
+use Rattle.element_tree.specs.PlanWritten.{data_of, written_tree}
 use Rattle.element_tree.proofs.write.+tree_value.Given as goal
 
 abbrev pub decreases-tree_value : goal.decreases-tree_value

@@ -1,4 +1,4 @@
-use Rattle.recorder_core.specs.Seats.{reports, closes, IsClosing}
+use Rattle.recorder_core.specs.RecorderSeats.{reports, closes, IsClosing}
 use Rattle.recorder_core.specs.Stands.{Same}
 use Rattle.interval_reporter.proofs.closing.close_interval.Given as goal
 

@@ -1,6 +1,6 @@
 use Rattle.std.proofs.Common.{length, ap, ◌∙◌, refl, inl, rules}
 use Rattle.interval_tables.proofs.Sums.{length-sum_of}
-use Rattle.recorder_core.specs.Seats.{books_of, last_report, all_reports_of}
+use Rattle.recorder_core.specs.RecorderSeats.{books_of, last_report, all_reports_of}
 use Rattle.jm_command.proofs.StartLaws.{labelled_all, ticked_reports, books_say}
 use Rattle.jm_command.proofs.running.run_beside.Goals as goal
 

@@ -1,5 +1,5 @@
 use Rattle.std.proofs.Common.{◌≡◌, ◌++◌, drop, map}
-use Rattle.plan_json.specs.Seen.{raw_view, raws_of}
+use Rattle.plan_json.specs.TreeSeen.{raw_view, raws_of}
 use Rattle.jm_command.specs.Refusals.{places_of, places_below}
 use Rattle.jm_command.proofs.unbuilt.+push_places.Given as goal
 

@@ -1,7 +1,7 @@
 use Rattle.std.proofs.Common.{[], take, drop}
 use Rattle.jm_base.specs.Run.{over}
 use Rattle.jm_base.specs.Outside.{Goes}
-use Rattle.var_functions.specs.State.{IsLater}
+use Rattle.var_functions.specs.FunctionState.{IsLater}
 use Rattle.jm_meaning.specs.State.{Own, state_of, normal}
 use Rattle.jm_meaning.specs.Beginning.{set_all, user_variables}
 use Rattle.jm_meaning.proofs.beginning.set_elements.Given as goal

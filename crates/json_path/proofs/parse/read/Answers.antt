@@ -1,6 +1,6 @@
 use Rattle.std.proofs.Common.{Bool, get_or, subst}
-use Rattle.json_path.specs.Machine.{State, next}
-use Rattle.json_path.specs.Holding.{Holds, Takes}
+use Rattle.json_path.specs.PathMachine.{State, next}
+use Rattle.json_path.specs.PathHolding.{Holds, Takes}
 use Rattle.json_path.proofs.ReadLaws.{byte_turn, byte_stop, end_turn}
 use Rattle.json_path.proofs.parse.read.Goals as goal
 

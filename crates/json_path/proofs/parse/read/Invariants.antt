@@ -1,6 +1,6 @@
 use Rattle.std.proofs.Common.{◌≡◌, drop}
-use Rattle.json_path.specs.Machine.{State, start, run}
-use Rattle.json_path.specs.Holding.{Holds}
+use Rattle.json_path.specs.PathMachine.{State, start, run}
+use Rattle.json_path.specs.PathHolding.{Holds}
 use Rattle.json_path.proofs.parse.read.Given as goal
 
 abbrev pub invariant-loop-at : goal.invariant-loop-at

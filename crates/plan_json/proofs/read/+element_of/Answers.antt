@@ -2,7 +2,7 @@ use Rattle.std.proofs.Common.{[], ◌∷◌, ◌++◌, map, ap, sym, ◌∙◌, 
 use Rattle.std.proofs.lemmas.List.{map-append}
 use Rattle.serde_json.specs.View.{view}
 use Rattle.plan_json.specs.Shape.{shape}
-use Rattle.plan_json.specs.Seen.{raw_view, has_objects}
+use Rattle.plan_json.specs.TreeSeen.{raw_view, has_objects}
 use Rattle.plan_json.proofs.ShapeLaws.{shape_refused, shape_unknown, child_depth, child_done, child_fault, all_done, own_gives, one_more, all_objects, on_ok_same, fails_along, popped}
 use Rattle.std.proofs.lemmas.Result.{err_from_is_err_and}
 use Rattle.plan_json.proofs.read.+element_of.Goals as goal

@@ -3,7 +3,7 @@ use Rattle.std.specs.List.{list_all}
 use Rattle.serde_json.specs.Data.{depth}
 use Rattle.serde_json.specs.View.{view, items_view}
 use Rattle.plan_json.specs.Shape.{shapes, children_in, members_in}
-use Rattle.plan_json.specs.Seen.{raw_view, has_objects}
+use Rattle.plan_json.specs.TreeSeen.{raw_view, has_objects}
 use Rattle.plan_json.proofs.ShapeLaws.{before_these}
 use Rattle.plan_json.proofs.read.+element_of.Given as goal
 

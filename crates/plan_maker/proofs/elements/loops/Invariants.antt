@@ -1,5 +1,5 @@
 use Rattle.std.proofs.Common.{◌≡◌, map}
-use Rattle.plan_json.specs.Seen.{raw_view}
+use Rattle.plan_json.specs.TreeSeen.{raw_view}
 use Rattle.plan_maker.specs.Generated.{numbers_below}
 use Rattle.plan_maker.specs.Raws.{loop_raw}
 use Rattle.plan_maker.proofs.elements.loops.Given as goal

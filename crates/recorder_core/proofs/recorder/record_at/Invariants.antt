@@ -2,7 +2,7 @@ use Rattle.std.proofs.Common.{◌≡◌, ◌+◌}
 use Rattle.phaser_core.specs.Views.{at_stage}
 use Rattle.phaser_core.specs.declared.view.Stage.TheVariants.{On}
 use Rattle.phaser_words.specs.RecorderKinds.{parity_in}
-use Rattle.phaser_words.specs.Seats.{writing, IsWriterOf}
+use Rattle.phaser_words.specs.WordSeats.{writing, IsWriterOf}
 use Rattle.recorder_core.proofs.recorder.record_at.Given as goal
 
 abbrev pub invariant-loop-done : goal.invariant-loop-done

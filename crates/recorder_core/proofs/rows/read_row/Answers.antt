@@ -1,7 +1,7 @@
 use Rattle.std.proofs.Common.{◌≡◌, ◌+◌, ◌*◌, ℕ, get_or, ap, ◌∙◌, arith, length-set}
 use Rattle.phaser_core.specs.declared.view.ReporterView.{ReporterView}
 use Rattle.phaser_core.specs.Views.{joined_at}
-use Rattle.phaser_words.specs.Seats.{reading}
+use Rattle.phaser_words.specs.WordSeats.{reading}
 use Rattle.recorder_core.proofs.Cellwise.{reads_more, row_agrees}
 use Rattle.recorder_core.proofs.rows.read_row.Goals as goal
 

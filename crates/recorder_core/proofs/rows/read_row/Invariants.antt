@@ -1,6 +1,6 @@
 use Rattle.std.proofs.Common.{◌≡◌, ℕ, ◌+◌, ◌*◌, ◌<◌, length, get_or}
 use Rattle.phaser_core.specs.Views.{joined_at}
-use Rattle.phaser_words.specs.Seats.{reading, IsReporterOf}
+use Rattle.phaser_words.specs.WordSeats.{reading, IsReporterOf}
 use Rattle.recorder_core.proofs.rows.read_row.Given as goal
 
 abbrev pub invariant-loop-column : goal.invariant-loop-column

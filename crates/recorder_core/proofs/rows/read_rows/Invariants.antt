@@ -1,7 +1,7 @@
 use Rattle.std.proofs.Common.{◌≡◌, take}
 use Rattle.phaser_core.specs.Cells.{rows_from}
 use Rattle.phaser_core.specs.Views.{joined_at}
-use Rattle.phaser_words.specs.Seats.{reading, IsReporterOf}
+use Rattle.phaser_words.specs.WordSeats.{reading, IsReporterOf}
 use Rattle.recorder_core.proofs.rows.read_rows.Given as goal
 
 abbrev pub invariant-loop-label : goal.invariant-loop-label

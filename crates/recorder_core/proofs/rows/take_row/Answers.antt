@@ -4,7 +4,7 @@ use Rattle.std.proofs.Math.Seq.{take-length}
 use Rattle.phaser_core.specs.declared.view.ReporterView.{ReporterView}
 use Rattle.phaser_core.specs.Cells.{table_cells}
 use Rattle.phaser_core.specs.CoreMoves.{gathered}
-use Rattle.phaser_words.specs.Seats.{reading}
+use Rattle.phaser_words.specs.WordSeats.{reading}
 use Rattle.recorder_core.proofs.Cellwise.{gathered_next}
 use Rattle.recorder_core.proofs.rows.take_row.Goals as goal
 

@@ -3,7 +3,7 @@ use Rattle.std.proofs.Math.Seq.{take-length}
 use Rattle.phaser_core.specs.declared.view.ReporterView.{ReporterView}
 use Rattle.phaser_core.specs.Cells.{table_cells, rows_from}
 use Rattle.phaser_core.specs.CoreMoves.{gathered}
-use Rattle.phaser_words.specs.Seats.{reading}
+use Rattle.phaser_words.specs.WordSeats.{reading}
 use Rattle.recorder_core.proofs.Cellwise.{rows_taken, gathered_row, gathered_all, harvests_at}
 use Rattle.recorder_core.proofs.rows.take_rows.Goals as goal
 

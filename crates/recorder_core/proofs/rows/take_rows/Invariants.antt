@@ -1,7 +1,7 @@
 use Rattle.std.proofs.Common.{◌≡◌, ℕ, ◌*◌, List, length, get_or, take}
 use Rattle.phaser_core.specs.Cells.{rows_from}
 use Rattle.phaser_core.specs.CoreMoves.{gathered}
-use Rattle.phaser_words.specs.Seats.{reading, IsReporterOf}
+use Rattle.phaser_words.specs.WordSeats.{reading, IsReporterOf}
 use Rattle.recorder_core.proofs.rows.take_rows.Given as goal
 
 abbrev pub invariant-loop-label : goal.invariant-loop-label

@@ -1,5 +1,5 @@
 use Rattle.std.proofs.Common.{◌≡◌, length}
-use Rattle.recorder_core.specs.Seats.{writes, IsWriter}
+use Rattle.recorder_core.specs.RecorderSeats.{writes, IsWriter}
 use Rattle.recorder_tests.proofs.recorder.record_all.Given as goal
 
 abbrev pub invariant-loop-n : goal.invariant-loop-n

@@ -1,6 +1,6 @@
 use Rattle.std.proofs.Common.{◌∙◌, Bool, ap, sym}
 use Rattle.interval_reporter.specs.Judged.{errors_of}
-use Rattle.recorder_core.specs.Seats.{reports}
+use Rattle.recorder_core.specs.RecorderSeats.{reports}
 use Rattle.reporter_loop.specs.Reported.{raised_if}
 use Rattle.reporter_loop.proofs.Judging.{over_is, not_over_is}
 use Rattle.reporter_loop.proofs.turns.judge.Goals as goal

@@ -1,5 +1,5 @@
 use Rattle.output_lines.specs.Reports.{report_text}
-use Rattle.recorder_core.specs.Seats.{reports}
+use Rattle.recorder_core.specs.RecorderSeats.{reports}
 use Rattle.reporter_loop.proofs.Judging.{reported_more, cut_after}
 use Rattle.reporter_loop.proofs.Outcomes.{ok_and, err_then}
 use Rattle.reporter_loop.proofs.turns.one_turn.Goals as goal

@@ -1,5 +1,5 @@
 use Rattle.std.proofs.Common.{arith, ◌∙◌, ℕ, sym, subst}
-use Rattle.recorder_core.specs.Seats.{reports}
+use Rattle.recorder_core.specs.RecorderSeats.{reports}
 use Rattle.reporter_loop.specs.Ticked.{TickedSoFar}
 use Rattle.reporter_loop.proofs.Outcomes.{at_err, at_ok}
 use Rattle.reporter_loop.proofs.Ticking.{tick_more_so_far}

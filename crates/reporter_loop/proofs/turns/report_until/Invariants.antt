@@ -1,6 +1,6 @@
 use Rattle.std.proofs.Common.{◌≡◌, ◌<◌, length}
 use Rattle.output_lines.specs.Reports.{report_text}
-use Rattle.recorder_core.specs.Seats.{reports, numbers_of, IsReporter}
+use Rattle.recorder_core.specs.RecorderSeats.{reports, numbers_of, IsReporter}
 use Rattle.reporter_loop.specs.Reported.{Reported}
 use Rattle.reporter_loop.specs.Ticked.{TickedSoFar}
 use Rattle.reporter_loop.proofs.turns.report_until.Given as goal

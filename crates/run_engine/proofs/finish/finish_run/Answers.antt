@@ -2,7 +2,7 @@ use Rattle.std.proofs.Common.{rules, ◌≡◌, List, ℕ, sym, subst}
 use Rattle.std.specs.Io.KnownBytes.{Appends}
 use Rattle.interval_tables.specs.declared.report.Report.{Report}
 use Rattle.output_lines.specs.Reports.{report_text}
-use Rattle.recorder_core.specs.Seats.{reports, numbers_of}
+use Rattle.recorder_core.specs.RecorderSeats.{reports, numbers_of}
 use Rattle.reporter_loop.specs.ReportsWritten.{texts_of}
 use Rattle.reporter_loop.proofs.Judging.{cut_after}
 use Rattle.reporter_loop.proofs.Texts.{written_more}

@@ -1,7 +1,7 @@
 use Rattle.std.proofs.Common.{◌∙◌, ◌++◌, List, ℕ, map, ap}
 use Rattle.std.specs.List.{range_with_len}
 use Rattle.phaser_core.specs.declared.view.Joined.{Joined}
-use Rattle.recorder_core.specs.Seats.{reports}
+use Rattle.recorder_core.specs.RecorderSeats.{reports}
 use Rattle.run_engine.specs.Asked.{options_of}
 use Rattle.run_engine.specs.Joins.{joined_of}
 use Rattle.run_engine.proofs.Closing.{lists_so, keep_so, many, ends_all_so, marks_so}

@@ -9,7 +9,7 @@ use Rattle.thread_machine.specs.declared.trace.TraceItem.{TraceItem}
 use Rattle.thread_machine.specs.Bare.{IsLabelled}
 use Rattle.phaser_core.specs.Views.{left_of}
 use Rattle.phaser_core.specs.declared.view.ReporterView.{ReporterView}
-use Rattle.recorder_core.specs.Seats.{reports, writes}
+use Rattle.recorder_core.specs.RecorderSeats.{reports, writes}
 use Rattle.run_engine.specs.declared.job.Job.{Job}
 use Rattle.run_engine.specs.Asked.{options_of}
 use Rattle.run_engine.specs.Followed.{FollowsWhere}

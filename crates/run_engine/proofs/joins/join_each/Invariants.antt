@@ -2,7 +2,7 @@ use Rattle.std.proofs.Common.{◌≡◌, ◌+◌, ◌<◌, ◌≤◌, ◌++◌, 
 use Rattle.std.specs.Prelude.{vec_capacity}
 use Rattle.std.specs.Vec.Iter.{into_iter_items}
 use Rattle.element_tree.specs.Names.{labels_of}
-use Rattle.recorder_core.specs.Seats.{reports, IsReporter}
+use Rattle.recorder_core.specs.RecorderSeats.{reports, IsReporter}
 use Rattle.run_engine.specs.Asked.{options_of}
 use Rattle.run_engine.specs.Followed.{AllFollow}
 use Rattle.run_engine.specs.Joins.{joined_of, trace_of, number_of, OnlyJoined, IsDone, AllLabelled}

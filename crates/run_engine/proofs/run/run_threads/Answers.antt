@@ -1,7 +1,7 @@
 use Rattle.std.proofs.Common.{◌∙◌, ℕ, Bool, ap, sym, subst, length}
 use Rattle.output_lines.specs.Reports.{report_text}
 use Rattle.phaser_core.specs.declared.view.ReporterView.{ReporterView}
-use Rattle.recorder_core.specs.Seats.{reports}
+use Rattle.recorder_core.specs.RecorderSeats.{reports}
 use Rattle.reporter_loop.proofs.Judging.{reported_same, quiet}
 use Rattle.reporter_loop.proofs.Outcomes.{if_ok_then, if_ok_and, err_then, on_ok}
 use Rattle.run_engine.specs.Asked.{options_of}

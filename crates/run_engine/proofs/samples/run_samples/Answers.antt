@@ -4,7 +4,7 @@ use Rattle.run_engine.proofs.Bounding.{in_range_snoc, small_snoc}
 use Rattle.run_engine.proofs.Traces.{same_then, same_steps, pairs_noted, pairs_null, pairs_ended, ends_with, not_stopped, label_low, label_fits, units_left, units_null}
 use Rattle.phaser_core.specs.Shares.{AllInRange}
 use Rattle.phaser_core.specs.Invariant.{AllSmall}
-use Rattle.recorder_core.specs.Seats.{writes, numbers_of}
+use Rattle.recorder_core.specs.RecorderSeats.{writes, numbers_of}
 use Rattle.run_engine.proofs.samples.run_samples.Goals as goal
 
 pub steps-preserved-in-Sampled : goal.steps-preserved-in-Sampled

@@ -1,5 +1,5 @@
 use Rattle.std.proofs.Common.{◌≡◌, length, None}
-use Rattle.critical_section.specs.Seats.{view_of, IsSeatOf}
+use Rattle.critical_section.specs.SectionSeats.{view_of, IsSeatOf}
 use Rattle.section_tests.proofs.sections.add_often.Given as goal
 
 abbrev pub invariant-loop-round : goal.invariant-loop-round

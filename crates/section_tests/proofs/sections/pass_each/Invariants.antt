@@ -1,5 +1,5 @@
 use Rattle.std.proofs.Common.{◌≡◌, length, None}
-use Rattle.critical_section.specs.Seats.{view_of, IsSeatOf}
+use Rattle.critical_section.specs.SectionSeats.{view_of, IsSeatOf}
 use Rattle.section_tests.proofs.sections.pass_each.Given as goal
 
 abbrev pub invariant-loop-lock : goal.invariant-loop-lock

@@ -1,7 +1,7 @@
 -- The pieces that are read are the reading, which is spelled as the text.
 use Rattle.std.proofs.Common.{subst, sym, ap, ◌∙◌}
 use Rattle.template_text.specs.Pieces.{spelling}
-use Rattle.template_text.specs.Grammar.{IsReadingOf}
+use Rattle.template_text.specs.TemplateGrammar.{IsReadingOf}
 use Rattle.template_text.proofs.Readings.{reading_is}
 use Rattle.template_text.proofs.build.parse_template.Goals as goal
 

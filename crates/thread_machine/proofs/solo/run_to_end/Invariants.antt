@@ -3,7 +3,7 @@ use Rattle.jm_base.specs.Outside.{Account}
 use Rattle.std.specs.Prelude.{All}
 use Rattle.jm_meaning.specs.Beginning.{Options}
 use Rattle.thread_machine.specs.Bare.{IsCountedIn}
-use Rattle.thread_machine.specs.Counts.{samples_in}
+use Rattle.thread_machine.specs.SampleCounts.{samples_in}
 use Rattle.thread_machine.specs.Standing.{Stands}
 use Rattle.thread_machine.proofs.Counts.{Fits}
 use Rattle.thread_machine.proofs.solo.run_to_end.Given as goal

@@ -2,7 +2,7 @@ use Rattle.std.proofs.Common.{◌≡◌, ◌+◌, ◌*◌, ◌-◌, ◌≤◌, [
 use Rattle.jm_base.specs.Outside.{Goes}
 use Rattle.template_text.specs.View.{pieces_of, arguments_of, weight, arguments_weight}
 use Rattle.var_functions.specs.Vars.{most_text}
-use Rattle.var_functions.specs.State.{IsLater}
+use Rattle.var_functions.specs.FunctionState.{IsLater}
 use Rattle.var_functions.specs.Expansion.{after_pieces, after_texts}
 use Rattle.var_functions.proofs.expansion.+expansion.Given as goal
 

@@ -1,6 +1,6 @@
 use Rattle.std.proofs.Common.{sym, ap, ◌∙◌}
 use Rattle.cursor_steps.specs.CursorStep.{answers}
-use Rattle.cursor_steps.specs.Children.{run_count}
+use Rattle.cursor_steps.specs.RunningChildren.{run_count}
 use Rattle.cursor_steps.proofs.Steps.{goes-same, same-element}
 use Rattle.choice_controllers.specs.InterleaveController.{interleaved}
 use Rattle.choice_controllers.proofs.interleave_cursor.InterleaveCursor.enter.Goals as goal

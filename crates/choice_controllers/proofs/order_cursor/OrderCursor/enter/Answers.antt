@@ -1,6 +1,6 @@
 use Rattle.std.proofs.Common.{ap, ◌∙◌}
 use Rattle.var_functions.proofs.LaterLaws.{later_same}
-use Rattle.cursor_steps.specs.Children.{run_count}
+use Rattle.cursor_steps.specs.RunningChildren.{run_count}
 use Rattle.cursor_steps.proofs.Steps.{goes-same, at-once, same-element}
 use Rattle.choice_controllers.specs.RandomOrderController.{places, order_of}
 use Rattle.choice_controllers.proofs.ChosenLaws.{order-self, order-fns, order-entered}

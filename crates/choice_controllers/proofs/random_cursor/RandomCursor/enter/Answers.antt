@@ -1,5 +1,5 @@
 use Rattle.std.proofs.Common.{ap, ◌∙◌}
-use Rattle.cursor_steps.specs.Children.{run_count}
+use Rattle.cursor_steps.specs.RunningChildren.{run_count}
 use Rattle.cursor_steps.proofs.Steps.{goes-same, same-element}
 use Rattle.choice_controllers.proofs.ChosenLaws.{random-entered}
 use Rattle.choice_controllers.proofs.random_cursor.RandomCursor.enter.Goals as goal

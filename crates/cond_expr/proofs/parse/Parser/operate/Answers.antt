@@ -1,8 +1,8 @@
 use Rattle.std.proofs.Common.{ℕ, true, rules, refl, sym, ◌∙◌, subst, List}
 use Rattle.cond_expr.specs.declared.parse.Parser.{Parser}
-use Rattle.cond_expr.specs.Reading.{Reading}
-use Rattle.cond_expr.specs.Machine.{Frame, settled}
-use Rattle.cond_expr.specs.Holding.{IsOperandHeld, Holds}
+use Rattle.cond_expr.specs.ConditionTree.{Reading}
+use Rattle.cond_expr.specs.ConditionMachine.{Frame, settled}
+use Rattle.cond_expr.specs.ConditionHolding.{IsOperandHeld, Holds}
 use Rattle.cond_expr.proofs.ParserLaws.{operator_takes}
 use Rattle.cond_expr.proofs.parse.Parser.operate.Goals as goal
 

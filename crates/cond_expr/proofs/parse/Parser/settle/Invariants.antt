@@ -1,7 +1,7 @@
 use Rattle.std.proofs.Common.{◌≡◌, List, vec_len}
-use Rattle.cond_expr.specs.Reading.{Reading}
-use Rattle.cond_expr.specs.Machine.{Frame, settled}
-use Rattle.cond_expr.specs.Holding.{IsOperandHeld}
+use Rattle.cond_expr.specs.ConditionTree.{Reading}
+use Rattle.cond_expr.specs.ConditionMachine.{Frame, settled}
+use Rattle.cond_expr.specs.ConditionHolding.{IsOperandHeld}
 use Rattle.cond_expr.proofs.parse.Parser.settle.Given as goal
 
 abbrev pub invariant-loop-self : goal.invariant-loop-self

@@ -1,6 +1,6 @@
 use Rattle.std.proofs.Common.{◌≡◌, ◌≤◌, ℕ, []}
 use Rattle.jm_base.specs.Outside.{Goes}
-use Rattle.var_functions.specs.State.{IsLater}
+use Rattle.var_functions.specs.FunctionState.{IsLater}
 use Rattle.control_machine.specs.Left.{StandsIn, left_of, state_at}
 use Rattle.control_machine.specs.Load.{load_of}
 use Rattle.control_machine.proofs.machine.Machine.next.Given as goal

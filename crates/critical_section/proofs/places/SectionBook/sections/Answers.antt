@@ -1,6 +1,6 @@
 use Rattle.std.proofs.Common.{ℕ, ◌/◌, ap, ◌∙◌, ltb}
 use Rattle.std.specs.Slots.{slots_items}
-use Rattle.jm_base.specs.Totals.{one_if}
+use Rattle.jm_base.specs.SumTotals.{one_if}
 use Rattle.critical_section.proofs.Steps.{read_at}
 use Rattle.critical_section.proofs.places.SectionBook.sections.Goals as goal
 

@@ -1,6 +1,6 @@
 use Rattle.std.proofs.Common.{◌≡◌, []}
 use Rattle.critical_section.specs.Book.{tried}
-use Rattle.critical_section.specs.Seats.{view_of, IsSeatOf}
+use Rattle.critical_section.specs.SectionSeats.{view_of, IsSeatOf}
 use Rattle.critical_section.proofs.places.Sections.enter.Given as goal
 
 -- a try that did not enter changes nothing but the words that were found

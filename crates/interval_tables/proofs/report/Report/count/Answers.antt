@@ -1,6 +1,6 @@
 use Rattle.std.proofs.Common.{◌+◌, ◌≤◌, ap, ◌∙◌, arith, get_or}
 use Rattle.interval_tables.specs.declared.row.Row.{Row}
-use Rattle.jm_base.specs.Totals.{total}
+use Rattle.jm_base.specs.SumTotals.{total}
 use Rattle.interval_tables.specs.Rows.{no_samples}
 use Rattle.interval_tables.proofs.Totals.{sum_low, sum_next, sum_done}
 use Rattle.interval_tables.proofs.Sums.{counts_over}

@@ -1,6 +1,6 @@
 use Rattle.std.proofs.Common.{◌≡◌, take}
 use Rattle.interval_tables.specs.declared.row.Row.{Row}
-use Rattle.jm_base.specs.Totals.{total}
+use Rattle.jm_base.specs.SumTotals.{total}
 use Rattle.interval_tables.proofs.report.Report.count.Given as goal
 
 abbrev pub invariant-loop-row : goal.invariant-loop-row

@@ -1,7 +1,7 @@
 use Rattle.std.proofs.Common.{None}
 use Rattle.var_functions.proofs.CameLaws.{came-first}
 use Rattle.cursor_steps.specs.CursorStep.{answers, past_limit}
-use Rattle.logic_controllers.specs.Rounds.{opened}
+use Rattle.logic_controllers.specs.ControllerRounds.{opened}
 use Rattle.var_functions.specs.declared.state.UserState.{UserState}
 use Rattle.logic_controllers.specs.declared.each_cursor.EachCursor.{EachCursor}
 use Rattle.logic_controllers.specs.ForEachController.{Row, each_goes, each_next}

@@ -1,7 +1,7 @@
 use Rattle.std.proofs.Common.{sym, ap, ◌∙◌, None}
 use Rattle.cursor_steps.specs.CursorStep.{answers}
-use Rattle.cursor_steps.specs.Children.{run_count}
-use Rattle.logic_controllers.specs.Rounds.{before_rounds}
+use Rattle.cursor_steps.specs.RunningChildren.{run_count}
+use Rattle.logic_controllers.specs.ControllerRounds.{before_rounds}
 use Rattle.cursor_steps.proofs.Steps.{goes-same, same-element}
 use Rattle.logic_controllers.proofs.each_cursor.EachCursor.enter.Goals as goal
 

@@ -1,6 +1,6 @@
 use Rattle.std.proofs.Common.{sym, ap, ◌∙◌}
 use Rattle.cursor_steps.specs.CursorStep.{answers}
-use Rattle.cursor_steps.specs.Children.{pass_over, run_count}
+use Rattle.cursor_steps.specs.RunningChildren.{pass_over, run_count}
 use Rattle.cursor_steps.proofs.Steps.{goes-same, same-element}
 use Rattle.logic_controllers.proofs.simple_cursor.SimpleCursor.enter.Goals as goal
 

@@ -2,7 +2,7 @@ use Rattle.std.proofs.Common.{rules, ◌<◌, ℕ, ◌∙◌, subst, arith}
 use Rattle.jm_base.specs.declared.types.Entry.{Entry}
 use Rattle.phaser_core.specs.Cells.{column, sums}
 use Rattle.phaser_words.specs.RecorderKinds.{HasSum}
-use Rattle.phaser_words.specs.Seats.{numbers, writing}
+use Rattle.phaser_words.specs.WordSeats.{numbers, writing}
 use Rattle.phaser_words.proofs.Allowed.{sum_allowed, place_inside, column_low, sum_column}
 use Rattle.phaser_words.proofs.places.Words.add.Goals as goal
 

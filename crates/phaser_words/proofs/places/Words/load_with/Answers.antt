@@ -1,6 +1,6 @@
 use Rattle.std.proofs.Common.{rules, sym, subst, ◌<◌, arith}
 use Rattle.jm_base.specs.declared.types.Entry.{Entry}
-use Rattle.phaser_words.specs.Seats.{numbers}
+use Rattle.phaser_words.specs.WordSeats.{numbers}
 use Rattle.phaser_words.proofs.Allowed.{load_allowed}
 use Rattle.phaser_words.proofs.places.Words.load_with.Goals as goal
 

@@ -2,7 +2,7 @@ use Rattle.std.proofs.Common.{rules, not, ◌<◌, ℕ, ◌∙◌, subst, arith}
 use Rattle.jm_base.specs.declared.types.Entry.{Entry}
 use Rattle.phaser_core.specs.Cells.{column, sums}
 use Rattle.phaser_words.specs.RecorderKinds.{HasLeast}
-use Rattle.phaser_words.specs.Seats.{numbers, writing}
+use Rattle.phaser_words.specs.WordSeats.{numbers, writing}
 use Rattle.phaser_words.proofs.Allowed.{least_allowed, place_inside, column_low, later_column}
 use Rattle.phaser_words.proofs.places.Words.lower.Goals as goal
 

@@ -1,6 +1,6 @@
 use Rattle.std.proofs.Common.{◌%◌, ◌<◌, ℕ, ap, sym, subst, ◌∙◌}
 use Rattle.phaser_core.specs.Cells.{place, part}
-use Rattle.phaser_words.specs.Seats.{numbers, writing}
+use Rattle.phaser_words.specs.WordSeats.{numbers, writing}
 use Rattle.phaser_words.proofs.Allowed.{column_low}
 use Rattle.phaser_words.proofs.places.Words.next_part.Goals as goal
 

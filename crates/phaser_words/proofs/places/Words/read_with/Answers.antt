@@ -1,6 +1,6 @@
 use Rattle.std.proofs.Common.{rules, ℕ, sym, ap, ◌∙◌}
 use Rattle.phaser_core.specs.Cells.{cell_at}
-use Rattle.phaser_words.specs.Seats.{numbers}
+use Rattle.phaser_words.specs.WordSeats.{numbers}
 use Rattle.phaser_words.proofs.Allowed.{read_allowed, cell_inside}
 use Rattle.phaser_words.proofs.places.Words.read_with.Goals as goal
 

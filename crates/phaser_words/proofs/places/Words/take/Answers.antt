@@ -1,7 +1,7 @@
 use Rattle.std.proofs.Common.{rules, sym, ◌∙◌, subst}
 use Rattle.phaser_core.specs.Cells.{cell_at}
 use Rattle.phaser_words.specs.RecorderKinds.{HasCell}
-use Rattle.phaser_words.specs.Seats.{numbers}
+use Rattle.phaser_words.specs.WordSeats.{numbers}
 use Rattle.phaser_words.proofs.Allowed.{take_allowed, cell_inside}
 use Rattle.phaser_words.proofs.places.Words.take.Goals as goal
 

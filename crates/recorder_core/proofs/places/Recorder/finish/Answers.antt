@@ -1,4 +1,4 @@
-use Rattle.phaser_words.specs.Seats.{reading, numbers}
+use Rattle.phaser_words.specs.WordSeats.{reading, numbers}
 use Rattle.recorder_core.proofs.Ending.{all_shown, all_parted, all_counted}
 use Rattle.recorder_core.proofs.places.Recorder.finish.Goals as goal
 

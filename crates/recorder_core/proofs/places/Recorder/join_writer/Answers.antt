@@ -1,7 +1,7 @@
 use Rattle.std.proofs.Common.{◌≡◌, ◌+◌, ℕ, ap, ◌∙◌, sym, subst, arith}
 use Rattle.phaser_core.specs.declared.view.ReporterView.{ReporterView}
 use Rattle.phaser_core.specs.Views.{left_of}
-use Rattle.phaser_words.specs.Seats.{reading, writing, numbers}
+use Rattle.phaser_words.specs.WordSeats.{reading, writing, numbers}
 use Rattle.recorder_core.proofs.Joining.{OneMore, one_more}
 use Rattle.recorder_core.proofs.places.Recorder.join_writer.Goals as goal
 

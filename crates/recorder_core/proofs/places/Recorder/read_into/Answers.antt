@@ -1,7 +1,7 @@
 use Rattle.std.proofs.Common.{rules, ◌≡◌, ap, ◌∙◌, arith}
 use Rattle.phaser_core.specs.declared.view.ReporterView.{ReporterView}
 use Rattle.phaser_core.proofs.Coherence.{take_front}
-use Rattle.phaser_words.specs.Seats.{reading, numbers}
+use Rattle.phaser_words.specs.WordSeats.{reading, numbers}
 use Rattle.recorder_core.proofs.Ending.{ends_with}
 use Rattle.recorder_core.proofs.places.Recorder.read_into.Goals as goal
 

@@ -1,5 +1,5 @@
 use Rattle.std.proofs.Common.{◌≡◌, arith, rules, ap}
-use Rattle.var_functions.specs.State.{Functions}
+use Rattle.var_functions.specs.FunctionState.{Functions}
 use Rattle.var_functions.proofs.LaterLaws.{later_count}
 use Rattle.var_functions.proofs.state.FnState.count.Goals as goal
 

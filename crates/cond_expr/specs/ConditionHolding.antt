@@ -4,9 +4,9 @@ use Rattle.cond_expr.specs.declared.cond.Step.{Step}
 use Rattle.cond_expr.specs.declared.parse.Pending.{Pending}
 use Rattle.cond_expr.specs.declared.parse.Pending.TheVariants.{Group, Not, Operator as Left}
 use Rattle.cond_expr.specs.declared.parse.Parser.{Parser}
-use Rattle.cond_expr.specs.Reading.{Reading}
+use Rattle.cond_expr.specs.ConditionTree.{Reading}
 use Rattle.cond_expr.specs.Steps.{steps_of}
-use Rattle.cond_expr.specs.Machine.{Frame, group, negation, left_side, State, awaiting, complete, strength, frame_strength, depth_of}
+use Rattle.cond_expr.specs.ConditionMachine.{Frame, group, negation, left_side, State, awaiting, complete, strength, frame_strength, depth_of}
 
 abbrev pub shape : Frame → Pending
 shape group = Group

@@ -6,7 +6,7 @@ use Rattle.cond_expr.specs.declared.value.Operator.TheVariants.{Or, And, Equal, 
 use Rattle.cond_expr.specs.declared.token.Token.{Token}
 use Rattle.cond_expr.specs.declared.token.Token.TheVariants.{Value, Not, Open, Close, Operate}
 use Rattle.cond_expr.specs.Tokens.{Placed, tokens}
-use Rattle.cond_expr.specs.Reading.{Reading, constant, negated, operated}
+use Rattle.cond_expr.specs.ConditionTree.{Reading, constant, negated, operated}
 
 -- from the weakest to the strongest
 pub data Strength : Type 0 where

@@ -4,7 +4,7 @@ use Rattle.std.specs.List.{list_all}
 use Rattle.std.specs.Char.{is_ascii_digit}
 use Rattle.std.specs.Str.Parse.{digits_value}
 use Rattle.json_path.specs.declared.parse.Parser.{Parser}
-use Rattle.json_path.specs.Machine.{State}
+use Rattle.json_path.specs.PathMachine.{State}
 
 pub record Holds (parser : Parser) (s : State) : Type 0 where
   pub place_is : parser.place ≡ s.place

@@ -2,7 +2,7 @@
 use Rattle.std.specs.Prelude.{◌≡◌, List, [], ◌∷◌, Option, Some, None, option_map, option_and_then}
 use Rattle.clap.specs.Words.{first_of, subcommand_rows_of}
 use Rattle.clap.specs.declared.parser.matches.ArgMatches.{ArgMatches}
-use Rattle.command_words.specs.Grammar.{Word, Given, given_for, value_of}
+use Rattle.command_words.specs.CommandGrammar.{Word, Given, given_for, value_of}
 use Rattle.command_words.specs.Commands.{CommandRule, command_named}
 
 -- the command and what is given for it, before the values are read

@@ -4,7 +4,7 @@ use Rattle.cond_expr.specs.declared.value.CondValue.{CondValue}
 use Rattle.cond_expr.specs.declared.value.CondValue.TheVariants.{Number, Text, Truth}
 use Rattle.cond_expr.specs.declared.value.Operator.{Operator}
 use Rattle.cond_expr.specs.declared.value.Operator.TheVariants.{Or, And, Equal, NotEqual, Less, LessOrEqual, Greater, GreaterOrEqual}
-use Rattle.cond_expr.specs.Reading.{Reading, constant, negated, operated}
+use Rattle.cond_expr.specs.ConditionTree.{Reading, constant, negated, operated}
 use Rattle.std.specs.Option.{option_map}
 use Rattle.std.specs.Ordering.{int_eq}
 

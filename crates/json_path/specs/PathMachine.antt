@@ -6,7 +6,7 @@ use Rattle.json_path.specs.declared.path.Step.{Step}
 use Rattle.json_path.specs.declared.path.Step.TheVariants.{Name, Index, All}
 use Rattle.json_path.specs.declared.parse.Place.{Place}
 use Rattle.json_path.specs.declared.parse.Place.TheVariants.{Start, Between, AfterDot, InName, AfterBracket, InQuotes, AfterQuote, InIndex, AfterStar}
-use Rattle.json_path.specs.Grammar.{is_name_byte}
+use Rattle.json_path.specs.PathGrammar.{is_name_byte}
 
 -- where the reading stands, the steps so far, and the name or the digits of the step that is being read
 pub record State : Type 0 where

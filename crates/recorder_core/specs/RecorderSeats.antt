@@ -9,7 +9,7 @@ use Rattle.phaser_core.specs.declared.view.ReporterStage.TheVariants.{Waiting}
 use Rattle.phaser_core.specs.Views.{AllJoined}
 use Rattle.phaser_core.specs.Shares.{entries_in, Partition}
 use Rattle.phaser_words.specs.RecorderKinds.{lists_of}
-use Rattle.phaser_words.specs.Seats.{writing, reading, numbers, IsWriterOf, IsReporterOf}
+use Rattle.phaser_words.specs.WordSeats.{writing, reading, numbers, IsWriterOf, IsReporterOf}
 use Rattle.recorder_core.specs.declared.places.Recorder.{Recorder}
 use Rattle.recorder_core.specs.declared.places.WriterSeat.{WriterSeat}
 use Rattle.recorder_core.specs.declared.places.ReporterSeat.{ReporterSeat}

@@ -4,7 +4,7 @@ use Rattle.std.specs.Str.Lossy.{utf8_lossy}
 use Rattle.serde_json.specs.Data.{Data, boolean, string, array, object, Items, no_items, item, Members, no_members, member}
 use Rattle.serde_json.specs.Written.{compact_text}
 use Rattle.plan_json.specs.Shape.{Raw, raw, Raws, no_raws, raw_then, type_key, name_key, enabled_key, props_key, children_key}
-use Rattle.element_props.specs.Written.{written}
+use Rattle.element_props.specs.PropertiesWritten.{written}
 use Rattle.element_tree.specs.declared.kinds.Element.{Element}
 use Rattle.element_tree.specs.declared.kinds.Kind.{Kind}
 use Rattle.element_tree.specs.Types.{type_of}

@@ -4,7 +4,7 @@ use Rattle.element_tree.specs.declared.package.Turn.{Turn}
 use Rattle.element_tree.specs.declared.package.Turn.TheVariants.{Child, Round, Over}
 use Rattle.var_functions.specs.Vars.{Variables, put_var}
 use Rattle.logic_controllers.specs.declared.rounds.Rounds.{Rounds}
-use Rattle.cursor_steps.specs.Children.{none_left, pass_over}
+use Rattle.cursor_steps.specs.RunningChildren.{none_left, pass_over}
 
 -- a thread begins at most this many rounds
 abbrev pub most_rounds : ℕ

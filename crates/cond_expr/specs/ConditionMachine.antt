@@ -6,9 +6,9 @@ use Rattle.cond_expr.specs.declared.value.Operator.TheVariants.{Or, And, Equal, 
 use Rattle.cond_expr.specs.declared.token.Token.{Token}
 use Rattle.cond_expr.specs.declared.token.Token.TheVariants.{Value, Not, Open, Close, Operate, Unknown}
 use Rattle.cond_expr.specs.Tokens.{Placed, tokens}
-use Rattle.cond_expr.specs.Reading.{Reading, constant, negated, operated}
-use Rattle.cond_expr.specs.Grammar.{max_depth}
-use Rattle.cond_expr.specs.Meaning.{value_of}
+use Rattle.cond_expr.specs.ConditionTree.{Reading, constant, negated, operated}
+use Rattle.cond_expr.specs.ConditionGrammar.{max_depth}
+use Rattle.cond_expr.specs.ConditionWorth.{value_of}
 
 -- what is open: a parenthesis, a `!`, or an operator with its left side
 pub data Frame : Type 0 where
