@@ -5,4 +5,6 @@ set -eu
 cd "$(dirname "$0")/.."
 . bench/least.sh
 rounds=${1:-20}
-each expand_bench "an expansion"
+each text_cases 'given id 42
+given n 1
+begin' '/item?id=${id}&n=${__intSum(1,${n})}' "an expansion"

@@ -13,13 +13,20 @@ least() {
     echo "$best"
 }
 
-# Builds a program that does a thing as many times as its argument says, and prints how long it takes: `each CRATE THING`.
+# Runs a runner of cases over the lines of a file.
+over() { "$1" <"$2"; }
+
+# How long each of the many times takes that the last line of some cases says, which ends a case `times COUNT ..`:
+# `each RUNNER "LINES" "REST" THING`.
 each() {
     count=1000000
-    log=$(mktemp)
-    trap 'rm -f "$log"' EXIT
-    (cd "crates/$1" && rt run -- 1 >"$log" 2>&1) || { cat "$log"; exit 1; }
+    out=$(mktemp -d)
+    trap 'rm -rf "$out"' EXIT
+    (cd "crates/$1" && rt run <stdin >"$out/log" 2>&1) || { cat "$out/log"; exit 1; }
     program=crates/$1/out/$1
-    took=$(($(least "$program" $count) - $(least "$program" 0)))
-    awk -v t="$took" -v n="$count" -v thing="$2" 'BEGIN { printf "%.0f ns %s, %.0f a second\n", t / n, thing, n * 1e9 / t }'
+    for times in 0 $count; do
+        printf '%s\ntimes %s %s\n' "$2" $times "$3" >"$out/$times"
+    done
+    took=$(($(least over "$program" "$out/$count") - $(least over "$program" "$out/0")))
+    awk -v t="$took" -v n="$count" -v thing="$4" 'BEGIN { printf "%.0f ns %s, %.0f a second\n", t / n, thing, n * 1e9 / t }'
 }

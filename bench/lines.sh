@@ -5,4 +5,5 @@ set -eu
 cd "$(dirname "$0")/.."
 . bench/least.sh
 rounds=${1:-20}
-each lines_bench "a line"
+each line_cases 'plan {"type":"TestPlan","children":[{"type":"ThreadGroup","name":"TG","children":[{"type":"Script","name":"A","props":{"replies":[{}]}}]}]}' \
+    '0|0|1234567|12|0|200|OK|true||345' "a line"

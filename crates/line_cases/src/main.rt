@@ -45,6 +45,7 @@ fn answer(alloc: Global, plan: &Plan, call: &str, given: &str) -> anyhow::Result
         "rows" => counted::rows_case(alloc, given),
         "merge" => counted::merge_case(alloc, given),
         "result" => printed::result_case(alloc, plan, given),
+        "times" => printed::times_case(alloc, plan, given),
         "end" => printed::end_case(alloc, plan, given),
         "report" => printed::report_case(alloc, plan, given),
         "write" => Ok(made::write_case(alloc, plan)?),

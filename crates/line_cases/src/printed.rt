@@ -1,6 +1,6 @@
 // The printed lines.
 
-ghost use Rattle.std.specs.Prelude.{◌<◌, length};
+ghost use Rattle.std.specs.Prelude.{◌<◌, length, IfOk};
 ghost use Rattle.element_tree.specs.Names.{labels_of};
 ghost use Rattle.element_tree.specs.Tree.{threads_of};
 ghost use Rattle.line_cases.specs.Counted.{IsCount};
@@ -54,41 +54,73 @@ fn sample(alloc: Global, fields: &[&str]) -> anyhow::Result<Sample> {
     })
 }
 
-fn result(alloc: Global, plan: &Plan, thread: u16, sample: &Sample, interval: u64) -> M<Vec<u8>>
-    requires thread { thread < length (threads_of plan.now) }
-    requires label { sample.now.label < length (labels_of plan.now.elements) }
-{
-    let mut out = Vec::new(alloc);
-    result_line(alloc, &mut out, plan, thread, sample, interval)?;
-    Ok(out)
+// What a result line says: a sample of a thread, in an interval.
+#[derive(Drop)]
+struct Line {
+    thread: u16,
+    sample: Sample,
+    interval: u64,
 }
 
-/// The line of a sample: the thread, the interval, and then, between `|`, the time stamp, the elapsed time, the label's
-/// number, the code, the message, the success, the failure message and the bytes.
-pub fn result_case(alloc: Global, plan: &Plan, given: &str) -> anyhow::Result<String> {
+// The thread, the interval, and then, between `|`, the time stamp, the elapsed time, the label's number, the code, the message,
+// the success, the failure message and the bytes. The plan has both the thread and the label.
+fn line_in(alloc: Global, plan: &Plan, given: &str) -> anyhow::Result<Line>
+    ensures thread { IfOk result (λ l. l.thread < length (threads_of plan.now)) }
+    ensures label { IfOk result (λ l. l.sample.label < length (labels_of plan.now.elements)) }
+{
     let fields: Vec<&str> = given.split('|').collect(alloc)?;
     let [thread, interval, rest @ ..] = fields.as_slice() else {
         bail!("no sample");
     };
+    let thread = small(thread);
     let sample = sample(alloc, rest)?;
-    let line = result_of(alloc, plan, small(thread), &sample, long(interval))?;
-    let text = text_of(alloc, &line)?;
-    Ok(text)
-}
-
-// The line of a sample of a thread, where the plan has both the thread and the label.
-fn result_of(
-    alloc: Global,
-    plan: &Plan,
-    thread: u16,
-    sample: &Sample,
-    interval: u64,
-) -> anyhow::Result<Vec<u8>> {
     if thread >= plan.threads() || sample.label >= plan.labels() {
         bail!("no such thread or label");
     }
-    let line = result(alloc, plan, thread, sample, interval)?;
-    Ok(line)
+    Ok(Line {
+        thread,
+        sample,
+        interval: long(interval),
+    })
+}
+
+fn put_line(alloc: Global, out: &mut Vec<u8>, plan: &Plan, line: &Line) -> M<()>
+    requires thread { line.now.thread < length (threads_of plan.now) }
+    requires label { line.now.sample.label < length (labels_of plan.now.elements) }
+{
+    result_line(alloc, out, plan, line.thread, &line.sample, line.interval)
+}
+
+/// The line of a sample.
+pub fn result_case(alloc: Global, plan: &Plan, given: &str) -> anyhow::Result<String> {
+    let line = line_in(alloc, plan, given)?;
+    let mut out = Vec::new(alloc);
+    put_line(alloc, &mut out, plan, &line)?;
+    let text = text_of(alloc, &out)?;
+    Ok(text)
+}
+
+// Writes a line that many times, each in the place of the one before, and gives the bytes of all lines.
+fn write_often(alloc: Global, plan: &Plan, line: &Line, count: u32) -> M<u64>
+    requires thread { line.now.thread < length (threads_of plan.now) }
+    requires label { line.now.sample.label < length (labels_of plan.now.elements) }
+{
+    let mut bytes = 0u64;
+    let mut out = Vec::new(alloc);
+    for _ in 0..count {
+        out.clear();
+        put_line(alloc, &mut out, plan, line)?;
+        bytes = bytes.wrapping_add(out.len() as u64);
+    }
+    Ok(bytes)
+}
+
+/// The same line that many times, so that a script can time it: how many bytes they have together.
+pub fn times_case(alloc: Global, plan: &Plan, given: &str) -> anyhow::Result<String> {
+    let (count, rest) = parted(given, ' ');
+    let line = line_in(alloc, plan, rest)?;
+    let bytes = write_often(alloc, plan, &line, whole(count))?;
+    Ok(format!(in alloc; "= {bytes} bytes\n")?)
 }
 
 fn end_of(name: &str) -> anyhow::Result<End> {

@@ -110,6 +110,13 @@ impl Cases {
         expansions::answer(alloc, &text, &mut self.state)
     }
 
+    /// Expands a text in the thread that many times, so that a script can time it.
+    fn times(&mut self, alloc: Global, rest: &str) -> anyhow::Result<String> {
+        let (count, text) = parts(rest);
+        let text = self.text(alloc, text)?;
+        expansions::often(alloc, &text, &mut self.state, count.parse::<u32>()?)
+    }
+
     /// What is printed after a line.
     pub fn run(&mut self, alloc: Global, line: &str) -> anyhow::Result<String> {
         let (word, rest) = parts(line);
@@ -127,6 +134,7 @@ impl Cases {
                 self.expand(alloc, rest)
             }
             "then" => self.expand(alloc, rest),
+            "times" => self.times(alloc, rest),
             "put" => self.put(alloc, rest),
             "get" => {
                 let name = self.text(alloc, rest)?;

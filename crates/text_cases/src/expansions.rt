@@ -3,7 +3,7 @@
 use crate::texts::shown;
 use jm_base::{M, NoMemory, Outcome, Outside, Request, Text};
 use std::alloc::Global;
-use template_text::parse_template;
+use template_text::{Template, parse_template};
 use var_functions::{FnState, Props, PropsError, UserState, VarError, Vars, expand};
 
 /// An outside with a clock alone, which is at 1,000 first and goes on by 7 at each reading. It keeps its readings.
@@ -95,24 +95,29 @@ pub fn properties(alloc: Global, text: &[u8]) -> anyhow::Result<Result<Props, Pr
     Ok(Props::read(alloc, text))
 }
 
-// The expansion alone. What it promises is left out here, so that no proof above carries it along.
-fn expanded(
-    alloc: Global,
-    text: &[u8],
-    state: &mut UserState,
-    clock: &mut Clock,
-) -> anyhow::Result<Result<Text, VarError>> {
+fn template_of(alloc: Global, text: &[u8]) -> anyhow::Result<Template> {
     if text.len() > 65536 {
         anyhow::bail!("the template has more than 65,536 bytes");
     }
     let template = parse_template(alloc, text)?;
-    Ok(expand(alloc, &template, state, clock))
+    Ok(template)
+}
+
+// The expansion alone. What it promises is left out here, so that no proof above carries it along.
+fn expanded(
+    alloc: Global,
+    template: &Template,
+    state: &mut UserState,
+    clock: &mut Clock,
+) -> Result<Text, VarError> {
+    expand(alloc, template, state, clock)
 }
 
 /// What a text expands to, and the readings of the clock.
 pub fn answer(alloc: Global, text: &[u8], state: &mut UserState) -> anyhow::Result<String> {
+    let template = template_of(alloc, text)?;
     let mut clock = Clock::new(alloc);
-    let mut answer = match expanded(alloc, text, state, &mut clock)? {
+    let mut answer = match expanded(alloc, &template, state, &mut clock) {
         Ok(text) => {
             let text = shown(alloc, text.bytes())?;
             format!(in alloc; " => '{text}'")?
@@ -126,6 +131,34 @@ pub fn answer(alloc: Global, text: &[u8], state: &mut UserState) -> anyhow::Resu
         answer.push_str(format!(in alloc; " {reading}")?.as_str())?;
     }
     Ok(answer)
+}
+
+// Expands the template that many times and gives the bytes of all texts.
+fn expand_often(
+    alloc: Global,
+    template: &Template,
+    state: &mut UserState,
+    count: u32,
+) -> Result<u64, VarError> {
+    let mut clock = Clock::new(alloc);
+    let mut bytes = 0u64;
+    for _ in 0..count {
+        let text = expanded(alloc, template, state, &mut clock)?;
+        bytes = bytes.wrapping_add(text.bytes().len() as u64);
+    }
+    Ok(bytes)
+}
+
+/// How many bytes the texts have together that a text expands to when it is expanded that many times.
+pub fn often(
+    alloc: Global,
+    text: &[u8],
+    state: &mut UserState,
+    count: u32,
+) -> anyhow::Result<String> {
+    let template = template_of(alloc, text)?;
+    let bytes = expand_often(alloc, &template, state, count)?;
+    Ok(format!(in alloc; " => {bytes} bytes")?)
 }
 
 /// The value of a variable.
