@@ -2,7 +2,7 @@
 
 ghost use Rattle.std.specs.Prelude.{◌<◌, length, IfOk};
 ghost use Rattle.element_tree.specs.Names.{labels_of};
-ghost use Rattle.element_tree.specs.Tree.{threads_of};
+ghost use Rattle.element_tree.specs.Tree.{threads_of, thread_name_of};
 ghost use Rattle.line_cases.specs.Counted.{IsCount};
 
 use crate::counted::report_in;
@@ -11,7 +11,7 @@ use anyhow::bail;
 use element_tree::Plan;
 use interval_tables::Report;
 use jm_base::{End, M, Sample, Text};
-use output_lines::{end_line, header_line, report_lines, result_line, summary_lines};
+use output_lines::{ResultLines, end_line, header_line, report_lines, result_line, summary_lines};
 use std::alloc::Global;
 
 fn header(alloc: Global) -> M<Vec<u8>> {
@@ -100,26 +100,38 @@ pub fn result_case(alloc: Global, plan: &Plan, given: &str) -> anyhow::Result<St
     Ok(text)
 }
 
-// Writes a line that many times, each in the place of the one before, and gives the bytes of all lines.
-fn write_often(alloc: Global, plan: &Plan, line: &Line, count: u32) -> M<u64>
+// The same line eight times in one text, as lines are printed.
+fn eight_lines(alloc: Global, plan: &Plan, line: &Line, name: &Text) -> M<Vec<u8>>
+    requires thread { line.now.thread < length (threads_of plan.now) }
+    requires label { line.now.sample.label < length (labels_of plan.now.elements) }
+    requires name { name.now ≡ thread_name_of plan.now line.now.thread }
+{
+    let mut lines = ResultLines::new(alloc);
+    for _ in 0..8 {
+        lines.add(plan, line.thread, name, &line.sample, line.interval)?;
+    }
+    lines.into_text()
+}
+
+// How many bytes that many texts of eight lines have together.
+fn write_often(alloc: Global, plan: &Plan, line: &Line, texts: u32) -> M<u64>
     requires thread { line.now.thread < length (threads_of plan.now) }
     requires label { line.now.sample.label < length (labels_of plan.now.elements) }
 {
+    let name = plan.thread_name(alloc, line.thread)?;
     let mut bytes = 0u64;
-    let mut out = Vec::new(alloc);
-    for _ in 0..count {
-        out.clear();
-        put_line(alloc, &mut out, plan, line)?;
-        bytes = bytes.wrapping_add(out.len() as u64);
+    for _ in 0..texts {
+        let text = eight_lines(alloc, plan, line, &name)?;
+        bytes = bytes.wrapping_add(text.len() as u64);
     }
     Ok(bytes)
 }
 
-/// The same line that many times, so that a script can time it: how many bytes they have together.
+/// The same line that many times, eight in one text, so that a script can time it: how many bytes they have together.
 pub fn times_case(alloc: Global, plan: &Plan, given: &str) -> anyhow::Result<String> {
     let (count, rest) = parted(given, ' ');
     let line = line_in(alloc, plan, rest)?;
-    let bytes = write_often(alloc, plan, &line, whole(count))?;
+    let bytes = write_often(alloc, plan, &line, whole(count) / 8)?;
     Ok(format!(in alloc; "= {bytes} bytes\n")?)
 }
 

@@ -5,5 +5,5 @@ pub mod lines;
 pub mod reports;
 pub mod rows;
 
-pub use lines::{end_line, header_line, result_line};
+pub use lines::{ResultLines, end_line, header_line, result_line};
 pub use reports::{report_lines, summary_lines};

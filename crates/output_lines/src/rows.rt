@@ -1,24 +1,64 @@
 // Rows of comma-separated fields.
 
-ghost use Rattle.std.specs.Prelude.{◌≡◌, ◌++◌, map, OnOk, OnErr, IfOk};
+ghost use Rattle.std.specs.Prelude.{◌≡◌, ◌++◌, [], map, Some, None, is_some, option_map, true, OnOk, OnErr, IfOk};
 ghost use Rattle.output_lines.specs.Lines.{csv_line};
 
-use csv::WriterBuilder;
+use csv::{Writer, WriterBuilder};
 use jm_base::{M, NoMemory};
 use std::alloc::Global;
+use std::marker::Model;
 
-// A row as it is printed. A writer over a `Vec` that has written no row before has one reason to refuse a row: out of
-// memory. Its contract leaves the kind of the error open, so no kind is told apart here.
-fn row_bytes(alloc: Global, fields: &[&[u8]]) -> M<Vec<u8>>
-    ensures { IfOk result (λ v. v.items ≡ csv_line (map (λ f. f.now) fields.now)) }
-{
-    let mut writer = WriterBuilder::new().from_writer(Vec::new(alloc));
-    if writer.write_fields(fields).is_err() {
-        return Err(NoMemory);
+/// Rows that are formed one after another in one text. Contracts see the text, and none once memory ran out.
+#[derive(Drop)]
+pub(crate) struct Rows {
+    writer: Writer<Vec<u8>>,
+    spent: bool,
+}
+
+impl Model for Rows {
+    ghost use Rattle.std.specs.Prelude.{◌≡◌, ℕ, List, Option, Some, None, false, if◌then◌else◌};
+    ghost use Rattle.csv.specs.Writing.{text_written, fields_written, has_written, writer_setup, default_writer};
+
+    ghost Value = { Option (List ℕ) };
+
+    ghost view = { λ r. if r.spent then None else text_written (λ v. Some v.items) r.writer };
+
+    ghost invariant = { λ r. r.spent ≡ false → (fields_written r.writer ≡ 0) × (has_written r.writer ≡ false) × (writer_setup r.writer ≡ default_writer) };
+}
+
+impl Rows {
+    pub(crate) fn new(alloc: Global) -> Rows
+        ensures { result ≡ Some [] }
+    {
+        Rows {
+            writer: WriterBuilder::new().from_writer(Vec::new(alloc)),
+            spent: false,
+        }
     }
-    match writer.into_inner() {
-        Ok(text) => Ok(text),
-        Err(_) => Err(NoMemory),
+
+    // Adds a row. A writer over a `Vec` has one reason to refuse a row: out of memory. Its contract leaves the kind of the
+    // error open, so no kind is told apart here.
+    pub(crate) fn push(&mut self, fields: &[&[u8]]) -> M<()>
+        requires { is_some self.old ≡ true }
+        ensures ok { OnOk result (self.new ≡ option_map (λ text. text ++ csv_line (map (λ f. f.now) fields.now)) self.old) }
+        ensures err { OnErr result (self.new ≡ None) }
+    {
+        if self.writer.write_fields(fields).is_err() {
+            self.spent = true;
+            return Err(NoMemory);
+        }
+        Ok(())
+    }
+
+    pub(crate) fn into_text(self) -> M<Vec<u8>>
+        requires { is_some self ≡ true }
+        ensures { IfOk result (λ text. self ≡ Some text.items) }
+    {
+        let Rows { writer, .. } = self;
+        match writer.into_inner() {
+            Ok(text) => Ok(text),
+            Err(_) => Err(NoMemory),
+        }
     }
 }
 
@@ -27,7 +67,9 @@ pub fn push_row(alloc: Global, out: &mut Vec<u8>, fields: &[&[u8]]) -> M<()>
     ensures ok { OnOk result (out.new.items ≡ out.old.items ++ csv_line (map (λ f. f.now) fields.now)) }
     ensures err { OnErr result (out.new.items ≡ out.old.items) }
 {
-    let text = row_bytes(alloc, fields)?;
+    let mut rows = Rows::new(alloc);
+    rows.push(fields)?;
+    let text = rows.into_text()?;
     out.extend_from_slice(&text)?;
     Ok(())
 }

@@ -1,6 +1,8 @@
 -- Texts that are put one after the other.
 use Rattle.std.proofs.Common.{◌≡◌, ℕ, ◌+◌, ◌<◌, List, [], ◌∷◌, ◌++◌, length, get_or, take, drop, Option, refl, sym, ap, ◌∙◌, append_assoc, subst, add-one, suc, arith}
-use Rattle.std.proofs.Math.Seq.{take-suc}
+use Rattle.std.specs.Prelude.{All}
+use Rattle.std.proofs.Math.Seq.{take-suc, take-append_seam, drop-append_seam}
+use Rattle.std.proofs.lemmas.List.Elements.{All-take, All-drop}
 use Rattle.std.proofs.lemmas.List.{append-nil, take-append-drop, length-take-le}
 use Rattle.std.proofs.lemmas.Grind.{flat_map-append}
 use Rattle.jm_base.specs.FaultCounts.{Rose}
@@ -45,43 +47,48 @@ cut_more s t r u v w p c = record { part = part_more u.written v.written w.writt
 
 -- ---- a trace, item by item
 
-module _ (plan : Tree) (thread : ℕ) (trace : List TraceItem) (i : ℕ) (item : TraceItem) (within : i < length trace) where
-  pub lines_more : trace_text plan thread (take (i + 1) trace) ≡ trace_text plan thread (take i trace) ++ line_of plan thread (get_or trace i item)
-  lines_more =
-      ap (λ n. trace_text plan thread (take n trace)) (add-one i)
-      ∙ ap (trace_text plan thread) (take-suc trace i item within)
-      ∙ flat_map-append (line_of plan thread) (take i trace) (get_or trace i item ∷ [])
-      ∙ ap (λ l. trace_text plan thread (take i trace) ++ l) (append-nil (line_of plan thread (get_or trace i item)))
+pub lines_more : (plan : Tree) (thread : ℕ) (trace : List TraceItem) (i : ℕ) (item : TraceItem) → i < length trace
+    → trace_text plan thread (take (i + 1) trace) ≡ trace_text plan thread (take i trace) ++ line_of plan thread (get_or trace i item)
+lines_more plan thread trace i item within =
+    ap (λ n. trace_text plan thread (take n trace)) (add-one i)
+    ∙ ap (trace_text plan thread) (take-suc trace i item within)
+    ∙ flat_map-append (line_of plan thread) (take i trace) (get_or trace i item ∷ [])
+    ∙ ap (λ l. trace_text plan thread (take i trace) ++ l) (append-nil (line_of plan thread (get_or trace i item)))
 
-  -- the lines up to an item, its own, and those after it
-  lines_split : trace_text plan thread trace
-      ≡ trace_text plan thread (take i trace) ++ (line_of plan thread (get_or trace i item) ++ trace_text plan thread (drop (i + 1) trace))
-  lines_split =
-      ap (trace_text plan thread) (sym (take-append-drop (i + 1) trace))
-      ∙ flat_map-append (line_of plan thread) (take (i + 1) trace) (drop (i + 1) trace)
-      ∙ ap (λ l. l ++ trace_text plan thread (drop (i + 1) trace)) lines_more
-      ∙ append_assoc (trace_text plan thread (take i trace)) (line_of plan thread (get_or trace i item)) (trace_text plan thread (drop (i + 1) trace))
+-- ---- a trace, a few items at a time
 
-  module _ (here : item ≡ get_or trace i item) (u v w : Way) (before : IsPut (trace_text plan thread (take i trace)) u v) where
-    abbrev rest : List ℕ
-    rest = trace_text plan thread (drop (i + 1) trace)
+module _ (plan : Tree) (thread : ℕ) (trace left items rest : List TraceItem) (parts : left ≡ items ++ rest) (done : List ℕ)
+    (so_far : done ++ trace_text plan thread left ≡ trace_text plan thread trace) where
+  abbrev own : List ℕ
+  own = trace_text plan thread items
 
-    -- its own line is put, too
-    pub next_put : IsPut (line_of plan thread item) v w → IsPut (trace_text plan thread (take (i + 1) trace)) u w
-    next_put p =
-        let own = subst (λ x. IsPut (line_of plan thread x) v w) here p in
-        subst (λ l. IsPut l u w) (sym lines_more) (put_more (trace_text plan thread (take i trace)) (line_of plan thread (get_or trace i item)) u v w before own)
+  abbrev more : List ℕ
+  more = trace_text plan thread rest
 
-    pub next_failed : IsFailed (line_of plan thread item) v w → IsFailed (trace_text plan thread trace) u w
-    next_failed f =
-        let own = subst (λ x. IsFailed (line_of plan thread x) v w) here f in
-        let wide = failed_wider (line_of plan thread (get_or trace i item)) rest v w own in
-        subst (λ l. IsFailed l u w) (sym lines_split) (failed_more (trace_text plan thread (take i trace)) (line_of plan thread (get_or trace i item) ++ rest) u v w before wide)
+  -- the lines up to these items, their own, and those after them
+  lines_split : done ++ (own ++ more) ≡ trace_text plan thread trace
+  lines_split = ap (λ l. done ++ l) (sym (ap (trace_text plan thread) parts ∙ flat_map-append (line_of plan thread) items rest)) ∙ so_far
 
-    pub next_cut : IsCut (line_of plan thread item) v w → IsCut (trace_text plan thread trace) u w
-    next_cut c =
-        let own = subst (λ x. IsCut (line_of plan thread x) v w) here c in
-        subst (λ l. IsCut l u w) (sym lines_split) (cut_more (trace_text plan thread (take i trace)) (line_of plan thread (get_or trace i item)) rest u v w before own)
+  pub next_left : (done ++ own) ++ more ≡ trace_text plan thread trace
+  next_left = append_assoc done own more ∙ lines_split
+
+  module _ (u v w : Way) (before : IsPut done u v) where
+    -- their own lines are put, too
+    pub next_put : IsPut own v w → IsPut (done ++ own) u w
+    next_put p = put_more done own u v w before p
+
+    pub next_failed : IsFailed own v w → IsFailed (trace_text plan thread trace) u w
+    next_failed f = subst (λ l. IsFailed l u w) lines_split (failed_more done (own ++ more) u v w before (failed_wider own more v w f))
+
+    pub next_cut : IsCut own v w → IsCut (trace_text plan thread trace) u w
+    next_cut c = subst (λ l. IsCut l u w) lines_split (cut_more done own more u v w before c)
+
+-- what holds of all items holds of the first of them and of the rest
+pub all_parts : {X : Type 0} (P : X → Type 0) → (xs ys : List X) → All P (xs ++ ys) → All P xs × All P ys
+all_parts P xs ys all = (
+  subst (All P) (take-append_seam xs ys) (All-take P (length xs) (xs ++ ys) all),
+  subst (All P) (drop-append_seam xs ys) (All-drop P (length xs) (xs ++ ys) all),
+)
 
 -- ---- the elements of a list, each by its number
 

@@ -1,9 +1,9 @@
 // Result lines.
 
-ghost use Rattle.std.specs.Prelude.{◌≡◌, ◌<◌, ◌++◌, All, length, OnOk, IsErrOf};
-ghost use Rattle.element_tree.specs.Tree.{threads_of};
+ghost use Rattle.std.specs.Prelude.{◌≡◌, ◌<◌, ◌++◌, All, length, is_some, option_map, true, IfOk, OnOk, IsErrOf};
+ghost use Rattle.element_tree.specs.Tree.{threads_of, thread_name_of};
 ghost use Rattle.element_tree.specs.Names.{labels_of};
-ghost use Rattle.output_lines.specs.Lines.{header_text, result_text};
+ghost use Rattle.output_lines.specs.Lines.{header_text};
 ghost use Rattle.thread_machine.specs.Bare.{IsLabelled};
 ghost use Rattle.trace_output.specs.Texts.{line_of, trace_text, traces_text};
 ghost use Rattle.trace_output.specs.Printing.{way, IsPut, IsFailed, IsCut, TextOut, TextFailed, TextCut};
@@ -12,11 +12,14 @@ use crate::error::PrintError;
 use crate::line::{finish, put_lines};
 use edge_io::Sink;
 use element_tree::Plan;
-use jm_base::{Items, Sample};
+use jm_base::{Items, M, Text};
 use line_output::Pending;
-use output_lines::{header_line, result_line};
+use output_lines::{ResultLines, header_line};
 use std::alloc::Global;
 use thread_machine::TraceItem;
+
+// How many items are printed together: a result line has less than 3 KiB, so that these and what is held back have less than 64.
+const AT_ONCE: usize = 8;
 
 /// Prints the header and a line for each sample of a thread's trace, in its order, with the interval in which the sample
 /// was counted. Where memory runs out a prefix of this is out; where the sink fails, too.
@@ -135,36 +138,75 @@ fn put_trace<K: Sink>(
         (way (K.written sink.old) (K.faults sink.old) pending.old)
         (way (K.written sink.new) (K.faults sink.new) pending.new) }
 {
-    for item in trace {
-        put_item(alloc, pending, sink, plan, thread, item)?;
+    let Ok(name) = plan.thread_name(alloc, thread) else {
+        return Err(PrintError::NoMemory);
+    };
+    for items in trace.chunks(AT_ONCE) {
+        put_items(alloc, pending, sink, plan, thread, &name, items)?;
     }
     Ok(())
 }
 
-// Puts the line of an item, if it is a sample.
-fn put_item<K: Sink>(
+// Puts the line of each sample of a few items of a trace.
+fn put_items<K: Sink>(
     alloc: Global,
     pending: &mut Pending,
     sink: &mut K,
     plan: &Plan,
     thread: u16,
-    item: &TraceItem,
+    name: &Text,
+    items: &[TraceItem],
 ) -> Result<(), PrintError>
     requires thread { thread < length (threads_of plan.now) }
-    requires label { IsLabelled (length (labels_of plan.now.elements)) item.now }
-    ensures put { OnOk result (IsPut (line_of plan.now thread item.now)
+    requires labels { All (IsLabelled (length (labels_of plan.now.elements))) items.now }
+    requires name { name.now ≡ thread_name_of plan.now thread }
+    ensures put { OnOk result (IsPut (trace_text plan.now thread items.now)
         (way (K.written sink.old) (K.faults sink.old) pending.old)
         (way (K.written sink.new) (K.faults sink.new) pending.new)) }
-    ensures failed { IsErrOf result PrintError.WriteFault → IsFailed (line_of plan.now thread item.now)
+    ensures failed { IsErrOf result PrintError.WriteFault → IsFailed (trace_text plan.now thread items.now)
         (way (K.written sink.old) (K.faults sink.old) pending.old)
         (way (K.written sink.new) (K.faults sink.new) pending.new) }
-    ensures cut { IsErrOf result PrintError.NoMemory → IsCut (line_of plan.now thread item.now)
+    ensures cut { IsErrOf result PrintError.NoMemory → IsCut (trace_text plan.now thread items.now)
         (way (K.written sink.old) (K.faults sink.old) pending.old)
         (way (K.written sink.new) (K.faults sink.new) pending.new) }
 {
+    let Ok(lines) = lines_of(alloc, plan, thread, name, items) else {
+        return Err(PrintError::NoMemory);
+    };
+    put_lines(pending, sink, &lines)
+}
+
+// The line of each sample of these items.
+fn lines_of(alloc: Global, plan: &Plan, thread: u16, name: &Text, items: &[TraceItem]) -> M<Vec<u8>>
+    requires thread { thread < length (threads_of plan.now) }
+    requires labels { All (IsLabelled (length (labels_of plan.now.elements))) items.now }
+    requires name { name.now ≡ thread_name_of plan.now thread }
+    ensures { IfOk result (λ lines. lines.items ≡ trace_text plan.now thread items.now) }
+{
+    let mut lines = ResultLines::new(alloc);
+    for item in items {
+        add_line(&mut lines, plan, thread, name, item)?;
+    }
+    lines.into_text()
+}
+
+// Adds the line of an item, if it is a sample.
+fn add_line(
+    lines: &mut ResultLines,
+    plan: &Plan,
+    thread: u16,
+    name: &Text,
+    item: &TraceItem,
+) -> M<()>
+    requires kept { is_some lines.old ≡ true }
+    requires thread { thread < length (threads_of plan.now) }
+    requires label { IsLabelled (length (labels_of plan.now.elements)) item.now }
+    requires name { name.now ≡ thread_name_of plan.now thread }
+    ensures { OnOk result (lines.new ≡ option_map (λ text. text ++ line_of plan.now thread item.now) lines.old) }
+{
     match item {
         TraceItem::Sampled { sample, interval } => {
-            put_sample(alloc, pending, sink, plan, thread, sample, *interval)
+            lines.add(plan, thread, name, sample, *interval)
         }
         TraceItem::Paused(_)
         | TraceItem::Null { .. }
@@ -172,33 +214,4 @@ fn put_item<K: Sink>(
         | TraceItem::Left { .. }
         | TraceItem::Ended(_) => Ok(()),
     }
-}
-
-// Puts the line of a sample.
-fn put_sample<K: Sink>(
-    alloc: Global,
-    pending: &mut Pending,
-    sink: &mut K,
-    plan: &Plan,
-    thread: u16,
-    sample: &Sample,
-    interval: u64,
-) -> Result<(), PrintError>
-    requires thread { thread < length (threads_of plan.now) }
-    requires label { sample.now.label < length (labels_of plan.now.elements) }
-    ensures put { OnOk result (IsPut (result_text plan.now thread sample.now interval)
-        (way (K.written sink.old) (K.faults sink.old) pending.old)
-        (way (K.written sink.new) (K.faults sink.new) pending.new)) }
-    ensures failed { IsErrOf result PrintError.WriteFault → IsFailed (result_text plan.now thread sample.now interval)
-        (way (K.written sink.old) (K.faults sink.old) pending.old)
-        (way (K.written sink.new) (K.faults sink.new) pending.new) }
-    ensures cut { IsErrOf result PrintError.NoMemory → IsCut (result_text plan.now thread sample.now interval)
-        (way (K.written sink.old) (K.faults sink.old) pending.old)
-        (way (K.written sink.new) (K.faults sink.new) pending.new) }
-{
-    let mut line = Vec::new(alloc);
-    if result_line(alloc, &mut line, plan, thread, sample, interval).is_err() {
-        return Err(PrintError::NoMemory);
-    }
-    put_lines(pending, sink, &line)
 }

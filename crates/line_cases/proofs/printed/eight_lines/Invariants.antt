@@ -1,0 +1,7 @@
+use Rattle.std.proofs.Common.{◌≡◌, true}
+use Rattle.std.specs.Prelude.{is_some}
+use Rattle.line_cases.proofs.printed.eight_lines.Given as goal
+
+-- the lines so far are kept
+abbrev pub invariant-loop-0 : goal.invariant-loop-0
+invariant-loop-0 l = is_some l.lines ≡ true
