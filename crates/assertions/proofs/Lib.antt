@@ -1,0 +1,2 @@
+pub mod ByPatternsLaws
+pub mod TogetherLaws

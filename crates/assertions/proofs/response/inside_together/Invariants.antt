@@ -1,0 +1,8 @@
+use Rattle.std.proofs.Common.{◌≡◌, drop}
+use Rattle.element_props.specs.declared.choices.TestKind.TheVariants.{Substring}
+use Rattle.assertions.specs.Judging.{turned, together, meets}
+use Rattle.assertions.proofs.response.inside_together.Given as goal
+
+abbrev pub invariant-patterns : goal.invariant-patterns
+invariant-patterns l = together l.fn.either (λ tried. turned l.fn.negate (meets Substring l.fn.text tried)) (drop l.pattern-index l.fn.patterns)
+    ≡ together l.fn.either (λ tried. turned l.fn.negate (meets Substring l.fn.text tried)) l.fn.patterns

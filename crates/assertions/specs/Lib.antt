@@ -1,0 +1,2 @@
+pub mod ByPatterns
+pub mod Judging
