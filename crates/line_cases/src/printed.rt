@@ -1,6 +1,6 @@
 // The printed lines.
 
-ghost use Rattle.std.specs.Prelude.{◌<◌, length, IfOk};
+ghost use Rattle.std.specs.Prelude.{◌≡◌, ◌<◌, length, IfOk};
 ghost use Rattle.element_tree.specs.Names.{labels_of};
 ghost use Rattle.element_tree.specs.Tree.{threads_of, thread_name_of};
 ghost use Rattle.line_cases.specs.Counted.{IsCount};

@@ -3,5 +3,5 @@ use Rattle.std.specs.Prelude.{is_some}
 use Rattle.line_cases.proofs.printed.eight_lines.Given as goal
 
 -- the lines so far are kept
-abbrev pub invariant-loop-0 : goal.invariant-loop-0
-invariant-loop-0 l = is_some l.lines ≡ true
+abbrev pub invariant-loop : goal.invariant-loop
+invariant-loop l = is_some l.lines ≡ true
