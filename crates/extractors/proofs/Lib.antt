@@ -1,0 +1,5 @@
+pub mod FilledLaws
+pub mod MatchLaws
+pub mod RemovedLaws
+pub mod SetLaws
+pub mod TakingLaws
