@@ -1,0 +1,85 @@
+// The assertions of lines.
+
+use crate::calls::holds;
+use crate::extractors_read::field_of;
+use crate::words::{at, bytes_of, pattern_of};
+use assertions::Answer;
+use element_props::{Pattern, choice_of};
+use element_tree::{Assertion, Comparison, TestKind};
+use jm_base::{Items, Text};
+use std::alloc::Global;
+
+/// The texts of patterns.
+fn texts_of(alloc: Global, patterns: &[&str]) -> anyhow::Result<Vec<Text>> {
+    let mut texts = Vec::new(alloc);
+    for pattern in patterns {
+        texts.push(Text::of(bytes_of(alloc, pattern)?))?;
+    }
+    Ok(texts)
+}
+
+/// What is made of each text, between two others.
+fn regexes_of(
+    alloc: Global,
+    texts: &[Text],
+    before: &[u8],
+    after: &[u8],
+) -> anyhow::Result<Vec<Pattern>> {
+    let mut made = Vec::new(alloc);
+    for text in texts {
+        let mut whole = Vec::from_slice(alloc, before)?;
+        whole.extend_from_slice(text.bytes())?;
+        whole.extend_from_slice(after)?;
+        made.push(pattern_of(alloc, &whole)?)?;
+    }
+    Ok(made)
+}
+
+/// `check response TEST FIELD FLAGS PATTERN ..`
+fn response_of(alloc: Global, fields: &[&str]) -> anyhow::Result<Assertion> {
+    let Some(test) = choice_of::<TestKind>(at(fields, 2)) else {
+        anyhow::bail!("no such test");
+    };
+    let flags = at(fields, 4);
+    let texts = texts_of(alloc, fields.get(5..).unwrap_or(&[]))?;
+    let found = matches!(test, TestKind::Contains | TestKind::Matches);
+    let whole = matches!(test, TestKind::Matches);
+    let regexes = regexes_of(alloc, if found { &texts } else { &[] }, b"", b"")?;
+    let whole_regexes = regexes_of(alloc, if whole { &texts } else { &[] }, b"\\A(?:", b")\\z")?;
+    Ok(Assertion::Response {
+        field: field_of(at(fields, 3))?,
+        ignore_status: flags.contains('i'),
+        not: flags.contains('n'),
+        or: flags.contains('o'),
+        patterns: Items::of(texts),
+        regexes: Items::of(regexes),
+        test,
+        whole_regexes: Items::of(whole_regexes),
+    })
+}
+
+/// `check duration MS`, `check size OP SIZE`
+fn assertion_of(alloc: Global, fields: &[&str]) -> anyhow::Result<Assertion> {
+    match at(fields, 1) {
+        "response" => response_of(alloc, fields),
+        "duration" => Ok(Assertion::Duration {
+            ms: at(fields, 2).parse::<u32>()?,
+        }),
+        _ => {
+            let Some(op) = choice_of::<Comparison>(at(fields, 2)) else {
+                anyhow::bail!("no such comparison");
+            };
+            let size = at(fields, 3).parse::<u32>()?;
+            Ok(Assertion::Size { op, size })
+        }
+    }
+}
+
+/// Whether an assertion holds of an answer.
+pub fn checked(alloc: Global, fields: &[&str], answer: &Answer) -> anyhow::Result<String> {
+    let assertion = assertion_of(alloc, fields)?;
+    match holds(alloc, &assertion, answer) {
+        Ok(held) => Ok(format!(in alloc; "{held}")?),
+        Err(_) => Ok(format!(in alloc; "no memory")?),
+    }
+}

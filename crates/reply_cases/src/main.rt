@@ -1,0 +1,37 @@
+//! Runs the cases of extractors and assertions. Each line of the input is a call or what the calls after it are made on; its
+//! fields are parted by one tab. A byte of a field may be written as `\n`, `\xNN` and so on, a backslash as `\\`, and a
+//! field `@N:TEXT` is the text N times, `@N:TEXT@M:TEXT` such texts one after another.
+//!
+//! - `vars NAME=VALUE ..`: the variables, anew.
+//! - `reply CODE MESSAGE HEADERS BODY ELAPSED`: the reply.
+//! - `regex REF PATTERN TEMPLATE MATCH FIELD PICK [DEFAULT]`, `json REF PATH MATCH PICK [DEFAULT]`,
+//!   `bounds REF LEFT RIGHT MATCH FIELD PICK [DEFAULT]`: an extractor on the variables as they stand. It prints `ok`, `limit` or
+//!   `no memory`, and the variables that are defined of those that the call may set: `REF` and what begins with it, up to match 4
+//!   and group 3; and those that the last line `look NAME ..` has.
+//! - `check response TEST FIELD FLAGS PATTERN ..`, `check duration MS`, `check size OP SIZE`: an assertion, with flags `n`, `o`
+//!   and `i` for `not`, `or` and `ignoreStatus`, or `-`. It prints whether it holds.
+//! - `repeat N`: each extractor after it is called N times.
+//!
+//! Any other line is for a reader alone. A value of more than 60 bytes is shown by its length and its first 8 bytes.
+#![tactic(auto)]
+
+mod calls;
+mod cases;
+mod checks;
+mod extractors_read;
+mod shown;
+mod words;
+
+use cases::Cases;
+
+fn main(rt: HostRuntime) -> anyhow::Result<()> {
+    let mut cases = Cases::new(rt.alloc())?;
+    for line in rt.lines(rt.alloc()) {
+        let line = line?;
+        let answer = cases.run(rt.alloc(), line.as_str())?;
+        if !answer.is_empty() {
+            println!(rt; "{answer}")?;
+        }
+    }
+    Ok(())
+}
