@@ -24,7 +24,7 @@ abbrev joined : Word → Option Word → Word
 joined name None = name
 joined name (Some value) = name ++ equals_sign ∷ value
 
--- one byte more before the name
+-- one more byte before the name
 name_and_value-step : (x : ℕ) (text : Word) → (x == equals_sign) ≡ false → name_and_value (x ∷ text) ≡ (x ∷ (name_and_value text).0, (name_and_value text).1)
 name_and_value-step x text e =
     let place = position_or_len (λ b. b == equals_sign) text in

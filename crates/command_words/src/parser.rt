@@ -23,7 +23,7 @@ fn text_option<'a>(alloc: Global, name: &'static str) -> Arg<'a>
         .value_parser(ValueParser::NonEmptyString)
 }
 
-/// The command with one option more.
+/// The command with one more option.
 fn with_option<'a>(
     alloc: Global,
     command: Command<'a>,
@@ -37,7 +37,7 @@ fn with_option<'a>(
     Ok(command)
 }
 
-/// The program with one command more.
+/// The program with one more command.
 fn with_command<'a>(program: Command<'a>, command: Command<'a>) -> Result<Command<'a>, AllocError>
     requires { (fields_of command).has_globals ≡ false }
     ensures app { IfOk result (λ c. app_of c ≡ with_subcommand (app_of program.entry) (shape_of command.entry)) }

@@ -16,7 +16,7 @@ impl Settings {
         }
     }
 
-    /// One setting more. `children` and `plan` begin anew.
+    /// One more setting. `children` and `plan` begin anew.
     pub fn put(&mut self, alloc: Global, name: &str, value: &str) -> anyhow::Result<()> {
         if name == "children" || name == "plan" {
             self.pairs.clear();

@@ -22,7 +22,7 @@ impl Lines {
         }
     }
 
-    /// One line more.
+    /// One more line.
     pub fn add(&mut self, alloc: Global, line: String) -> anyhow::Result<()> {
         if self.count > 0 && self.last.as_str() == line.as_str() {
             self.count = self.count.saturating_add(1);

@@ -35,7 +35,7 @@ use Rattle.jm_meaning.specs.declared.signal.Signal.TheVariants.{Normal}
 use Rattle.control_machine.specs.Cursors.{tally_in, round_left, while_left_in, each_left_in}
 use Rattle.control_machine.specs.Left.{left_in, here_in, own_at, state_at, closing, label_at}
 use Rattle.control_machine.specs.Turns.{left_from}
-use Rattle.control_machine.specs.Cut.{Place, between_turns, left_at, IsCut, IsCutIn}
+use Rattle.control_machine.specs.MachineCut.{Place, between_turns, left_at, IsCut, IsCutIn}
 use Rattle.control_machine.proofs.Following.{left_normal}
 use Rattle.control_machine.proofs.StackLaws.{left_by, innermost}
 

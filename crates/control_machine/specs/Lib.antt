@@ -6,4 +6,4 @@ pub mod Load
 pub mod Entering
 pub mod Turns
 pub mod Hearing
-pub mod Cut
+pub mod MachineCut

@@ -12,7 +12,7 @@ ghost use Rattle.control_machine.specs.Moves.{turned, past};
 ghost use Rattle.control_machine.specs.Cursors.{cursor_left, tally_in, begun_of, round_in, FitsKind};
 ghost use Rattle.control_machine.specs.Load.{children_left, TakesChild};
 ghost use Rattle.control_machine.specs.Hearing.{hearing};
-ghost use Rattle.control_machine.specs.Cut.{IsCutIn};
+ghost use Rattle.control_machine.specs.MachineCut.{IsCutIn};
 
 use crate::transaction::OpenTransaction;
 use choice_controllers::{InterleaveCursor, OrderCursor, RandomCursor, SwitchCursor};

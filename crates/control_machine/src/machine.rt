@@ -13,7 +13,7 @@ ghost use Rattle.control_machine.specs.Left.{StandsIn, left_of, state_at, moved,
 ghost use Rattle.control_machine.specs.Turns.{Lightens, TakesRound, IsRoundless, IsNormalAt, IsNormalOn, IsRoundOf, IsRoundIn, went, IsWent, signal_left};
 ghost use Rattle.control_machine.specs.Load.{load_of};
 ghost use Rattle.control_machine.specs.Hearing.{told};
-ghost use Rattle.control_machine.specs.Cut.{IsCut};
+ghost use Rattle.control_machine.specs.MachineCut.{IsCut};
 
 use crate::moves::{Leave, Move};
 use crate::stack::Stack;

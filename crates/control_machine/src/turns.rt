@@ -18,7 +18,7 @@ ghost use Rattle.control_machine.specs.Moves.{past};
 ghost use Rattle.control_machine.specs.Left.{StandsIn, GroupIsOpen, IsOpen, left_of, left_after, state_at, moved, IsMove, here_in};
 ghost use Rattle.control_machine.specs.Turns.{Lightens, TakesRound, IsRoundless, IsNormalAt, IsNormalOn, IsRoundOf, IsRoundIn, went, IsWent, closing_of, left_from, left_answered, load_in, IsOpened};
 ghost use Rattle.control_machine.specs.Load.{children_left, TakesChild, load_of};
-ghost use Rattle.control_machine.specs.Cut.{IsCut};
+ghost use Rattle.control_machine.specs.MachineCut.{IsCut};
 
 use crate::cursor::Cursor;
 use crate::enter::{Entered, enter};

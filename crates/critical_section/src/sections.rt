@@ -38,7 +38,7 @@ impl Sections {
         Ok((Sections { table }, SectionSeat { seat }))
     }
 
-    /// Makes one seat more, for another thread.
+    /// Makes one more seat, for another thread.
     pub fn split_seat(&self, first: &mut SectionSeat) -> SectionSeat
         requires seat { IsSeatOf self.now first.old }
         requires first { IsFirst (view_of first.old) }

@@ -4,7 +4,7 @@ use Rattle.std.specs.Prelude.{bytes_eq, map, option_map, slice_get}
 use Rattle.std.specs.List.{list_any}
 use Rattle.std.proofs.lemmas.Slice.Eq.{bytes_eq-Decides}
 use Rattle.std.proofs.lemmas.Option.{slice_get-map}
-use Rattle.element_props.specs.Choices.{named, word_in}
+use Rattle.element_props.specs.ChoiceTexts.{named, word_in}
 
 module _ {C : Type 0} (word : C → List ℕ) (text : List ℕ) where
   -- a text that is one of them is the text of the value that it stands for

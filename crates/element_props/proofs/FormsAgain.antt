@@ -16,7 +16,7 @@ use Rattle.template_text.proofs.Readings.{reading_is}
 use Rattle.element_props.specs.declared.prop.Prop.{Prop}
 use Rattle.element_props.specs.declared.prop.Prop.TheVariants as props
 use Rattle.element_props.specs.declared.prop.Pair.{Pair}
-use Rattle.element_props.specs.Choices.{word_in}
+use Rattle.element_props.specs.ChoiceTexts.{word_in}
 use Rattle.element_props.specs.Conditions.{bad_condition}
 use Rattle.element_props.specs.Forms.{has_long, items_have_long, number_text, template_text, filled_text, within, whole_within, pair_from, pair_in, all_of, few_of, path_text, table_text, bad_pair}
 use Rattle.element_props.specs.PropertiesWritten.{text_data, pair_data, items_by, value_data}

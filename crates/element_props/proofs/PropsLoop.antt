@@ -7,7 +7,7 @@ use Rattle.serde_json.specs.Find.{get, get_member}
 use Rattle.element_props.specs.declared.error.BuildError.{BuildError}
 use Rattle.element_props.specs.declared.error.BuildError.TheVariants as errors
 use Rattle.element_props.specs.declared.prop.Prop.{Prop}
-use Rattle.element_props.specs.Named.{NamedValue, ◌holds◌}
+use Rattle.element_props.specs.NamedProps.{NamedValue, ◌holds◌}
 use Rattle.element_props.specs.declared.rows.Row.{Row}
 use Rattle.element_props.specs.FormRows as table
 use Rattle.element_props.specs.RowsSeen.{row_seen, presence_seen}

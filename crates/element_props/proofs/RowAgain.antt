@@ -12,7 +12,7 @@ use Rattle.element_props.specs.declared.prop.Prop.{Prop}
 use Rattle.element_props.specs.declared.prop.Prop.TheVariants as props
 use Rattle.element_props.specs.declared.prop.Pair.{Pair}
 use Rattle.element_props.specs.Forms.{has_long, items_have_long, is_too_long, template_text, filled_text, whole_within, pair_in, all_of, few_of, path_text, table_text, has_reference, up_to_bound, list_len, is_test, whole_of}
-use Rattle.element_props.specs.Choices.{word_in}
+use Rattle.element_props.specs.ChoiceTexts.{word_in}
 use Rattle.element_props.specs.Replies.{reply_in}
 use Rattle.element_props.specs.Props.{absent_value, is_template, is_required}
 use Rattle.element_props.specs.PropertiesWritten.{text_data, pair_data, reply_data, items_by, value_data, unless, int_eq, same_truth, is_default}

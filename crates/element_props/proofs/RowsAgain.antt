@@ -13,10 +13,10 @@ use Rattle.element_props.specs.declared.choices.TestKind.{TestKind}
 use Rattle.element_props.specs.declared.choices.TestKind.TheVariants as kinds
 use Rattle.element_props.specs.declared.prop.Prop.{Prop}
 use Rattle.element_props.specs.declared.prop.Prop.TheVariants as props
-use Rattle.element_props.specs.Named.{NamedValue, ◌holds◌}
+use Rattle.element_props.specs.NamedProps.{NamedValue, ◌holds◌}
 use Rattle.element_props.specs.Reads.{outcome}
 use Rattle.element_props.specs.Forms.{has_long, whole_within, all_of, few_of}
-use Rattle.element_props.specs.Choices.{word_in, test_word, tests}
+use Rattle.element_props.specs.ChoiceTexts.{word_in, test_word, tests}
 use Rattle.element_props.specs.Props.{is_required, has_row, unknown, missing, own_properties}
 use Rattle.element_props.specs.PropertiesWritten.{unless, is_default, value_data, entry, with_entry, written}
 use Rattle.element_props.specs.FormRows.{Row, Form, whole, up_to, choice, test_patterns, texts, csv, Presence, required, number_default, largest, ◌is◌otherwise◌}

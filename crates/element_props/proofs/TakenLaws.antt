@@ -9,7 +9,7 @@ use Rattle.element_props.specs.declared.error.BuildError.TheVariants as errors
 use Rattle.element_props.specs.declared.prop.Prop.{Prop}
 use Rattle.element_props.specs.declared.prop.Prop.TheVariants as props
 use Rattle.element_props.specs.declared.prop.Pair.{Pair}
-use Rattle.element_props.specs.Named.{NamedValue, ◌holds◌}
+use Rattle.element_props.specs.NamedProps.{NamedValue, ◌holds◌}
 use Rattle.element_props.specs.Conditions.{bad_condition}
 use Rattle.element_props.specs.FormRows.{Row, Form, Presence, pattern, test_patterns}
 use Rattle.element_props.specs.Reads.{Reads, over, refuse, ask, ◌>>=◌, refuse_if, or_refuse, outcome}

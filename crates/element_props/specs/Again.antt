@@ -3,8 +3,8 @@ use Rattle.std.specs.Prelude.{◌≡◌, ℕ, ◌<◌, ◌^◌, pos, Bool, true,
 use Rattle.std.specs.Int.{w64}
 use Rattle.std.specs.List.{AllByRecursion}
 use Rattle.serde_json.specs.Data.{Num, unsigned, negative, float, Data, null, boolean, number, string, array, object, Items, no_items, item, Members, no_members, member}
-use Rattle.element_props.specs.Named.{NamedValue}
-use Rattle.element_props.specs.Choices.{test_word, tests}
+use Rattle.element_props.specs.NamedProps.{NamedValue}
+use Rattle.element_props.specs.ChoiceTexts.{test_word, tests}
 use Rattle.element_props.specs.FormRows.{Row, Form, whole, up_to, csv, texts, test_patterns, choice, number_default, required, largest, ◌is◌otherwise◌}
 use Rattle.element_props.specs.Props.{has_row, own_properties}
 use Rattle.element_props.specs.Reads.{outcome}

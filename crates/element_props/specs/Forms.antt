@@ -8,7 +8,7 @@ use Rattle.template_text.specs.Pieces.{Pieces}
 use Rattle.template_text.specs.Scan.{reading}
 use Rattle.element_props.specs.declared.choices.TestKind.{TestKind}
 use Rattle.element_props.specs.declared.choices.TestKind.TheVariants as kinds
-use Rattle.element_props.specs.Choices.{word_in, test_word}
+use Rattle.element_props.specs.ChoiceTexts.{word_in, test_word}
 use Rattle.element_props.specs.Conditions.{first_of, bad_condition, plain_bytes}
 use Rattle.serde_json.specs.Events.{items_len}
 use Rattle.json_path.specs.PathMachine.{path_of}

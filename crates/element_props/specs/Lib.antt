@@ -1,11 +1,11 @@
-pub mod Choices
+pub mod ChoiceTexts
 pub mod Conditions
 pub mod PieceViews
 pub mod Patterns
 pub mod FormRows
 pub mod RowsSeen
 pub mod Makers
-pub mod Named
+pub mod NamedProps
 pub mod Reads
 pub mod Answers
 pub mod Replies

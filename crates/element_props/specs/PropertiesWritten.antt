@@ -8,7 +8,7 @@ use Rattle.template_text.specs.Pieces.{spelling}
 use Rattle.element_props.specs.declared.prop.Prop.{Prop}
 use Rattle.element_props.specs.declared.prop.Prop.TheVariants.{Absent, Template, Text, Number, Truth, Word, Pattern, Pairs, Replies, Texts, Patterns}
 use Rattle.element_props.specs.declared.prop.Pair.{Pair}
-use Rattle.element_props.specs.Named.{NamedValue}
+use Rattle.element_props.specs.NamedProps.{NamedValue}
 use Rattle.element_props.specs.FormRows.{Form, Presence, required, optional, text_default, number_default, truth_default, first_choice, no_pairs, Row, first_word}
 
 -- A text as JSON, which is UTF-8: the text itself where it is UTF-8, and else with U+FFFD for each sequence that isn't.

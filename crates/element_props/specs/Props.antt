@@ -8,7 +8,7 @@ use Rattle.element_props.specs.declared.error.BuildError.TheVariants.{BadProp, M
 use Rattle.element_props.specs.declared.prop.Prop.{Prop}
 use Rattle.element_props.specs.declared.prop.Prop.TheVariants as props
 use Rattle.element_props.specs.FormRows.{Form, template, Presence, required, optional, text_default, number_default, truth_default, first_choice, no_pairs, Row, first_word}
-use Rattle.element_props.specs.Named.{NamedValue, ◌holds◌}
+use Rattle.element_props.specs.NamedProps.{NamedValue, ◌holds◌}
 use Rattle.template_text.specs.Scan.{reading}
 use Rattle.element_props.specs.Reads.{Reads, over, refuse, ◌>>=◌}
 use Rattle.element_props.specs.Forms.{given}

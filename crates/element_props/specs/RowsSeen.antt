@@ -7,7 +7,7 @@ use Rattle.element_props.specs.declared.rows.Presence.{Presence}
 use Rattle.element_props.specs.declared.rows.Presence.TheVariants as presences
 use Rattle.element_props.specs.declared.rows.Words.{Words}
 use Rattle.element_props.specs.declared.rows.Words.TheVariants as words
-use Rattle.element_props.specs.Choices.{on_error_word, on_errors, method_word, methods, at_end_word, at_ends, share_word, shares, field_word, fields, test_word, tests, comparison_word, comparisons}
+use Rattle.element_props.specs.ChoiceTexts.{on_error_word, on_errors, method_word, methods, at_end_word, at_ends, share_word, shares, field_word, fields, test_word, tests, comparison_word, comparisons}
 use Rattle.element_props.specs.FormRows as rows
 
 abbrev pub words_seen : Words → List (List ℕ)

@@ -1,7 +1,7 @@
 -- What contracts see of a value that is to be written.
 use Rattle.element_props.specs.declared.prop.Prop.{Prop}
 use Rattle.element_props.specs.declared.prop.Prop.TheVariants as props
-use Rattle.element_props.specs.Named.{NamedValue, ◌holds◌}
+use Rattle.element_props.specs.NamedProps.{NamedValue, ◌holds◌}
 use Rattle.element_props.specs.declared.written.NamedShown.{NamedShown}
 use Rattle.element_props.specs.declared.written.Shown.{Shown}
 use Rattle.element_props.specs.declared.written.Shown.TheVariants as shown

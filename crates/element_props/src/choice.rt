@@ -1,7 +1,7 @@
 // Values that stand in a plan as texts.
 
 ghost use Rattle.std.specs.Prelude.{◌≡◌, ℕ, List, Some, map, option_map, slice_get};
-ghost use Rattle.element_props.specs.Choices.{named, word_in};
+ghost use Rattle.element_props.specs.ChoiceTexts.{named, word_in};
 
 use crate::prop::Word;
 

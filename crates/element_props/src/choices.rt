@@ -22,7 +22,7 @@ static ON_ERRORS: [OnError; 4] = [
 impl Choice for OnError {
     ghost use Rattle.std.specs.Prelude.{refl};
     ghost use Rattle.element_props.specs.declared.choices.OnError.TheVariants.{Continue, NextLoop, StopThread, StopTest};
-    ghost use Rattle.element_props.specs.Choices.{on_error_word, on_errors};
+    ghost use Rattle.element_props.specs.ChoiceTexts.{on_error_word, on_errors};
 
     ghost word = { on_error_word };
 
@@ -58,7 +58,7 @@ static FIELDS: [Field; 4] = [Field::Body, Field::Headers, Field::Code, Field::Me
 impl Choice for Field {
     ghost use Rattle.std.specs.Prelude.{refl};
     ghost use Rattle.element_props.specs.declared.choices.Field.TheVariants.{Body, Headers, Code, Message};
-    ghost use Rattle.element_props.specs.Choices.{field_word, fields};
+    ghost use Rattle.element_props.specs.ChoiceTexts.{field_word, fields};
 
     ghost word = { field_word };
 
@@ -103,7 +103,7 @@ static COMPARISONS: [Comparison; 6] = [
 impl Choice for Comparison {
     ghost use Rattle.std.specs.Prelude.{refl};
     ghost use Rattle.element_props.specs.declared.choices.Comparison.TheVariants.{Equal, NotEqual, Above, Below, AtLeast, AtMost};
-    ghost use Rattle.element_props.specs.Choices.{comparison_word, comparisons};
+    ghost use Rattle.element_props.specs.ChoiceTexts.{comparison_word, comparisons};
 
     ghost word = { comparison_word };
 
@@ -143,7 +143,7 @@ static AT_ENDS: [AtEnd; 3] = [AtEnd::Recycle, AtEnd::Stop, AtEnd::Eof];
 impl Choice for AtEnd {
     ghost use Rattle.std.specs.Prelude.{refl};
     ghost use Rattle.element_props.specs.declared.choices.AtEnd.TheVariants.{Recycle, Stop, Eof};
-    ghost use Rattle.element_props.specs.Choices.{at_end_word, at_ends};
+    ghost use Rattle.element_props.specs.ChoiceTexts.{at_end_word, at_ends};
 
     ghost word = { at_end_word };
 
@@ -176,7 +176,7 @@ static SHARES: [Share; 1] = [Share::Thread];
 impl Choice for Share {
     ghost use Rattle.std.specs.Prelude.{refl};
     ghost use Rattle.element_props.specs.declared.choices.Share.TheVariants.{Thread};
-    ghost use Rattle.element_props.specs.Choices.{share_word, shares};
+    ghost use Rattle.element_props.specs.ChoiceTexts.{share_word, shares};
 
     ghost word = { share_word };
 
@@ -218,7 +218,7 @@ static TESTS: [TestKind; 4] = [
 impl Choice for TestKind {
     ghost use Rattle.std.specs.Prelude.{refl};
     ghost use Rattle.element_props.specs.declared.choices.TestKind.TheVariants.{Contains, Matches, Equals, Substring};
-    ghost use Rattle.element_props.specs.Choices.{test_word, tests};
+    ghost use Rattle.element_props.specs.ChoiceTexts.{test_word, tests};
 
     ghost word = { test_word };
 
@@ -251,7 +251,7 @@ static METHODS: [Method; 5] = [
 impl Choice for Method {
     ghost use Rattle.std.specs.Prelude.{refl};
     ghost use Rattle.jm_base.specs.declared.types.Method.TheVariants.{Get, Post, Put, Delete, Head};
-    ghost use Rattle.element_props.specs.Choices.{method_word, methods};
+    ghost use Rattle.element_props.specs.ChoiceTexts.{method_word, methods};
 
     ghost word = { method_word };
 

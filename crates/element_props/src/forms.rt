@@ -9,7 +9,7 @@ ghost use Rattle.serde_json.specs.Data.{Data};
 ghost use Rattle.plan_json.specs.Shape.{members_in};
 ghost use Rattle.template_text.specs.Scan.{reading};
 ghost use Rattle.element_props.specs.Forms.{has_long, is_too_long, template_text, whole_within, value_of, all_of, few_of, path_text, table_text, list_len, has_reference, filled_text, up_to_bound, pair_in, pair_from, pair_items, pair_with, is_no_item, items_have_long, AreShort, IsShort};
-ghost use Rattle.element_props.specs.Choices.{word_in};
+ghost use Rattle.element_props.specs.ChoiceTexts.{word_in};
 ghost use Rattle.element_props.specs.Conditions.{plain_bytes};
 ghost use Rattle.element_props.specs.Replies.{reply_in};
 ghost use Rattle.element_props.specs.RowsSeen.{form_seen, words_seen};

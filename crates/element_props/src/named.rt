@@ -1,7 +1,7 @@
 // Properties by their names.
 
 ghost use Rattle.std.specs.Prelude.{◌≡◌};
-ghost use Rattle.element_props.specs.Named.{◌holds◌, value_as};
+ghost use Rattle.element_props.specs.NamedProps.{◌holds◌, value_as};
 
 use crate::prop::Prop;
 use std::marker::Model;
@@ -14,7 +14,7 @@ pub struct NamedProp {
 }
 
 impl Model for NamedProp {
-    ghost use Rattle.element_props.specs.Named.{NamedValue};
+    ghost use Rattle.element_props.specs.NamedProps.{NamedValue};
     ghost use Rattle.std.specs.Coded.{codes};
     ghost use Rattle.template_text.specs.Code.{pieces_code};
 

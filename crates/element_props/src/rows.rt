@@ -1,7 +1,7 @@
 // The rows of a type's table: each of its properties, with the form of its value and what stands for it where it is absent.
 
 ghost use Rattle.std.specs.Prelude.{◌≡◌, option_map, slice_get};
-ghost use Rattle.element_props.specs.Choices.{word_in};
+ghost use Rattle.element_props.specs.ChoiceTexts.{word_in};
 ghost use Rattle.element_props.specs.FormRows.{first_word};
 ghost use Rattle.element_props.specs.RowsSeen.{form_seen, words_seen};
 

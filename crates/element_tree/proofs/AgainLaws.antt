@@ -10,7 +10,7 @@ use Rattle.plan_json.specs.Shape.{Raw, raw, Raws, no_raws, raw_then, shape, shap
 use Rattle.element_props.specs.declared.error.BuildError.{BuildError}
 use Rattle.element_props.specs.declared.error.BuildError.TheVariants.{UnknownType, BadProp, TooMany, TooDeep, WrongPlace}
 use Rattle.element_props.specs.declared.error.What.TheVariants as what
-use Rattle.element_props.specs.Named.{NamedValue}
+use Rattle.element_props.specs.NamedProps.{NamedValue}
 use Rattle.element_props.specs.Again.{HoldJson, ReadsAgain}
 use Rattle.element_props.specs.Props.{own_properties}
 use Rattle.element_props.specs.Reads.{over, ◌>>=◌, refuse_if, or_refuse, outcome}

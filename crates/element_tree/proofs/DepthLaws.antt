@@ -8,7 +8,7 @@ use Rattle.serde_json.specs.Data.{Data, boolean, number, unsigned, Items, item, 
 use Rattle.serde_json.specs.Read.{read}
 use Rattle.plan_json.specs.Shape.{Raw, reading_of}
 use Rattle.element_props.specs.declared.prop.Pair.{Pair}
-use Rattle.element_props.specs.Named.{NamedValue}
+use Rattle.element_props.specs.NamedProps.{NamedValue}
 use Rattle.element_props.specs.declared.prop.Prop.{Prop}
 use Rattle.element_props.specs.declared.prop.Prop.TheVariants.{Absent, Template, Text, Number, Truth, Word, Pattern, Pairs, Replies, Texts, Patterns}
 use Rattle.element_props.specs.FormRows.{Row}

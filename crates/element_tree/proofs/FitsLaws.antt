@@ -9,13 +9,13 @@ use Rattle.json_path.specs.PathMachine.{path_of}
 use Rattle.plan_json.specs.Place.{Place}
 use Rattle.element_props.specs.declared.error.BuildError.{BuildError}
 use Rattle.element_props.specs.declared.error.BuildError.TheVariants.{BadProp, MissingProp}
-use Rattle.element_props.specs.Named.{NamedValue, ◌holds◌}
+use Rattle.element_props.specs.NamedProps.{NamedValue, ◌holds◌}
 use Rattle.element_props.specs.declared.prop.Prop.{Prop}
 use Rattle.element_props.specs.declared.prop.Prop.TheVariants as props
 use Rattle.element_props.specs.FormRows.{Form, template, plain, filled, lock, whole, up_to, flag, choice, pattern, test_patterns, pairs, replies, texts, csv, json_path, largest, Row}
 use Rattle.element_props.specs.Reads.{◌>>=◌, refuse_if, or_refuse, outcome}
 use Rattle.element_props.specs.Forms.{given, value_of, finished, cond_checked, pairs_checked, pattern_checked, pattern_asked, tests_given, tests_checked, regexes_checked, each_asked, whole_of, has_long, is_too_long, text_limit, whole_within, within, up_to_bound, filled_text, path_text, table_text, bad_pair, has_reference, few_of, is_pattern, is_test_patterns}
-use Rattle.element_props.specs.Choices.{word_in}
+use Rattle.element_props.specs.ChoiceTexts.{word_in}
 use Rattle.element_props.specs.Conditions.{bad_condition}
 use Rattle.element_props.specs.Props.{prop_at, absent_value, property, property_of, properties, own_properties, missing, unknown, is_required, no_name}
 use Rattle.element_tree.specs.Fits.{FitsForm, FitsRow, FitsAll, IsShort, IsFilled}

@@ -1,7 +1,7 @@
 -- A kind is of the type that it was made for.
 use Rattle.std.proofs.Common.{◌≡◌, ◌^◌, List, Option, Some, None, refl, sym, ap, ◌∙◌, codes}
-use Rattle.element_props.specs.Choices.{on_error_word, on_errors, field_word, fields, method_word, methods, at_end_word, at_ends, share_word, shares, test_word, tests, comparison_word, comparisons}
-use Rattle.element_props.specs.Named.{NamedValue, value_named, rest}
+use Rattle.element_props.specs.ChoiceTexts.{on_error_word, on_errors, field_word, fields, method_word, methods, at_end_word, at_ends, share_word, shares, test_word, tests, comparison_word, comparisons}
+use Rattle.element_props.specs.NamedProps.{NamedValue, value_named, rest}
 use Rattle.element_tree.specs.declared.kinds.Kind.{Kind}
 use Rattle.element_tree.specs.declared.types.ElementType.{ElementType}
 use Rattle.element_tree.specs.declared.types.ElementType.TheVariants as types

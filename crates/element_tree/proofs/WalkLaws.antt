@@ -11,7 +11,7 @@ use Rattle.plan_json.specs.declared.raw.RawElement.{RawElement, out-RawElement, 
 use Rattle.element_props.specs.declared.error.BuildError.{BuildError}
 use Rattle.element_props.specs.declared.error.BuildError.TheVariants as errors
 use Rattle.element_tree.specs.declared.kinds.Kind.{Kind}
-use Rattle.element_props.specs.Named.{NamedValue}
+use Rattle.element_props.specs.NamedProps.{NamedValue}
 use Rattle.element_tree.specs.declared.kinds.Element.{Element}
 use Rattle.element_tree.specs.declared.types.ElementType.{ElementType}
 use Rattle.element_tree.specs.declared.tree_walk.Spot.{Spot as CodeSpot}

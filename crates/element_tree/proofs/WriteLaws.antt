@@ -12,7 +12,7 @@ use Rattle.serde_json.specs.View.{view, items_view}
 use Rattle.serde_json.specs.Written.{compact_text, has_float, items_have_float, members_have_float}
 use Rattle.serde_json.specs.declared.value.Value.{Value}
 use Rattle.plan_json.specs.Shape.{Raw}
-use Rattle.element_props.specs.Named.{NamedValue}
+use Rattle.element_props.specs.NamedProps.{NamedValue}
 use Rattle.element_props.specs.declared.prop.Prop.{Prop}
 use Rattle.element_props.specs.declared.prop.Prop.TheVariants.{Absent, Template, Text, Number, Truth, Word, Pattern, Pairs, Replies, Texts, Patterns}
 use Rattle.element_props.specs.FormRows.{Row}

@@ -2,8 +2,8 @@
 use Rattle.std.specs.Prelude.{ℕ, ◌^◌, ℤ, pos, negsuc, Bool, List, [], ◌∷◌, Option, Some, None, if◌then◌else◌, nat_lt, codes}
 use Rattle.template_text.specs.Pieces.{Pieces}
 use Rattle.jm_base.specs.declared.types.ScriptReply.{ScriptReply}
-use Rattle.element_props.specs.Choices.{named, on_error_word, on_errors, field_word, fields, method_word, methods, at_end_word, at_ends, share_word, shares, test_word, tests, comparison_word, comparisons}
-use Rattle.element_props.specs.Named.{NamedValue, value_named, rest}
+use Rattle.element_props.specs.ChoiceTexts.{named, on_error_word, on_errors, field_word, fields, method_word, methods, at_end_word, at_ends, share_word, shares, test_word, tests, comparison_word, comparisons}
+use Rattle.element_props.specs.NamedProps.{NamedValue, value_named, rest}
 use Rattle.element_props.specs.declared.prop.Pair.{Pair}
 use Rattle.element_props.specs.declared.prop.Prop.{Prop}
 use Rattle.element_props.specs.declared.prop.Prop.TheVariants.{Absent, Template, Text, Number, Truth, Word, Pattern, Pairs, Replies, Texts, Patterns}

@@ -1,6 +1,6 @@
 -- The types of element by name, each with its properties.
 use Rattle.std.specs.Prelude.{ℕ, pos, negsuc, true, false, List, [], ◌∷◌, Option, Some, None, codes, bytes_eq, map, if◌then◌else◌}
-use Rattle.element_props.specs.Choices.{on_error_word, on_errors, field_word, fields, method_word, methods, at_end_word, at_ends, share_word, shares, test_word, tests, comparison_word, comparisons}
+use Rattle.element_props.specs.ChoiceTexts.{on_error_word, on_errors, field_word, fields, method_word, methods, at_end_word, at_ends, share_word, shares, test_word, tests, comparison_word, comparisons}
 use Rattle.element_props.specs.FormRows.{Row, ◌is◌otherwise◌, largest, choice, csv, filled, first_choice, flag, json_path, lock, no_pairs, number_default, optional, pairs, pattern, plain, replies, required, template, test_patterns, text_default, texts, truth_default, up_to, whole}
 use Rattle.element_tree.specs.declared.types.ElementType.{ElementType}
 use Rattle.element_tree.specs.declared.types.ElementType.TheVariants as types

@@ -1,7 +1,7 @@
 -- The properties of a kind, in byte order of their names.
 use Rattle.std.specs.Prelude.{ℕ, ℤ, pos, negsuc, List, [], ◌∷◌, Option, Some, None, codes}
-use Rattle.element_props.specs.Named.{NamedValue, ◌holds◌}
-use Rattle.element_props.specs.Choices.{on_error_word, field_word, method_word, at_end_word, share_word, test_word, comparison_word}
+use Rattle.element_props.specs.NamedProps.{NamedValue, ◌holds◌}
+use Rattle.element_props.specs.ChoiceTexts.{on_error_word, field_word, method_word, at_end_word, share_word, test_word, comparison_word}
 use Rattle.element_props.specs.declared.prop.Prop.{Prop}
 use Rattle.element_props.specs.declared.prop.Prop.TheVariants.{Absent, Template, Text, Number, Truth, Word, Pattern, Pairs, Replies, Texts, Patterns}
 use Rattle.jm_base.specs.declared.types.ScriptReply.{ScriptReply}

@@ -2,7 +2,7 @@
 
 ghost use Rattle.std.specs.Prelude.{◌≡◌, ◌^◌, Some};
 ghost use Rattle.std.specs.Vec.Iter.{into_iter_items};
-ghost use Rattle.element_props.specs.Named.{value_named, rest};
+ghost use Rattle.element_props.specs.NamedProps.{value_named, rest};
 ghost use Rattle.element_tree.specs.Kinds.{template_in, text_in, maybe_in, number_in, signed_in, loops_in, truth_in, pattern_in, pairs_in, texts_in, replies_in, maybe_replies_in, patterns_in, choice_in, kind_of};
 
 use crate::kinds::{Assertion, BoundaryExtractor, JsonExtractor, Kind, Loops, RegexExtractor};

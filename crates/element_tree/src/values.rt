@@ -1,7 +1,7 @@
 // The properties of a kind, each value where it is kept.
 
 ghost use Rattle.std.specs.Prelude.{◌≡◌, ◌^◌, ◌<◌, map, IfOk};
-ghost use Rattle.element_props.specs.Named.{◌holds◌};
+ghost use Rattle.element_props.specs.NamedProps.{◌holds◌};
 ghost use Rattle.element_props.specs.ValueShown.{named_shown_seen, shown_seen};
 ghost use Rattle.element_tree.specs.FormedPlan.{HasForms};
 ghost use Rattle.element_tree.specs.Values.{maybe, maybe_replies, loops_number, attached_values, config_values, sampler_values, controller_values, values_of};

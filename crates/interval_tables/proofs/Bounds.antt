@@ -112,7 +112,7 @@ sum_in_bounds n es labels small few =
     let s = small_times es small in let s0 = s.0 in let s1 = s.1 in let s2 = s.2 in
     record { counts = omega arith; errors = omega arith; totals = omega arith; bytes = omega arith }
 
--- one entry more may be counted where the rows are the sum of fewer than 4,194,304 entries
+-- one more entry may be counted where the rows are the sum of fewer than 4,194,304 entries
 pub record CanAdd (rows : List Row) (e : Entry) : Type 0 where
   pub label : e.label < length rows
   pub bounds : IsInBounds rows

@@ -1,4 +1,4 @@
--- The rows that a list of entries sums to: one entry more, two lists one after the other, and the sums over all labels.
+-- The rows that a list of entries sums to: one more entry, two lists one after the other, and the sums over all labels.
 use Rattle.std.proofs.Common.{◌≡◌, ◌≢◌, ℕ, zero, suc, ◌+◌, ◌<◌, ◌≤◌, ◌==◌, Bool, true, false, cond, min, max, List, [], ◌∷◌, ◌++◌, length, filter, get_or, set, sym, refl, ap, ◌∙◌, arith, length-append, eq-eqb, ne_eqb, add-one}
 use mathlib.Core.Logic.{dite}
 use native.Mathlib.Decide.{ℕ_discrete}
@@ -89,7 +89,7 @@ tally_append (e ∷ es) (f ∷ fs) =
     merged_both (tally_of (e ∷ es)) (tally_of (f ∷ fs)) (λ z. omega arith) (λ z. omega arith)
     ∙ (λ i. record { count = counts i; errors = errors i; total = totals i; bytes = bytes i; least = least i; greatest = greatest i })
 
--- one entry more of the label
+-- one more entry of the label
 tally_snoc : (es : List Entry) (e : Entry) → with_entry (tally_of es) e ≡ tally_of (es ++ e ∷ [])
 tally_snoc [] e =
     let counts : 0 + 1 ≡ 1 = omega arith in
@@ -204,6 +204,6 @@ counts_over n es h = over_labels (λ (r : Row). r.count) (λ (e : Entry). 1) one
 pub errors_over : (n : ℕ) (es : List Entry) → AllLabels n es → total (λ (r : Row). r.errors) (sum_of n es) ≡ total failed es
 errors_over n es h = over_labels (λ (r : Row). r.errors) failed (λ es. refl) n es h
 
--- rows that sum to a list of entries sum to one entry more after it was counted
+-- rows that sum to a list of entries sum to one more entry after it was counted
 pub added_sum : (rows : List Row) (es : List Entry) (e : Entry) → e.label < length rows → rows ≡ sum_of (length rows) es → rows_with rows e ≡ sum_of (length rows) (es ++ e ∷ [])
 added_sum rows es e low is = ap (λ (l : List Row). rows_with l e) is ∙ sum_of_add (length rows) es e low

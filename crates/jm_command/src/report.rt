@@ -83,7 +83,7 @@ fn counted(alloc: Global, plan: &Plan, trace: &[TraceItem]) -> M<Report>
     Ok(total)
 }
 
-// Counts one sample more, whose time and bytes have 32 bits.
+// Counts one more sample, whose time and bytes have 32 bits.
 fn count(total: &mut Report, entry: Entry)
     requires label { entry.label < length total.old.rows }
     requires bounds { IsInBounds total.old.rows }

@@ -9,7 +9,7 @@ use Rattle.jm_base.specs.Outside.{Account, Goes, TellsNothing}
 use Rattle.jm_base.specs.declared.types.Reply.{Reply}
 use Rattle.std.specs.Prelude.{Result, Ok, Err, OnErr, IfSome}
 use Rattle.jm_base.proofs.RunLaws.{goes-append, goes-bind, goes-nothing, goes-tells_nothing}
-use Rattle.jm_meaning.specs.Left.{LeftOf}
+use Rattle.jm_meaning.specs.SamplerLeft.{LeftOf}
 use Rattle.var_functions.specs.declared.error.VarError.{VarError}
 use Rattle.var_functions.specs.declared.error.VarError.TheVariants.{ValueLimit, NoMemory}
 use Rattle.var_functions.specs.declared.state.UserState.{UserState}

@@ -25,7 +25,7 @@ stamp-snoc (y ∷ ys) x = rw (some (length ys)) refl where
   some : (n : ℕ) → (capped (suc n) == 0) ≡ false
   some n = grind arith
 
--- one sample more
+-- one more sample
 tally-snoc : (xs : List Sample) (x : Sample) → with_sample (tally_of xs) x ≡ tally_of (xs ++ x ∷ [])
 tally-snoc xs x =
     rw (

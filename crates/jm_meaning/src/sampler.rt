@@ -6,7 +6,7 @@ ghost use Rattle.jm_base.specs.Outside.{Account, Goes};
 ghost use Rattle.var_functions.specs.Came.{CameTo};
 ghost use Rattle.var_functions.specs.FunctionState.{IsLater};
 ghost use Rattle.var_functions.specs.Vars.{put_var, Puts};
-ghost use Rattle.jm_meaning.specs.Left.{LeftOf};
+ghost use Rattle.jm_meaning.specs.SamplerLeft.{LeftOf};
 ghost use Rattle.jm_meaning.specs.State.{fine, past_limit};
 ghost use Rattle.jm_meaning.specs.Sampling.{sampled, sample_of, reply_of, noted, asked, pipeline};
 ghost use Rattle.std.specs.Option.{option_map};

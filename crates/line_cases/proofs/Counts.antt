@@ -1,4 +1,4 @@
--- Rows that count a few samples: their bounds, one sample more, and two reports as one.
+-- Rows that count a few samples: their bounds, one more sample, and two reports as one.
 use Rattle.std.proofs.Common.{◌≡◌, ℕ, ◌+◌, ◌≤◌, ◌<◌, List, [], ◌∷◌, ◌++◌, length, sym, ap, ◌∙◌, subst, arith, length-append}
 use Rattle.jm_base.specs.declared.types.Entry.{Entry}
 use Rattle.interval_tables.specs.declared.row.Row.{Row}

@@ -36,7 +36,7 @@ fn samples(alloc: Global, given: &str) -> anyhow::Result<Vec<Entry>> {
     Ok(all)
 }
 
-// Counts one sample more, whose time and bytes have 32 bits.
+// Counts one more sample, whose time and bytes have 32 bits.
 fn count(report: &mut Report, entry: Entry)
     requires label { entry.label < length report.old.rows }
     requires bounds { IsInBounds report.old.rows }

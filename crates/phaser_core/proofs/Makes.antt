@@ -31,7 +31,7 @@ row_last : (n : ℕ) → first_cells n ++ row ≡ first_cells (suc n)
 row_last zero = refl
 row_last (suc n) = ap (λ (l : List ℕ). 0 ∷ 0 ∷ 0 ∷ 0 ∷ 18446744073709551615 ∷ 0 ∷ l) (row_last n)
 
--- one row more at the end of a table
+-- one more row at the end of a table
 pub table_next : (items all new : List ℕ) (n : ℕ) → items ≡ all ++ first_cells n → new ≡ items ++ row → new ≡ all ++ first_cells (n + 1)
 table_next items all new n is made = made ∙ ap (λ (l : List ℕ). l ++ row) is ∙ append_assoc all (first_cells n) row ∙ ap (λ (l : List ℕ). all ++ l) (row_last n ∙ ap first_cells (sym (add-one n)))
 

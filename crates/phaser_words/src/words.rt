@@ -59,7 +59,7 @@ impl Words {
         self.labels
     }
 
-    /// Makes one writer more. Its number is the number of writers made before.
+    /// Makes one more writer. Its number is the number of writers made before.
     pub fn split(&self, first: &mut WriterWordSeat) -> WriterWordSeat
         requires seat { IsWriterOf self.now first.old }
         requires first { 0 < (writing first.old).made }

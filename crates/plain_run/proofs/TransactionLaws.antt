@@ -31,7 +31,7 @@ capped-more m n k = omega arith
 capped-none : (n : ℕ) → n ≤ 2 ^ 32 - 1 → capped (n + 0) ≡ n
 capped-none n fits = omega (arith, fits)
 
--- the stamp with one sample more, which has the last of these
+-- the stamp with one more sample, which has the last of these
 stamp-more : (m n x y z : ℕ) → (if m == 0 && nat_lt 0 (capped (n + 1)) then (if n == 0 then z else y) else x)
     ≡ (if capped (m + n) == 0 then z else if m == 0 && nat_lt 0 n then y else x)
 stamp-more zero zero x y z = refl

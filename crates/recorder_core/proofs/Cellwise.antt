@@ -26,12 +26,12 @@ rows_agree (suc l) f g h =
     let rest = rows_agree l f g (λ j low. h j (omega arith)) in let last = row_agrees f g l l (λ c low. h (6 * l + c) (omega arith)) in
     λ i. rest i ++ last i ∷ []
 
--- one row more
+-- one more row
 pub rows_more : (rows : List Row) (l : ℕ) (row : Row) (f : ℕ → ℕ) → l < length rows → take l rows ≡ rows_from l f → row ≡ row_from f l → take (l + 1) (set rows l row) ≡ rows_from (l + 1) f
 rows_more rows l row f low before is =
     take_more_set rows l row low ∙ (λ i. before i ++ is i ∷ []) ∙ ap (λ m. rows_from m f) (sym (add-one l))
 
--- one row more, of six cells after those before
+-- one more row, of six cells after those before
 pub rows_taken : (rows : List Row) (l : ℕ) (row : Row) (cells more : List ℕ) → l < length rows → length cells ≡ 6 * l → length more ≡ 6 → take l rows ≡ rows_from l (λ j. get_or cells j 0) → row ≡ row_from (λ j. get_or more j 0) 0
     → take (l + 1) (set rows l row) ≡ rows_from (l + 1) (λ j. get_or (cells ++ more) j 0)
 rows_taken rows l row cells more low long six before is =

@@ -41,7 +41,7 @@ abbrev pub stands : Bool → ReporterView → Bool
 stands false r = is_waiting r.closing
 stands true r = stands_settled (r.labels == 0) r
 
--- the reporter with one report more, idle again
+-- the reporter with one more report, idle again
 abbrev pub closed_as : ReporterView → Report → ReporterView
 closed_as r report = record {
   labels = r.labels;

@@ -60,7 +60,7 @@ impl Recorder {
         ))
     }
 
-    /// Makes one writer more, for another thread. Its number is the number of writers made before.
+    /// Makes one more writer, for another thread. Its number is the number of writers made before.
     pub fn split_writer(&self, first: &mut WriterSeat) -> WriterSeat
         requires seat { IsWriter self.now first.old }
         requires first { 0 < (writes first.old).made }

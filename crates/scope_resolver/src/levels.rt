@@ -20,9 +20,9 @@ fn parent_in(plan: &Plan, number: u16) -> u16
     }
 }
 
-// An element and all above it, from the root down to it.
-fn line_to(alloc: Global, plan: &Plan, number: u16) -> M<Vec<u16>>
-    ensures { IfOk result (λ line. line.items ≡ line_to plan.now.elements number) }
+/// An element and all above it, from the root down to it.
+pub fn line_to(alloc: Global, plan: &Plan, number: u16) -> M<Vec<u16>>
+    ensures line { IfOk result (λ line. line.items ≡ line_to plan.now.elements number) }
 {
     let _elements = plan.elements();
     let mut line = Vec::new(alloc);

@@ -4,4 +4,5 @@
 mod levels;
 pub mod scope;
 
+pub use levels::line_to;
 pub use scope::package;

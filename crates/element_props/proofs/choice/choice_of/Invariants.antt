@@ -1,6 +1,6 @@
 use Rattle.std.proofs.Common.{◌≡◌}
 use Rattle.std.specs.Prelude.{drop}
-use Rattle.element_props.specs.Choices.{named}
+use Rattle.element_props.specs.ChoiceTexts.{named}
 use Rattle.element_props.proofs.choice.choice_of.Given as goal
 
 -- the choices that are left find the same

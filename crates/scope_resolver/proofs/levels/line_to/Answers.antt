@@ -12,5 +12,7 @@ up-preserved c =
 pub returns : goal.returns
 returns c =
     let at_root : c.up.here ≤ 0 = omega arith in
-    up_end c.args.plan.now c.elements-elements.ensures.plan c.up.here c.up.line.items c.push-2.new.self.items
-    (line_to c.args.plan.now.elements c.args.number) c.reverse.new.self.items at_root c.in_ok-push-2.ensures.items c.reverse.ensures.items c.up.invariant
+    record {
+      line = up_end c.args.plan.now c.elements-elements.ensures.plan c.up.here c.up.line.items c.push-2.new.self.items
+          (line_to c.args.plan.now.elements c.args.number) c.reverse.new.self.items at_root c.in_ok-push-2.ensures.items c.reverse.ensures.items c.up.invariant;
+    }

@@ -6,7 +6,7 @@ use Rattle.control_machine.proofs.Turning.{open_nothing, open_sampler, open_fram
 use Rattle.control_machine.proofs.Standing.{pushed_stands, pushed_opens, pushed_rounds, pushed_begins}
 use Rattle.control_machine.specs.Moves.{past}
 use Rattle.control_machine.specs.Turns.{went}
-use Rattle.control_machine.specs.Cut.{before_element}
+use Rattle.control_machine.specs.MachineCut.{before_element}
 use Rattle.control_machine.proofs.CutLaws.{cut_at, cut_here}
 use Rattle.control_machine.proofs.machine.Machine.open.Goals as goal
 
