@@ -1,7 +1,8 @@
 #!/bin/sh
 # Prints how fast `solo` runs: samples a second from the start of the process to its exit, the peak of its memory,
 # and how long a loop without end over an empty controller takes to meet its limit of rounds. Over nested Loops, an If
-# and a ForEach with templates at least 250,000 samples a second is the aim.
+# and a ForEach with templates at least 250,000 samples a second is the aim, and where an element of each class applies to
+# the sampler at least 150,000.
 # Usage: bench/solo.sh    (it needs python3, for the clock and the memory of a child process)
 cd "$(dirname "$0")/.." || exit 1
 ./jm solo </dev/null >/dev/null 2>&1
@@ -69,6 +70,23 @@ inner = controller("Loop", "I", [chosen, each], loops="${rounds}")
 outer = controller("Loop", "O", [inner], loops="${__P(rounds,64)}")
 variables = {"type": "UserVariables", "props": {"vars": [["user", "ann"], ["rounds", "${__P(rounds,64)}"]] + values}}
 sampled("nested loops, an If and a ForEach with templates", plan([variables, outer]))
+
+# Each class of element in the scope of one sampler, and a Counter and a data set that advance before each sample.
+seven = [
+    {"type": "Counter", "props": {"var": "n", "start": 1, "increment": 1}},
+    {"type": "DataSet", "props": {"names": ["user", "age"], "share": "thread", "text": "ann,31\nbob,47\ncarola,52\n"}},
+    {"type": "UserParameters", "props": {"vars": [["id", "${user}-${n}"]]}},
+    {"type": "ConstantTimer", "props": {"delay": 1}},
+    {**script("S", [{"echo": True, "ms": 1}], request="id=${id};age=${age}"), "children": [
+        {"type": "BoundaryExtractor", "props": {"ref": "got", "left": "id=", "right": ";"}},
+        {"type": "RegexExtractor", "props": {"ref": "age", "pattern": "age=([0-9]+)"}},
+        {"type": "ResponseAssertion", "props": {"test": "substring", "patterns": ["id="]}},
+        {"type": "DurationAssertion", "props": {"ms": 1}},
+        {"type": "Listener"},
+    ]},
+]
+group = {"type": "ThreadGroup", "name": "TG", "props": {"loops": 65536}, "children": seven}
+sampled("all seven classes in scope of one sampler", json.dumps({"type": "TestPlan", "children": [group]}).encode())
 
 # Loops as `make` makes them.
 made = [controller("Loop", f"L{i}", [script(f"S{i % 16}", [{"ms": i % 10, "code": 500 if i % 5 == 4 else 200}])], loops=i % 7 + 1)

@@ -25,7 +25,7 @@ use Rattle.jm_meaning.specs.Children.{Below}
 use Rattle.jm_meaning.specs.Rounds.{while_turns, each_turns}
 use Rattle.jm_meaning.specs.Meaning.{Here, meaning, children_in}
 use Rattle.jm_meaning.specs.Cut.{StandsLater}
-use Rattle.jm_meaning.proofs.CutLaws.{refused-left}
+use Rattle.trials.proofs.CutLaws.{refused-left}
 use Rattle.control_machine.specs.declared.cursor.Cursor.{Cursor}
 use Rattle.control_machine.specs.declared.cursor.Cursor.TheVariants.{While, Each}
 use Rattle.control_machine.specs.declared.machine.Group.{Group}
@@ -33,52 +33,57 @@ use Rattle.control_machine.specs.declared.machine.Machine.{Machine}
 use Rattle.control_machine.specs.declared.stack.Frame.{Frame}
 use Rattle.jm_meaning.specs.declared.signal.Signal.TheVariants.{Normal}
 use Rattle.control_machine.specs.Cursors.{tally_in, round_left, while_left_in, each_left_in}
-use Rattle.control_machine.specs.Left.{left_in, here_in, own_at, state_at, closing, label_at}
+use Rattle.control_machine.specs.Left.{Beside, left_in, here_in, own_at, state_at, closing, label_at}
 use Rattle.control_machine.specs.Turns.{left_from}
 use Rattle.control_machine.specs.MachineCut.{Place, between_turns, left_at, IsCut, IsCutIn}
 use Rattle.control_machine.proofs.Following.{left_normal}
 use Rattle.control_machine.proofs.StackLaws.{left_by, innermost}
 
+-- what holds anyway holds after a refusal
+pub on_err : {X E : Type 0} (r : Result X E) (P : Type 0) → P → OnErr r P
+on_err (Ok x) P p = tt
+on_err (Err e) P p = p
+
 -- ---- a machine
 
 -- the run that was refused is what was left at a place
-pub cut_at : {a b : Account} (plan : Tree) (run : ℕ → Run Ending) (m : Machine) (place : Place) (between new : UserState) (limit : ℕ → Run Ending) (error : VarError)
-    → ((units : ℕ) → run units ≡ left_at plan m place (state_at m units between)) → ((units : ℕ) → Refused a (run units) b (limit units) error)
+pub cut_at : {a b : Account} (plan : Tree) (run : Beside → Run Ending) (m : Machine) (place : Place) (between new : UserState) (limit : Beside → Run Ending) (error : VarError)
+    → ((beside : Beside) → run beside ≡ left_at plan m place (state_at m beside between)) → ((beside : Beside) → Refused a (run beside) b (limit beside) error)
     → StandsLater between new → IsCut plan a run b new
 cut_at {a} {b} plan run m place between new limit error is refused stands = record {
   machine = m;
   place = place;
   between = between;
   moment = a;
-  goes = λ units. subst (λ r. Goes a (run units) [] r a) (is units) (goes-nothing a (run units));
+  goes = λ beside. subst (λ r. Goes a (run beside) [] r a) (is beside) (goes-nothing a (run beside));
   stands = stands;
-  rest = λ units. refused-left (subst (λ r. Refused a r b (limit units) error) (is units) (refused units));
+  rest = λ beside. refused-left (subst (λ r. Refused a r b (limit beside) error) (is beside) (refused beside));
 }
 
-pub cut_here : {B : Type 0} (a b : Account) (plan : Tree) (m : Machine) (place : Place) (between new : UserState) (on : ℕ → B → Run Ending) (limit : ℕ → Run Ending) (res : Result B VarError)
-    → ((units : ℕ) → CameTo a (left_at plan m place (state_at m units between)) b (on units) (limit units) res)
-    → StandsLater between new → OnErr res (IsCut plan a (λ units. left_at plan m place (state_at m units between)) b new)
+pub cut_here : {B : Type 0} (a b : Account) (plan : Tree) (m : Machine) (place : Place) (between new : UserState) (on : Beside → B → Run Ending) (limit : Beside → Run Ending) (res : Result B VarError)
+    → ((beside : Beside) → CameTo a (left_at plan m place (state_at m beside between)) b (on beside) (limit beside) res)
+    → StandsLater between new → OnErr res (IsCut plan a (λ beside. left_at plan m place (state_at m beside between)) b new)
 cut_here a b plan m place between new on limit (Ok x) came stands = tt
 cut_here a b plan m place between new on limit (Err error) came stands =
-    cut_at plan (λ units. left_at plan m place (state_at m units between)) m place between new limit error (λ units. refl) came stands
+    cut_at plan (λ beside. left_at plan m place (state_at m beside between)) m place between new limit error (λ beside. refl) came stands
 
 -- the run had come to the one that was cut
-pub cut_behind : {a m b : Account} (plan : Tree) (run next : ℕ → Run Ending) (new : UserState) → ((units : ℕ) → Goes a (run units) [] (next units) m)
+pub cut_behind : {a m b : Account} (plan : Tree) (run next : Beside → Run Ending) (new : UserState) → ((beside : Beside) → Goes a (run beside) [] (next beside) m)
     → IsCut plan m next b new → IsCut plan a run b new
 cut_behind plan run next new goes cut = record {
   machine = cut.machine;
   place = cut.place;
   between = cut.between;
   moment = cut.moment;
-  goes = λ units. goes-append (goes units) (cut.goes units);
+  goes = λ beside. goes-append (goes beside) (cut.goes beside);
   stands = cut.stands;
   rest = cut.rest;
 }
 
 -- the run is the one that was cut
-pub cut_as : {a b : Account} (plan : Tree) (run next : ℕ → Run Ending) (new : UserState) → ((units : ℕ) → run units ≡ next units) → IsCut plan a next b new → IsCut plan a run b new
+pub cut_as : {a b : Account} (plan : Tree) (run next : Beside → Run Ending) (new : UserState) → ((beside : Beside) → run beside ≡ next beside) → IsCut plan a next b new → IsCut plan a run b new
 cut_as {a} plan run next new is cut =
-    cut_behind plan run next new (λ units. subst (λ r. Goes a (run units) [] r a) (is units) (goes-nothing a (run units))) cut
+    cut_behind plan run next new (λ beside. subst (λ r. Goes a (run beside) [] r a) (is beside) (goes-nothing a (run beside))) cut
 
 -- ---- an open element
 
@@ -180,10 +185,10 @@ with_frame m f c = record {
   signal = m.signal;
 }
 
-pub cut_inside : {a b : Account} (plan : Tree) (m : Machine) (f : Frame) (e : Element) (before new : UserState) (limit : ℕ → Run Ending) (error : VarError) → slice_get plan.elements f.element ≡ Some e
-    → m.signal ≡ Normal → IsCutIn e f.cursor before new → ((units : ℕ) → Refused a (left_from plan m f (over (normal (state_at m units before)))) b (limit units) error)
-    → IsCut plan a (λ units. left_from plan m f (over (normal (state_at m units before)))) b new
+pub cut_inside : {a b : Account} (plan : Tree) (m : Machine) (f : Frame) (e : Element) (before new : UserState) (limit : Beside → Run Ending) (error : VarError) → slice_get plan.elements f.element ≡ Some e
+    → m.signal ≡ Normal → IsCutIn e f.cursor before new → ((beside : Beside) → Refused a (left_from plan m f (over (normal (state_at m beside before)))) b (limit beside) error)
+    → IsCut plan a (λ beside. left_from plan m f (over (normal (state_at m beside before)))) b new
 cut_inside plan m f e before new limit error there signal cut refused =
-    cut_at plan (λ units. left_from plan m f (over (normal (state_at m units before)))) (with_frame m f cut.cursor) between_turns cut.between new limit error
-    (λ units. cut_frame (here_in plan m) m.group f m.stack.frames e before new (own_at m units) cut there ∙ sym (left_normal plan (with_frame m f cut.cursor) (state_at (with_frame m f cut.cursor) units cut.between) signal))
+    cut_at plan (λ beside. left_from plan m f (over (normal (state_at m beside before)))) (with_frame m f cut.cursor) between_turns cut.between new limit error
+    (λ beside. cut_frame (here_in plan m) m.group f m.stack.frames e before new (own_at m beside) cut there ∙ sym (left_normal plan (with_frame m f cut.cursor) (state_at (with_frame m f cut.cursor) beside cut.between) signal))
     refused cut.stands

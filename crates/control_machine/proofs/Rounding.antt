@@ -12,9 +12,10 @@ use Rattle.logic_controllers.specs.LoopController.{round_begins}
 use Rattle.var_functions.specs.declared.state.UserState.{UserState}
 use Rattle.jm_meaning.specs.declared.signal.Signal.TheVariants.{Normal}
 use Rattle.jm_meaning.specs.State.{Own, state_of, at_rounds, normal}
+use Rattle.jm_meaning.specs.Rounds.{round_start}
 use Rattle.jm_meaning.specs.Children.{children_of}
 use Rattle.control_machine.specs.declared.machine.Machine.{Machine}
-use Rattle.control_machine.specs.Left.{here_in, left_in, left_of, children_at, ended, GroupIsOpen}
+use Rattle.control_machine.specs.Left.{here_in, left_in, left_of, left_after, children_at, ended, GroupIsOpen}
 use Rattle.control_machine.proofs.Following.{left_normal, rounds_over, rounds_stop, round_begun, next_group}
 
 none_means : (p : Pass) → p.children ≤ p.next → is_left p ≡ false
@@ -39,10 +40,11 @@ module _ (plan : Tree) (m : Machine) (user : UserState) (own : Own) (open' : Gro
   rounds_are_spent begins none = at_group ∙ rounds_stop (here_in plan m) m.group user own (none_means m.group.pass past_all) within begins (same ∙ none) m.rounds (sym same)
 
   pub round_has_begun : round_begins m.group.loops m.group.begun ≡ true → (m.rounds ≡ 0 → ⊥)
-      → left_of plan m (state_of user own) ≡ left_of plan (record { group = next_group m.group; stack = m.stack; rounds = m.rounds - 1; places = m.places; at_failure = m.at_failure; signal = m.signal }) (state_of user (at_rounds own (m.rounds - 1)))
+      → left_of plan m (state_of user own)
+      ≡ left_after plan (record { group = next_group m.group; stack = m.stack; rounds = m.rounds - 1; places = m.places; at_failure = m.at_failure; signal = m.signal })
+      (round_start plan.elements m.group.element (state_of user (at_rounds own (m.rounds - 1))))
   round_has_begun begins some =
       at_group
       ∙ round_begun (here_in plan m) m.group user own (m.rounds - 1) (none_means m.group.pass past_all) within begins
       (all_of plan.elements m.group.element open'.element m.group.pass.children open'.there open'.pass) (omega (arith, same, some))
-      ∙ ap (λ fs. left_in (here_in plan m) (next_group m.group) fs (over (normal (state_of user (at_rounds own (m.rounds - 1)))))) (sym empty)
-      ∙ ap (λ x. left_in (here_in plan m) (next_group m.group) m.stack.frames (over (record { state = state_of user (at_rounds own (m.rounds - 1)); signal = x }))) (sym signal)
+      ∙ ap (λ fs. left_in (here_in plan m) (next_group m.group) fs (round_start plan.elements m.group.element (state_of user (at_rounds own (m.rounds - 1))))) (sym empty)

@@ -14,6 +14,7 @@ use Rattle.var_functions.specs.declared.state.UserState.{UserState}
 use Rattle.jm_meaning.specs.declared.signal.Signal.{Signal}
 use Rattle.jm_meaning.specs.declared.signal.Signal.TheVariants.{Normal}
 use Rattle.jm_meaning.specs.State.{State, Own, state_of, normal}
+use Rattle.jm_meaning.specs.Rounds.{round_start}
 use Rattle.jm_meaning.specs.Children.{children_of}
 use Rattle.jm_meaning.specs.Meaning.{Here, here_at, meaning, signal_of, failure_in, failure_of, group_rounds, group_meaning, group_part}
 use Rattle.control_machine.specs.Opened.{Opened}
@@ -63,22 +64,22 @@ not_less n = grind arith
 -- nothing is left of the round before the first
 first_rounds : (here : Here) (number children : ℕ) (loops : Loops) (s : State)
     → left_in here (record { element = number; loops = loops; begun = 0; pass = record { children = children; next = children } }) [] (over (normal s))
-    ≡ group_rounds 16777216 (meaning here 30) loops (children_at here.plan.elements number) 0 s
+    ≡ group_rounds 16777216 (round_start here.plan.elements number) (meaning here 30) loops (children_at here.plan.elements number) 0 s
 unfolding left_in rest_of
 first_rounds here number children loops s = rw (none-left (record { children = children; next = children }) (children_at here.plan.elements number) (not_less children)) refl
 
 pub new_whole : (plan : Tree) (thread number : ℕ) (e : Element) (loops : Loops) (on_error : OnError) (ramp_ms threads children : ℕ) (stack : Opened) (places : List ℕ) (failure : Signal) (user : UserState) (own : Own)
     → number ≡ group_of plan thread → Some e ≡ slice_get plan.elements number → e.kind ≡ ThreadGroup loops on_error ramp_ms threads → children ≡ run_count plan.elements e → stack.frames ≡ [] → failure ≡ signal_of on_error
     → left_of plan (first_of number loops children stack places failure) (state_of user own)
-    ≡ group_part (here_at plan (group_of plan thread)) (slice_get plan.elements (group_of plan thread)) (state_of user own)
+    ≡ group_part (here_at plan (group_of plan thread)) (group_of plan thread) (slice_get plan.elements (group_of plan thread)) (state_of user own)
 new_whole plan thread number e loops on_error ramp_ms threads children stack places failure user own is there kind count empty action =
     ap (λ fs. left_in here m.group fs (over (normal s))) empty
     ∙ first_rounds here number children loops s
-    ∙ ap (λ o. group_rounds 16777216 (meaning here 30) loops (unwrap_or (option_map (children_of plan.elements) o) []) 0 s) (sym there)
-    ∙ ap (λ k. group_meaning here e k s) (sym kind)
-    ∙ ap (λ o. group_part here o s) there
-    ∙ ap (λ f. group_part (record { plan = plan; at_failure = f }) (slice_get plan.elements number) s) (action ∙ ap failure_in (sym kind) ∙ ap failure_of there)
-    ∙ ap (λ n. group_part (here_at plan n) (slice_get plan.elements n) s) is where
+    ∙ ap (λ o. group_rounds 16777216 (round_start plan.elements number) (meaning here 30) loops (unwrap_or (option_map (children_of plan.elements) o) []) 0 s) (sym there)
+    ∙ ap (λ k. group_meaning here number e k s) (sym kind)
+    ∙ ap (λ o. group_part here number o s) there
+    ∙ ap (λ f. group_part (record { plan = plan; at_failure = f }) number (slice_get plan.elements number) s) (action ∙ ap failure_in (sym kind) ∙ ap failure_of there)
+    ∙ ap (λ n. group_part (here_at plan n) n (slice_get plan.elements n) s) is where
       m : Machine
       m = first_of number loops children stack places failure
 

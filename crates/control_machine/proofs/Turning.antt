@@ -20,7 +20,7 @@ use Rattle.control_machine.specs.declared.machine.Went.TheVariants.{On, To}
 use Rattle.control_machine.specs.declared.moves.Move.TheVariants.{RunSampler}
 use Rattle.control_machine.specs.Moves.{past}
 use Rattle.control_machine.specs.Cursors.{cursor_left, tally_in}
-use Rattle.control_machine.specs.Left.{here_in, left_in, left_of, left_after, label_at, closing, own_at, kind_part}
+use Rattle.control_machine.specs.Left.{Beside, here_in, left_in, left_of, left_after, label_at, closing, own_at, kind_part}
 use Rattle.control_machine.specs.Turns.{went}
 use Rattle.control_machine.proofs.StackLaws.{goes_left, refused_left, innermost}
 use Rattle.control_machine.proofs.Opening.{meant}
@@ -90,5 +90,5 @@ module _ (plan : Tree) (m : Machine) (n round depth : ℕ) (e : Element) (user u
       (sym (meant (here_in plan m) depth n round (state_of user own) e some there)) (refused_left (here_in plan m) m.group m.stack.frames refused)
 
 -- the same, in a machine that keeps the same rounds and places
-pub own_is : (m n : Machine) (units : ℕ) → n.rounds ≡ m.rounds → n.places ≡ m.places → own_at n units ≡ own_at m units
-own_is m n units rounds places = rw (rounds, places) refl
+pub own_is : (m n : Machine) (beside : Beside) → n.rounds ≡ m.rounds → n.places ≡ m.places → own_at n beside ≡ own_at m beside
+own_is m n beside rounds places = rw (rounds, places) refl

@@ -9,12 +9,12 @@ use Rattle.element_tree.specs.declared.kinds.Element.{Element}
 use Rattle.element_tree.specs.declared.kinds.Kind.{Kind}
 use Rattle.element_tree.specs.declared.kinds.Kind.TheVariants.{Script, Transaction}
 use Rattle.element_tree.specs.Tree.{Tree, Nests}
-use Rattle.element_tree.specs.Names.{label_of}
 use Rattle.var_functions.specs.declared.state.UserState.{UserState}
+pub use Rattle.sampler_pipeline.specs.SamplerPipeline.{label_at}
 use Rattle.jm_meaning.specs.declared.signal.Signal.{Signal}
 use Rattle.jm_meaning.specs.declared.signal.Signal.TheVariants.{Normal, NextLoop, Stop}
 use Rattle.jm_meaning.specs.State.{State, Own, Ending, Part, state_of, normal, stopped, and_then, with_unit}
-use Rattle.jm_meaning.specs.Rounds.{round_of_group}
+use Rattle.jm_meaning.specs.Rounds.{round_of_group, round_start}
 use Rattle.jm_meaning.specs.Children.{children_of, in_order}
 use Rattle.jm_meaning.specs.Sampling.{sampling}
 use Rattle.jm_meaning.specs.Transactions.{with_own_sample, transaction_from}
@@ -33,10 +33,6 @@ use Rattle.control_machine.specs.Cursors.{cursor_left, tally_in, begun_of, FitsK
 abbrev pub frame_left : Here → Frame → Option Element → Part
 frame_left here f None s = over (normal s)
 frame_left here f (Some e) s = cursor_left (meaning here f.depth) f.round (children_in here e) e f.cursor s
-
--- the label of the element of this number
-abbrev pub label_at : List Element → ℕ → ℕ
-label_at elements number = unwrap_or (option_map (λ e. label_of elements e.name) (slice_get elements number)) 0
 
 -- what an open element makes of the run in it: a transaction counts the samples, and gives its own after them
 abbrev pub closing : ℕ → Option Tally → Run Ending → Run Ending
@@ -62,7 +58,7 @@ children_at elements n = unwrap_or (option_map (children_of elements) (slice_get
 abbrev pub group_around : Here → Group → Run Ending → Run Ending
 group_around here g inner =
     and_then (round_of_group (and_then inner (in_order (meaning here 30) (g.begun - 1) (pass_left g.pass (children_at here.plan.elements g.element)))))
-    (group_rounds (max_rounds - g.begun) (meaning here 30) g.loops (children_at here.plan.elements g.element) g.begun)
+    (group_rounds (max_rounds - g.begun) (round_start here.plan.elements g.element) (meaning here 30) g.loops (children_at here.plan.elements g.element) g.begun)
 
 -- what is left of the group's rounds
 unfoldable pub left_in : Here → Group → List Frame → Run Ending → Run Ending
@@ -80,19 +76,23 @@ left_after plan m inner = left_in (here_in plan m) m.group m.stack.frames inner
 abbrev pub left_of : Tree → Machine → State → Run Ending
 left_of plan m s = left_after plan m (over (record { state = s; signal = m.signal }))
 
--- what the thread carries beside its variables, with that many units left: the machine keeps the rounds and the places
-abbrev pub own_at : Machine → ℕ → Own
-own_at m units = record { units = units; rounds = m.rounds; places = m.places }
+-- what a thread carries beside its variables and its machine: the units left, and the places of Counters and data sets
+pub record Beside : Type 0 where
+  pub units : ℕ
+  pub config : List ℕ
 
-abbrev pub state_at : Machine → ℕ → UserState → State
-state_at m units user = state_of user (own_at m units)
+-- with what the machine keeps: the rounds left, and the places of the Interleave Controllers
+abbrev pub own_at : Machine → Beside → Own
+own_at m beside = record { units = beside.units; rounds = m.rounds; places = m.places; config = beside.config }
+
+abbrev pub state_at : Machine → Beside → UserState → State
+state_at m beside user = state_of user (own_at m beside)
 
 -- ---- moves
 
 -- a sampler by its number
 abbrev pub kind_part : Here → ℕ → Element → Kind → Part
-kind_part here number e (Script replies request) s =
-    with_unit s (sampling (label_of here.plan.elements e.name) number request here.at_failure)
+kind_part here number e (Script replies request) s = with_unit s (sampling here.plan.elements number here.at_failure)
 kind_part here number e kind s = over (normal s)
 
 abbrev pub sampler_part : Here → ℕ → Option Element → Part
@@ -105,7 +105,7 @@ ended end s = stopped end s
 
 -- what is left after a move; sections come to no move yet
 abbrev pub moved : Tree → Machine → State → Move → Run Ending
-moved plan m s (Iteration index) = left_of plan m s
+moved plan m s (Iteration index) = left_after plan m (round_start plan.elements m.group.element s)
 moved plan m s (RunSampler number) = left_after plan m (sampler_part (here_in plan m) number (slice_get plan.elements number) s)
 moved plan m s (EnterSection lock) = left_of plan m s
 moved plan m s (LeaveSection lock) = left_of plan m s

@@ -13,7 +13,7 @@ use Rattle.jm_meaning.specs.Cut.{StandsLater}
 use Rattle.control_machine.specs.declared.cursor.Cursor.{Cursor}
 use Rattle.control_machine.specs.declared.machine.Machine.{Machine}
 use Rattle.control_machine.specs.Cursors.{cursor_left, tally_in}
-use Rattle.control_machine.specs.Left.{left_of, left_after, here_in, state_at}
+use Rattle.control_machine.specs.Left.{Beside, left_of, left_after, here_in, state_at}
 
 -- where a thread stands in its run: between two turns, or before an element is entered at which elements nest that deep
 pub data Place : Type 0 where
@@ -26,14 +26,14 @@ left_at plan m (before_element depth number round) s = left_after plan m (meanin
 
 -- The steps that are done have come to a place of the thread's run. Since then the variables are as they were, functions
 -- stand at a later moment, and the outside has been asked for what is left at this place alone.
-pub record IsCut (plan : Tree) (before : Account) (run : ℕ → Run Ending) (after : Account) (new : UserState) : Type 0 where
+pub record IsCut (plan : Tree) (before : Account) (run : Beside → Run Ending) (after : Account) (new : UserState) : Type 0 where
   pub machine : Machine
   pub place : Place
   pub between : UserState
   pub moment : Account
-  pub goes : (units : ℕ) → Goes before (run units) [] (left_at plan machine place (state_at machine units between)) moment
+  pub goes : (beside : Beside) → Goes before (run beside) [] (left_at plan machine place (state_at machine beside between)) moment
   pub stands : StandsLater between new
-  pub rest : (units : ℕ) → LeftOf moment (left_at plan machine place (state_at machine units between)) after
+  pub rest : (beside : Beside) → LeftOf moment (left_at plan machine place (state_at machine beside between)) after
 
 -- An open element was refused on its way: it has opened the round that began last or not, and the variables are as that
 -- has left them.

@@ -1,6 +1,6 @@
 // The machine: the group's rounds, and the elements that are open in its round.
 
-ghost use Rattle.std.specs.Prelude.{◌≡◌, ◌<◌, ℕ, slice_get, length, IfOk, OnErr};
+ghost use Rattle.std.specs.Prelude.{◌≡◌, ◌<◌, slice_get, length, IfOk, OnErr};
 ghost use Rattle.element_tree.specs.Tree.{Tree, threads_of, group_of};
 ghost use Rattle.var_functions.specs.Came.{CameTo};
 ghost use Rattle.var_functions.specs.FunctionState.{IsLater};
@@ -9,7 +9,7 @@ ghost use Rattle.jm_meaning.specs.Sampling.{after_sample};
 ghost use Rattle.jm_meaning.specs.Meaning.{group_part, here_at, failure_of};
 ghost use Rattle.jm_meaning.specs.Beginning.{max_rounds, first_places};
 ghost use Rattle.control_machine.specs.Moves.{past};
-ghost use Rattle.control_machine.specs.Left.{StandsIn, left_of, state_at, moved, IsMove};
+ghost use Rattle.control_machine.specs.Left.{Beside, StandsIn, left_of, state_at, moved, IsMove};
 ghost use Rattle.control_machine.specs.Turns.{Lightens, TakesRound, IsRoundless, IsNormalAt, IsNormalOn, IsRoundOf, IsRoundIn, went, IsWent, signal_left};
 ghost use Rattle.control_machine.specs.Load.{load_of};
 ghost use Rattle.control_machine.specs.Hearing.{told};
@@ -62,11 +62,12 @@ impl Machine {
         requires { thread < length (threads_of plan.now) }
         ensures stands { IfOk result (StandsIn plan.now) }
         ensures whole { IfOk result (λ m. (user : UserState) (own : Own) → own.rounds ≡ max_rounds
-            → left_of plan.now m (state_of user own) ≡ group_part (here_at plan.now (group_of plan.now thread))
+            → left_of plan.now m (state_of user own) ≡ group_part (here_at plan.now (group_of plan.now thread)) (group_of plan.now thread)
             (slice_get plan.now.elements (group_of plan.now thread)) (state_of user own)) }
         ensures failure { IfOk result (λ m. m.at_failure ≡ failure_of (slice_get plan.now.elements (group_of plan.now thread))) }
         ensures rounds { IfOk result (λ m. m.rounds ≡ max_rounds) }
         ensures places { IfOk result (λ m. m.places ≡ first_places plan.now.elements) }
+        ensures group { IfOk result (λ m. m.group.element ≡ group_of plan.now thread) }
     {
         let number = plan.group_of(thread);
         let Some(element) = plan.element(number) else {
@@ -110,10 +111,10 @@ impl Machine {
         outside: &mut O,
     ) -> Result<Move, VarError>
         requires { StandsIn plan.now self.old }
-        ensures came { (units : ℕ)
-            → CameTo (O.account outside.old) (left_of plan.now self.old (state_at self.old units state.old)) (O.account outside.new)
-            (moved plan.now self.new (state_at self.new units state.new))
-            (past (state_at self.new units state.new)) result }
+        ensures came { (beside : Beside)
+            → CameTo (O.account outside.old) (left_of plan.now self.old (state_at self.old beside state.old)) (O.account outside.new)
+            (moved plan.now self.new (state_at self.new beside state.new))
+            (past (state_at self.new beside state.new)) result }
         ensures given { IfOk result (IsMove plan.now.elements) }
         ensures stands { IfOk result (λ m. StandsIn plan.now self.new) }
         ensures normal { IfOk result (λ m. IsNormalAt m self.new.signal) }
@@ -122,7 +123,7 @@ impl Machine {
         ensures thread { (self.new.group.element ≡ self.old.group.element) × (self.new.at_failure ≡ self.old.at_failure) }
         // After every answer, out of memory too.
         ensures later { IsLater state.old.fns state.new.fns }
-        ensures cut { OnErr result (IsCut plan.now (O.account outside.old) (λ units. left_of plan.now self.old (state_at self.old units state.old)) (O.account outside.new) state.new) }
+        ensures cut { OnErr result (IsCut plan.now (O.account outside.old) (λ beside. left_of plan.now self.old (state_at self.old beside state.old)) (O.account outside.new) state.new) }
     {
         'turns: loop {
             match self.turn(alloc, plan, state, outside) {
@@ -160,10 +161,10 @@ impl Machine {
         outside: &mut O,
     ) -> Result<Went, VarError>
         requires { StandsIn plan.now self.old }
-        ensures came { (units : ℕ)
-            → CameTo (O.account outside.old) (left_of plan.now self.old (state_at self.old units state.old)) (O.account outside.new)
-            (went plan.now self.new (state_at self.new units state.new))
-            (past (state_at self.new units state.new)) result }
+        ensures came { (beside : Beside)
+            → CameTo (O.account outside.old) (left_of plan.now self.old (state_at self.old beside state.old)) (O.account outside.new)
+            (went plan.now self.new (state_at self.new beside state.new))
+            (past (state_at self.new beside state.new)) result }
         ensures given { IfOk result (IsWent plan.now.elements) }
         ensures stands { IfOk result (λ w. StandsIn plan.now self.new) }
         ensures lighter { IfOk result (λ w. Lightens w (load_of plan.now.elements self.old) (load_of plan.now.elements self.new)) }
@@ -172,7 +173,7 @@ impl Machine {
         ensures index { IfOk result (λ w. IsRoundIn w self.new.group) }
         ensures thread { (self.new.group.element ≡ self.old.group.element) × (self.new.at_failure ≡ self.old.at_failure) }
         ensures later { IsLater state.old.fns state.new.fns }
-        ensures cut { OnErr result (IsCut plan.now (O.account outside.old) (λ units. left_of plan.now self.old (state_at self.old units state.old)) (O.account outside.new) state.new) }
+        ensures cut { OnErr result (IsCut plan.now (O.account outside.old) (λ beside. left_of plan.now self.old (state_at self.old beside state.old)) (O.account outside.new) state.new) }
     {
         match self.signal {
             Signal::Normal => self.go_on(alloc, plan, state, outside),

@@ -6,7 +6,8 @@ use jm_meaning::Tally;
 /// The next move of a thread.
 #[derive(Clone, Copy, PartialEq, Eq, Debug)]
 pub enum Move {
-    /// The round of the thread group of this index, from 0, has begun.
+    /// The round of the thread group of this index, from 0, has begun. Its Counters and data sets are to advance before the
+    /// next move is asked for.
     Iteration(u64),
     /// The sampler of this number is run.
     RunSampler(u16),

@@ -1,6 +1,6 @@
 // The turns of a machine.
 
-ghost use Rattle.std.specs.Prelude.{◌≡◌, ◌+◌, ◌-◌, ◌≤◌, ◌<◌, ℕ, slice_get, Some, List, [], ◌∷◌, IfOk, OnErr, MatchResult};
+ghost use Rattle.std.specs.Prelude.{◌≡◌, ◌+◌, ◌-◌, ◌≤◌, ◌<◌, slice_get, Some, List, [], ◌∷◌, IfOk, OnErr, MatchResult};
 ghost use Rattle.std.specs.List.{filter};
 ghost use Rattle.cursor_steps.specs.RunningChildren.{is_run_at};
 ghost use Rattle.element_tree.specs.declared.kinds.Element.{Element};
@@ -15,7 +15,7 @@ ghost use Rattle.jm_meaning.specs.Meaning.{meaning};
 ghost use Rattle.jm_meaning.specs.Beginning.{max_rounds};
 ghost use Rattle.jm_meaning.specs.declared.signal.Signal.{Signal};
 ghost use Rattle.control_machine.specs.Moves.{past};
-ghost use Rattle.control_machine.specs.Left.{StandsIn, GroupIsOpen, IsOpen, left_of, left_after, state_at, moved, IsMove, here_in};
+ghost use Rattle.control_machine.specs.Left.{Beside, StandsIn, GroupIsOpen, IsOpen, left_of, left_after, state_at, moved, IsMove, here_in};
 ghost use Rattle.control_machine.specs.Turns.{Lightens, TakesRound, IsRoundless, IsNormalAt, IsNormalOn, IsRoundOf, IsRoundIn, went, IsWent, closing_of, left_from, left_answered, load_in, IsOpened};
 ghost use Rattle.control_machine.specs.Load.{children_left, TakesChild, load_of};
 ghost use Rattle.control_machine.specs.MachineCut.{IsCut};
@@ -37,8 +37,8 @@ impl Machine {
     // On a way out: the innermost open element is left, or the way out is over.
     pub(crate) fn leave_one(&mut self) -> Went
         requires { self.old.group.begun + self.old.rounds ≤ max_rounds }
-        ensures same { (plan : Tree) (units : ℕ) (user : UserState) → StandsIn plan self.old → (self.old.signal ≡ Signal.Normal → ⊥)
-            → left_of plan self.old (state_at self.old units user) ≡ went plan self.new (state_at self.new units user) result }
+        ensures same { (plan : Tree) (beside : Beside) (user : UserState) → StandsIn plan self.old → (self.old.signal ≡ Signal.Normal → ⊥)
+            → left_of plan self.old (state_at self.old beside user) ≡ went plan self.new (state_at self.new beside user) result }
         ensures given { (plan : Tree) → StandsIn plan self.old → (self.old.signal ≡ Signal.Normal → ⊥) → IsWent plan.elements result }
         ensures stands { (plan : Tree) → StandsIn plan self.old → StandsIn plan self.new }
         ensures lighter { (elements : List Element) → Lightens result (load_of elements self.old) (load_of elements self.new) }
@@ -57,8 +57,8 @@ impl Machine {
     fn leave_round(&mut self) -> Move
         requires bound { self.old.group.begun + self.old.rounds ≤ max_rounds }
         requires empty { self.old.stack.frames ≡ [] }
-        ensures same { (plan : Tree) (units : ℕ) (user : UserState) → StandsIn plan self.old → (self.old.signal ≡ Signal.Normal → ⊥)
-            → left_of plan self.old (state_at self.old units user) ≡ moved plan self.new (state_at self.new units user) result }
+        ensures same { (plan : Tree) (beside : Beside) (user : UserState) → StandsIn plan self.old → (self.old.signal ≡ Signal.Normal → ⊥)
+            → left_of plan self.old (state_at self.old beside user) ≡ moved plan self.new (state_at self.new beside user) result }
         ensures given { (plan : Tree) → StandsIn plan self.old → (self.old.signal ≡ Signal.Normal → ⊥) → IsMove plan.elements result }
         ensures stands { (plan : Tree) → StandsIn plan self.old → StandsIn plan self.new }
         ensures normal { IsNormalAt result self.new.signal }
@@ -77,9 +77,9 @@ impl Machine {
     // After the last child of a round of the group: the next round begins, or the rounds are over.
     fn next_round(&mut self) -> Move
         requires { self.old.group.begun + self.old.rounds ≤ max_rounds }
-        ensures same { (plan : Tree) (units : ℕ) (user : UserState) → GroupIsOpen plan.elements self.old.rounds self.old.group → self.old.stack.frames ≡ []
+        ensures same { (plan : Tree) (beside : Beside) (user : UserState) → GroupIsOpen plan.elements self.old.rounds self.old.group → self.old.stack.frames ≡ []
             → self.old.signal ≡ Signal.Normal → self.old.group.pass.children ≤ self.old.group.pass.next
-            → left_of plan self.old (state_at self.old units user) ≡ moved plan self.new (state_at self.new units user) result }
+            → left_of plan self.old (state_at self.old beside user) ≡ moved plan self.new (state_at self.new beside user) result }
         ensures given { (elements : List Element) → IsMove elements result }
         ensures group { (elements : List Element) → GroupIsOpen elements self.old.rounds self.old.group → GroupIsOpen elements self.new.rounds self.new.group }
         ensures rest { (self.new.stack ≡ self.old.stack) × (self.new.signal ≡ self.old.signal) }
@@ -110,10 +110,10 @@ impl Machine {
     ) -> Result<Went, VarError>
         requires stands { StandsIn plan.now self.old }
         requires normal { self.old.signal ≡ Signal.Normal }
-        ensures came { (units : ℕ)
-            → CameTo (O.account outside.old) (left_of plan.now self.old (state_at self.old units state.old)) (O.account outside.new)
-            (went plan.now self.new (state_at self.new units state.new))
-            (past (state_at self.new units state.new)) result }
+        ensures came { (beside : Beside)
+            → CameTo (O.account outside.old) (left_of plan.now self.old (state_at self.old beside state.old)) (O.account outside.new)
+            (went plan.now self.new (state_at self.new beside state.new))
+            (past (state_at self.new beside state.new)) result }
         ensures given { IfOk result (IsWent plan.now.elements) }
         ensures stands { IfOk result (λ w. StandsIn plan.now self.new) }
         ensures lighter { IfOk result (λ w. Lightens w (load_of plan.now.elements self.old) (load_of plan.now.elements self.new)) }
@@ -122,7 +122,7 @@ impl Machine {
         ensures index { IfOk result (λ w. IsRoundIn w self.new.group) }
         ensures thread { (self.new.group.element ≡ self.old.group.element) × (self.new.at_failure ≡ self.old.at_failure) }
         ensures later { IsLater state.old.fns state.new.fns }
-        ensures cut { OnErr result (IsCut plan.now (O.account outside.old) (λ units. left_of plan.now self.old (state_at self.old units state.old)) (O.account outside.new) state.new) }
+        ensures cut { OnErr result (IsCut plan.now (O.account outside.old) (λ beside. left_of plan.now self.old (state_at self.old beside state.old)) (O.account outside.new) state.new) }
     {
         match self.stack.pop() {
             Some(frame) => self.frame_turn(frame, alloc, plan, state, outside),
@@ -143,10 +143,10 @@ impl Machine {
         requires normal { self.old.signal ≡ Signal.Normal }
         requires open { IsOpen plan.now.elements max_rounds self.old.rounds frame }
         requires room { 0 < self.old.stack.room }
-        ensures came { (units : ℕ)
-            → CameTo (O.account outside.old) (left_from plan.now self.old frame (over (normal (state_at self.old units state.old)))) (O.account outside.new)
-            (went plan.now self.new (state_at self.new units state.new))
-            (past (state_at self.new units state.new)) result }
+        ensures came { (beside : Beside)
+            → CameTo (O.account outside.old) (left_from plan.now self.old frame (over (normal (state_at self.old beside state.old)))) (O.account outside.new)
+            (went plan.now self.new (state_at self.new beside state.new))
+            (past (state_at self.new beside state.new)) result }
         ensures given { IfOk result (IsWent plan.now.elements) }
         ensures stands { IfOk result (λ w. StandsIn plan.now self.new) }
         ensures lighter { IfOk result (λ w. Lightens w (load_in plan.now.elements self.old (frame ∷ self.old.stack.frames)) (load_of plan.now.elements self.new)) }
@@ -155,7 +155,7 @@ impl Machine {
         ensures index { IfOk result (λ w. IsRoundIn w self.new.group) }
         ensures thread { (self.new.group.element ≡ self.old.group.element) × (self.new.at_failure ≡ self.old.at_failure) }
         ensures later { IsLater state.old.fns state.new.fns }
-        ensures cut { OnErr result (IsCut plan.now (O.account outside.old) (λ units. left_from plan.now self.old frame (over (normal (state_at self.old units state.old)))) (O.account outside.new) state.new) }
+        ensures cut { OnErr result (IsCut plan.now (O.account outside.old) (λ beside. left_from plan.now self.old frame (over (normal (state_at self.old beside state.old)))) (O.account outside.new) state.new) }
     {
         let mut cursor = frame.cursor;
         match cursor.next(alloc, plan, frame.round, state, outside) {
@@ -186,11 +186,11 @@ impl Machine {
         requires normal { self.old.signal ≡ Signal.Normal }
         requires open { IsOpen plan.now.elements (begun_after max_rounds turn) self.old.rounds frame }
         requires room { 0 < self.old.stack.room }
-        ensures came { (e : Element) (units : ℕ) → slice_get plan.now.elements frame.element ≡ Some e
+        ensures came { (e : Element) (beside : Beside) → slice_get plan.now.elements frame.element ≡ Some e
             → CameTo (O.account outside.old)
-            (left_answered plan.now self.old frame e turn (state_at self.old units state.old)) (O.account outside.new)
-            (went plan.now self.new (state_at self.new units state.new))
-            (past (state_at self.new units state.new)) result }
+            (left_answered plan.now self.old frame e turn (state_at self.old beside state.old)) (O.account outside.new)
+            (went plan.now self.new (state_at self.new beside state.new))
+            (past (state_at self.new beside state.new)) result }
         ensures given { IfOk result (IsWent plan.now.elements) }
         ensures stands { IfOk result (λ w. StandsIn plan.now self.new) }
         ensures lighter { IfOk result (λ w. (old : Frame) → old.depth ≡ frame.depth → TakesChild (children_left old.cursor) (children_left frame.cursor) turn
@@ -201,7 +201,7 @@ impl Machine {
         ensures thread { (self.new.group.element ≡ self.old.group.element) × (self.new.at_failure ≡ self.old.at_failure) }
         ensures later { IsLater state.old.fns state.new.fns }
         ensures cut { (e : Element) → slice_get plan.now.elements frame.element ≡ Some e
-            → OnErr result (IsCut plan.now (O.account outside.old) (λ units. left_answered plan.now self.old frame e turn (state_at self.old units state.old)) (O.account outside.new) state.new) }
+            → OnErr result (IsCut plan.now (O.account outside.old) (λ beside. left_answered plan.now self.old frame e turn (state_at self.old beside state.old)) (O.account outside.new) state.new) }
     {
         match turn {
             Turn::Over => Ok(close(&frame)),
@@ -236,10 +236,10 @@ impl Machine {
         requires stands { StandsIn plan.now self.old }
         requires normal { self.old.signal ≡ Signal.Normal }
         requires empty { self.old.stack.frames ≡ [] }
-        ensures came { (units : ℕ)
-            → CameTo (O.account outside.old) (left_of plan.now self.old (state_at self.old units state.old)) (O.account outside.new)
-            (went plan.now self.new (state_at self.new units state.new))
-            (past (state_at self.new units state.new)) result }
+        ensures came { (beside : Beside)
+            → CameTo (O.account outside.old) (left_of plan.now self.old (state_at self.old beside state.old)) (O.account outside.new)
+            (went plan.now self.new (state_at self.new beside state.new))
+            (past (state_at self.new beside state.new)) result }
         ensures given { IfOk result (IsWent plan.now.elements) }
         ensures stands { IfOk result (λ w. StandsIn plan.now self.new) }
         ensures lighter { IfOk result (λ w. Lightens w (load_of plan.now.elements self.old) (load_of plan.now.elements self.new)) }
@@ -248,7 +248,7 @@ impl Machine {
         ensures index { IfOk result (λ w. IsRoundIn w self.new.group) }
         ensures thread { (self.new.group.element ≡ self.old.group.element) × (self.new.at_failure ≡ self.old.at_failure) }
         ensures later { IsLater state.old.fns state.new.fns }
-        ensures cut { OnErr result (IsCut plan.now (O.account outside.old) (λ units. left_of plan.now self.old (state_at self.old units state.old)) (O.account outside.new) state.new) }
+        ensures cut { OnErr result (IsCut plan.now (O.account outside.old) (λ beside. left_of plan.now self.old (state_at self.old beside state.old)) (O.account outside.new) state.new) }
     {
         match self.group.pass.next_child() {
             Some(place) => {
@@ -277,10 +277,10 @@ impl Machine {
         requires normal { self.old.signal ≡ Signal.Normal }
         requires nests { Nests depth plan.now.elements child }
         requires depth { depth ≤ 30 }
-        ensures came { (units : ℕ)
-            → CameTo (O.account outside.old) (left_after plan.now self.old (meaning (here_in plan.now self.old) depth child round (state_at self.old units state.old))) (O.account outside.new)
-            (went plan.now self.new (state_at self.new units state.new))
-            (past (state_at self.new units state.new)) result }
+        ensures came { (beside : Beside)
+            → CameTo (O.account outside.old) (left_after plan.now self.old (meaning (here_in plan.now self.old) depth child round (state_at self.old beside state.old))) (O.account outside.new)
+            (went plan.now self.new (state_at self.new beside state.new))
+            (past (state_at self.new beside state.new)) result }
         ensures given { IfOk result (IsWent plan.now.elements) }
         ensures stands { IfOk result (λ w. StandsIn plan.now self.new) }
         ensures rest { (self.new.group ≡ self.old.group) × (self.new.rounds ≡ self.old.rounds) × (self.new.at_failure ≡ self.old.at_failure) × (self.new.signal ≡ self.old.signal) }
@@ -289,7 +289,7 @@ impl Machine {
         ensures index { IfOk result (λ w. IsRoundIn w self.new.group) }
         ensures later { IsLater state.old.fns state.new.fns }
         ensures cut { OnErr result (IsCut plan.now (O.account outside.old)
-            (λ units. left_after plan.now self.old (meaning (here_in plan.now self.old) depth child round (state_at self.old units state.old))) (O.account outside.new) state.new) }
+            (λ beside. left_after plan.now self.old (meaning (here_in plan.now self.old) depth child round (state_at self.old beside state.old))) (O.account outside.new) state.new) }
     {
         match enter(alloc, plan, child, &mut self.places, state, outside) {
             Ok(Entered::Nothing) => Ok(Went::On),

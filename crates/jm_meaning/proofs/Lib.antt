@@ -1,6 +1,5 @@
 pub mod PartLaws
 pub mod TransactionLaws
-pub mod SamplingLaws
 pub mod BeginningLaws
 pub mod CutLaws
 pub mod ThreadLaws

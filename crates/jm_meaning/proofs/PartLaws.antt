@@ -11,9 +11,8 @@ use Rattle.var_functions.specs.declared.error.VarError.{VarError}
 use Rattle.var_functions.specs.declared.error.VarError.TheVariants.{ValueLimit, NoMemory}
 use Rattle.var_functions.specs.declared.state.UserState.{UserState}
 use Rattle.var_functions.specs.Vars.{Variables, Puts}
-use Rattle.var_functions.specs.Expansion.{expanded, expansion}
+use Rattle.var_functions.specs.Expansion.{expansion}
 use Rattle.var_functions.specs.Came.{CameTo, by_limit, by_memory}
-use Rattle.var_functions.proofs.CameLaws.{came-bind}
 use Rattle.jm_meaning.specs.declared.signal.Signal.{Signal}
 use Rattle.jm_meaning.specs.declared.signal.Signal.TheVariants.{Normal, NextLoop, Stop}
 use Rattle.jm_meaning.specs.State.{State, Own, Ending, Part, state_of, normal, stopped, and_then, on_normal, at_units, at_rounds, taking_unit, with_unit, taking_round, with_round, on_came, tried, text, text_of, with_vars}
@@ -76,17 +75,6 @@ pub text-then : (template : Pieces) (s : State) (next : List ℕ → Part)
     → tried (text template) s next ≡ (expansion template s.user.vars s.user.fns >>= λ x. on_came s.own next (text_of s.user x))
 text-then template s next = bind-assoc (expansion template s.user.vars s.user.fns) (λ x. over (text_of s.user x)) (on_came s.own next)
 
--- a text that came
-pub text-came : (a b : Account) (template : Pieces) (old new : UserState) (own : Own) (next : List ℕ → Part) (res : Result (List ℕ) VarError)
-    → CameTo a (expansion template old.vars old.fns) b (λ x. over (expanded (Some x) new.fns)) (over (expanded None new.fns)) res → new.vars ≡ old.vars
-    → CameTo a (tried (text template) (state_of old own) next) b (λ x. next x (state_of new own)) (over (stopped PastValueLimit (state_of new own))) res
-text-came a b template old new own next res came same =
-    subst (λ vars. CameTo a (tried (text template) (state_of old own) next) b (λ x. next x (state_of (record { vars = vars; fns = new.fns }) own))
-    (over (stopped PastValueLimit (state_of (record { vars = vars; fns = new.fns }) own))) res) (sym same)
-    (subst (λ r. CameTo a r b (λ x. next x (state_of (record { vars = old.vars; fns = new.fns }) own)) (over (stopped PastValueLimit (state_of (record { vars = old.vars; fns = new.fns }) own))) res)
-    (sym (text-then template (state_of old own) next))
-    (came-bind a b (expansion template old.vars old.fns) (λ x. over (expanded (Some x) new.fns)) (over (expanded None new.fns)) res (λ x. on_came own next (text_of old x)) came))
-
 -- variables that were to be set
 pub puts-came : (a : Account) (made : Option Variables) (old : UserState) (own : Own) (vars : Variables) (res : Result (Unit {0}) VarError) → Puts made old.vars vars res
     → CameTo a (with_vars made (state_of old own)) a (λ u. over (normal (state_of (record { vars = vars; fns = old.fns }) own)))
@@ -96,8 +84,3 @@ puts-came a made old own vars (Err ValueLimit) put =
     by_limit (subst (λ vs. Goes a (with_vars made (state_of old own)) [] (over (stopped PastValueLimit (state_of (record { vars = vs; fns = old.fns }) own))) a) (sym put.1)
     (subst (λ m. Goes a (with_vars m (state_of old own)) [] (over (stopped PastValueLimit (state_of old own))) a) (sym put.0) (goes-nothing a _)))
 puts-came a made old own vars (Err NoMemory) put = by_memory (_, goes-nothing a _)
-
--- variables that were to be set after a part
-pub put-then : (made : Option Variables) (s : State) (next : Part) → (vars : Variables) → made ≡ Some vars
-    → and_then (with_vars made s) next ≡ next (state_of (record { vars = vars; fns = s.user.fns }) s.own)
-put-then made s next vars is = ap (λ m. and_then (with_vars m s) next) is

@@ -8,6 +8,8 @@ use Rattle.element_tree.specs.declared.kinds.Kind.{Kind}
 use Rattle.element_tree.specs.declared.kinds.Kind.TheVariants.{UserVariables}
 use Rattle.element_tree.specs.Tree.{Tree, threads_of}
 use Rattle.var_functions.specs.FunctionState.{first_functions}
+use Rattle.config_elements.specs.RoundStart.{first_config}
+pub use Rattle.sampler_pipeline.specs.SamplerPipeline.{last_sample_ok}
 use Rattle.jm_meaning.specs.State.{State, Part, normal, and_then, tried, text, put}
 
 -- the seed of the random words, the properties, and the sample budget of a thread
@@ -32,7 +34,7 @@ first_places elements = replicate (length elements) 0
 abbrev pub first_of : Tree → ℕ → Options → State
 first_of plan thread options = record {
   user = record { vars = []; fns = first_functions options.props (number_in_group plan thread) thread options.seed };
-  own = record { units = options.budget; rounds = max_rounds; places = first_places plan.elements };
+  own = record { units = options.budget; rounds = max_rounds; places = first_places plan.elements; config = first_config plan.elements };
 }
 
 abbrev pub pairs_of : Kind → List Pair
@@ -48,10 +50,6 @@ user_variables (e ∷ es) = pairs_of e.kind ++ user_variables es
 abbrev pub set_all : List Pair → Part
 set_all [] s = over (normal s)
 set_all (p ∷ ps) s = and_then (tried (text p.value) s (put p.name)) (set_all ps)
-
--- the variable that tells whether the last sample succeeded
-abbrev pub last_sample_ok : List ℕ
-last_sample_ok = codes "JMeterThread.last_sample_ok"
 
 -- the user defined variables, and then that the last sample succeeded
 abbrev pub set_first : List Element → Part

@@ -4,15 +4,10 @@ use Rattle.jm_base.specs.Run.{over}
 use Rattle.jm_base.specs.Outside.{Account, Goes}
 use Rattle.element_props.specs.declared.prop.Pair.{Pair}
 use Rattle.var_functions.specs.declared.state.UserState.{UserState}
-use Rattle.var_functions.specs.FunctionState.{IsLater}
 use Rattle.var_functions.specs.Came.{LeftOf}
+pub use Rattle.trials.specs.CutShort.{StandsLater}
 use Rattle.jm_meaning.specs.State.{Own, state_of, normal}
 use Rattle.jm_meaning.specs.Beginning.{set_all}
-
--- the variables are as they were, and functions stand at a later moment
-pub record StandsLater (old new : UserState) : Type 0 where
-  pub vars : new.vars ≡ old.vars
-  pub fns : IsLater old.fns new.fns
 
 -- A prefix of these pairs is set, each when its turn came. Since then the variables are as they were, functions stand at
 -- a later moment, and the outside has been asked for what is left of the pairs alone.

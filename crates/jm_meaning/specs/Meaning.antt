@@ -16,7 +16,7 @@ use Rattle.choice_controllers.specs.SwitchController.{run_names}
 use Rattle.jm_meaning.specs.declared.signal.Signal.{Signal}
 use Rattle.jm_meaning.specs.declared.signal.Signal.TheVariants.{Normal, NextLoop, Stop}
 use Rattle.jm_meaning.specs.State.{Ending, Part, normal, and_then, with_unit, tried, text}
-use Rattle.jm_meaning.specs.Rounds.{rounds, loop_turns, while_turns, each_turns, group_turns, round_of_group}
+use Rattle.jm_meaning.specs.Rounds.{rounds, loop_turns, while_turns, each_turns, group_turns, round_of_group, round_start}
 use Rattle.jm_meaning.specs.Children.{Below, children_of, in_order, once_only, if_part}
 use Rattle.jm_meaning.specs.Choices.{switch, interleave, random, random_order}
 use Rattle.jm_meaning.specs.Transactions.{transaction}
@@ -61,7 +61,7 @@ kind_meaning here below number e RandomOrder round s = random_order below round 
 kind_meaning here below number e Transaction round s =
     transaction (label_of here.plan.elements e.name) (in_order below round (children_in here e)) s
 kind_meaning here below number e (Script replies request) round s =
-    with_unit s (sampling (label_of here.plan.elements e.name) number request here.at_failure)
+    with_unit s (sampling here.plan.elements number here.at_failure)
 kind_meaning here below number e kind round s = over (normal s)
 
 abbrev pub element_meaning : Here → Below → ℕ → Option Element → ℕ → Part
@@ -75,17 +75,18 @@ meaning here (suc depth) number round s =
     element_meaning here (meaning here depth) number (slice_get here.plan.elements number) round s
 
 -- the rounds of a thread group, that many at most, from one of this index on
-abbrev pub group_rounds : ℕ → Below → Loops → List ℕ → ℕ → Part
-group_rounds n below loops children = rounds n (group_turns loops) (λ i s. round_of_group (in_order below i children s))
+abbrev pub group_rounds : ℕ → Part → Below → Loops → List ℕ → ℕ → Part
+group_rounds n start below loops children = rounds n (group_turns loops start) (λ i s. round_of_group (in_order below i children s))
 
 -- below a group, which stands below the plan, elements nest at most 30 deep
-abbrev pub group_meaning : Here → Element → Kind → Part
-group_meaning here e (ThreadGroup loops on_error ramp_ms threads) s = group_rounds max_rounds (meaning here 30) loops (children_in here e) 0 s
-group_meaning here e kind s = over (normal s)
+abbrev pub group_meaning : Here → ℕ → Element → Kind → Part
+group_meaning here number e (ThreadGroup loops on_error ramp_ms threads) s =
+    group_rounds max_rounds (round_start here.plan.elements number) (meaning here 30) loops (children_in here e) 0 s
+group_meaning here number e kind s = over (normal s)
 
-abbrev pub group_part : Here → Option Element → Part
-group_part here None s = over (normal s)
-group_part here (Some e) s = group_meaning here e e.kind s
+abbrev pub group_part : Here → ℕ → Option Element → Part
+group_part here number None s = over (normal s)
+group_part here number (Some e) s = group_meaning here number e e.kind s
 
 -- how a thread ends
 abbrev pub end_of : Signal → End
@@ -116,7 +117,7 @@ after_pause (suc ms) run = wait (suc ms) (give (Waited (suc ms)) run)
 
 -- the first variables of a thread are set, and then come the rounds of its group
 abbrev pub thread_part : Tree → ℕ → Part
-thread_part plan group s = and_then (set_first plan.elements s) (group_part (here_at plan group) (slice_get plan.elements group))
+thread_part plan group s = and_then (set_first plan.elements s) (group_part (here_at plan group) group (slice_get plan.elements group))
 
 -- the events of a thread by its number: its ramp-up pause, its first variables, the rounds of its group, and its end
 unfoldable pub events : Tree → ℕ → Options → Run (Unit {0})

@@ -1,16 +1,19 @@
 -- Joins of rounds: the Loop, While and ForEach Controllers and the thread group.
-use Rattle.std.specs.Prelude.{ℕ, zero, suc, ◌+◌, List, Option, Some, None, Bool, decimal, if◌then◌else◌}
+use Rattle.std.specs.Prelude.{ℕ, zero, suc, ◌+◌, List, Option, Some, None, Bool, true, false, decimal, if◌then◌else◌}
 use Rattle.std.specs.Option.{option_map}
-use Rattle.jm_base.specs.declared.types.End.TheVariants.{RoundLimit}
+use Rattle.jm_base.specs.declared.types.End.TheVariants.{RoundLimit, StopThread, ValueLimit}
 use Rattle.jm_base.specs.Run.{Run, over, ◌>>=◌}
 use Rattle.template_text.specs.Pieces.{Pieces}
+use Rattle.element_tree.specs.declared.kinds.Element.{Element}
 use Rattle.element_tree.specs.declared.kinds.Loops.{Loops}
+use Rattle.cursor_steps.specs.CursorStep.{Step}
+use Rattle.config_elements.specs.RoundStart.{begin_round}
 use Rattle.logic_controllers.specs.ControllerRounds.{index_name}
 use Rattle.logic_controllers.specs.LoopController.{round_begins}
 use Rattle.logic_controllers.specs.WhileController.{last_ok, goes_on}
 use Rattle.logic_controllers.specs.ForEachController.{Row, value_at}
 use Rattle.jm_meaning.specs.declared.signal.Signal.TheVariants.{Normal, NextLoop, Stop}
-use Rattle.jm_meaning.specs.State.{Ending, Part, normal, stopped, and_then, with_round, Tried, Try, fine, tried, text, put}
+use Rattle.jm_meaning.specs.State.{Own, Ending, Part, state_of, at_config, normal, stopped, and_then, with_round, Tried, Try, fine, tried, text, put}
 
 -- what a looping element decides before a round of this index: whether it begins, and with what; and what it does once
 -- the round has begun
@@ -63,12 +66,27 @@ each_turns name row output = record {
   opens = λ value i s. and_then (set_index name i s) (put output value);
 }
 
--- the rounds of a thread group, which has no index variable
-abbrev pub group_turns : Loops → Turns (Unit {0})
-group_turns loops = record {
+-- the rounds of a thread group, which has no index variable; at the start of each comes this part
+abbrev pub group_turns : Loops → Part → Turns (Unit {0})
+group_turns loops start = record {
   begins = λ i user. over (fine (where_so (round_begins loops i)) user);
-  opens = λ x i s. over (normal s);
+  opens = λ x i. start;
 }
+
+-- after the start of a round: the round goes on, or the thread stops
+abbrev pub where_fed : Bool → Part
+where_fed true s = over (normal s)
+where_fed false s = over (stopped StopThread s)
+
+abbrev pub on_fed : Own → Step Bool (List ℕ) → Run Ending
+on_fed own step = elim step.answer [
+  | None ↦ over (stopped ValueLimit (state_of step.state (at_config own step.cursor)))
+  | Some fed ↦ where_fed fed (state_of step.state (at_config own step.cursor))
+]
+
+-- the start of a round of a group: Counters and data sets advance; where no row is left the thread stops
+abbrev pub round_start : List Element → ℕ → Part
+round_start elements group s = begin_round elements group s.own.config s.user >>= on_fed s.own
 
 -- in the group NextLoop ends the round alone
 abbrev pub caught : Ending → Ending

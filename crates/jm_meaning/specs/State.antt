@@ -3,20 +3,20 @@ use Rattle.std.specs.Prelude.{ℕ, zero, suc, List, Option, Some, None, slice_in
 use Rattle.jm_base.specs.declared.types.End.{End}
 use Rattle.jm_base.specs.declared.types.End.TheVariants.{SampleLimit, RoundLimit, ValueLimit}
 use Rattle.jm_base.specs.Run.{Run, over, ◌>>=◌}
-use Rattle.template_text.specs.Pieces.{Pieces}
 use Rattle.var_functions.specs.declared.state.UserState.{UserState}
 use Rattle.var_functions.specs.FunctionState.{Functions}
 use Rattle.var_functions.specs.Vars.{Variables, put_var}
-use Rattle.var_functions.specs.Expansion.{Expanded, expansion}
+pub use Rattle.trials.specs.Tried.{Tried, Try, fine, past_limit, on_tried, text, text_of}
 use Rattle.jm_meaning.specs.declared.signal.Signal.{Signal}
 use Rattle.jm_meaning.specs.declared.signal.Signal.TheVariants.{Normal, NextLoop, Stop}
 
--- what templates don't see: the units left of the sample budget, the rounds left, and the places of the Interleave
--- Controllers, each at the number of its element
+-- what templates don't see: the units left of the sample budget, the rounds left, the places of the Interleave Controllers
+-- and those of Counters and data sets, each at the number of its element
 pub record Own : Type 0 where
   pub units : ℕ
   pub rounds : ℕ
   pub places : List ℕ
+  pub config : List ℕ
 
 -- the variables and what functions keep, and the rest
 pub record State : Type 0 where
@@ -51,14 +51,17 @@ and_then run next = run >>= on_normal next
 
 -- with that many units, or rounds, left
 abbrev pub at_units : Own → ℕ → Own
-at_units own n = record { units = n; rounds = own.rounds; places = own.places }
+at_units own n = record { units = n; rounds = own.rounds; places = own.places; config = own.config }
 
 abbrev pub at_rounds : Own → ℕ → Own
-at_rounds own n = record { units = own.units; rounds = n; places = own.places }
+at_rounds own n = record { units = own.units; rounds = n; places = own.places; config = own.config }
 
 -- with these places
 abbrev pub at_places : Own → List ℕ → Own
-at_places own places = record { units = own.units; rounds = own.rounds; places = places }
+at_places own places = record { units = own.units; rounds = own.rounds; places = places; config = own.config }
+
+abbrev pub at_config : Own → List ℕ → Own
+at_config own config = record { units = own.units; rounds = own.rounds; places = own.places; config = config }
 
 -- the place of the element of this number
 abbrev pub place_of : List ℕ → ℕ → ℕ
@@ -90,37 +93,12 @@ with_round s next = taking_round s.own.rounds s next
 
 -- ---- what may be past a limit
 
--- a value, or none where a text, a value or the variables would be past their limit; and variables and functions then
-pub record Tried (A : Type 0) : Type 0 where
-  pub came : Option A
-  pub user : UserState
-
-abbrev pub Try : Type 0 → Type 0
-Try A = UserState → Run (Tried A)
-
-abbrev pub fine : {A : Type 0} → A → UserState → Tried A
-fine x user = record { came = Some x; user = user }
-
-abbrev pub past_limit : {A : Type 0} → UserState → Tried A
-past_limit user = record { came = None; user = user }
-
--- goes on with the value, or is past the limit
-abbrev pub on_tried : {A B : Type 0} → (A → Try B) → Tried A → Run (Tried B)
-on_tried next t = elim t.came [ None ↦ over (past_limit t.user) | Some x ↦ next x t.user ]
-
 -- goes on with the value; past a limit the thread stops
 abbrev pub on_came : {A : Type 0} → Own → (A → Part) → Tried A → Run Ending
 on_came own next t = elim t.came [ None ↦ over (stopped ValueLimit (state_of t.user own)) | Some x ↦ next x (state_of t.user own) ]
 
 abbrev pub tried : {A : Type 0} → Try A → State → (A → Part) → Run Ending
 tried attempt s next = attempt s.user >>= on_came s.own next
-
--- the text of a template
-abbrev pub text_of : UserState → Expanded (List ℕ) → Tried (List ℕ)
-text_of user x = record { came = x.came; user = record { vars = user.vars; fns = x.fns } }
-
-abbrev pub text : Pieces → Try (List ℕ)
-text template user = expansion template user.vars user.fns >>= λ x. over (text_of user x)
 
 -- these variables, where they are within their limits
 abbrev pub with_vars : Option Variables → Part

@@ -1,20 +1,20 @@
 // The first variables of a thread.
 
-ghost use Rattle.std.specs.Prelude.{◌≡◌, OnErr};
+ghost use Rattle.std.specs.Prelude.{OnErr};
 ghost use Rattle.jm_base.specs.Run.{over};
 ghost use Rattle.jm_base.specs.declared.types.End.TheVariants.{ValueLimit as PastValueLimit};
 ghost use Rattle.var_functions.specs.Came.{CameTo};
 ghost use Rattle.var_functions.specs.FunctionState.{IsLater};
-ghost use Rattle.jm_meaning.specs.State.{Own, state_of, normal, stopped, tried, text, put};
+ghost use Rattle.jm_meaning.specs.State.{Own, state_of, normal, stopped};
 ghost use Rattle.jm_meaning.specs.Beginning.{set_first, set_all, user_variables};
 ghost use Rattle.jm_meaning.specs.Cut.{SetsPrefix};
 
-use crate::sampler::put_copy;
-use element_props::Pair;
 use element_tree::{Element, Kind, Plan};
 use jm_base::Outside;
 use std::alloc::Global;
-use var_functions::{UserState, VarError, expand};
+use trials::set_pairs;
+use var_changes::put_copy;
+use var_functions::{UserState, VarError};
 
 /// Sets the user defined variables of a plan, wherever they stand, in tree order: each value is expanded when its turn
 /// comes, and a later one of the same name wins (the manual's "User Defined Variables"). After them it sets
@@ -64,41 +64,4 @@ fn set_elements<O: Outside>(
         }
     }
     Ok(())
-}
-
-fn set_pairs<O: Outside>(
-    alloc: Global,
-    pairs: &[Pair],
-    state: &mut UserState,
-    outside: &mut O,
-) -> Result<(), VarError>
-    ensures came { (own : Own) → CameTo (O.account outside.old) (set_all pairs.now (state_of state.old own)) (O.account outside.new)
-        (λ u. over (normal (state_of state.new own))) (over (stopped PastValueLimit (state_of state.new own))) result }
-    ensures later { IsLater state.old.fns state.new.fns }
-    ensures cut { OnErr result (SetsPrefix (O.account outside.old) pairs.now state.old (O.account outside.new) state.new) }
-{
-    for pair in pairs {
-        match set_pair(alloc, pair, state, outside) {
-            Ok(()) => {}
-            Err(error) => return Err(error),
-        }
-    }
-    Ok(())
-}
-
-fn set_pair<O: Outside>(
-    alloc: Global,
-    pair: &Pair,
-    state: &mut UserState,
-    outside: &mut O,
-) -> Result<(), VarError>
-    ensures came { (own : Own) → CameTo (O.account outside.old) (tried (text pair.now.value) (state_of state.old own) (put pair.now.name)) (O.account outside.new)
-        (λ u. over (normal (state_of state.new own))) (over (stopped PastValueLimit (state_of state.new own))) result }
-    ensures later { IsLater state.old.fns state.new.fns }
-    ensures kept { OnErr result (state.new.vars ≡ state.old.vars) }
-{
-    match expand(alloc, &pair.value, state, outside) {
-        Ok(value) => put_copy(alloc, pair.name.bytes(), value.bytes(), &mut state.vars),
-        Err(error) => Err(error),
-    }
 }

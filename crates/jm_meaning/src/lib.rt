@@ -1,4 +1,5 @@
-//! The meaning of a plan, which the contracts of the layers above cite, and a plain slow program that computes it.
+//! The meaning of a plan, which the contracts of the layers above cite, and what several of them do for a thread: its ramp-up
+//! pause, its first variables, the places of its Interleave Controllers, and what a transaction counts.
 #![tactic(auto)]
 
 pub mod beginning;
@@ -6,7 +7,6 @@ pub mod item;
 pub mod places;
 pub mod ramp_up;
 pub mod running;
-pub mod sampler;
 pub mod signal;
 pub mod transaction;
 
@@ -15,6 +15,5 @@ pub use item::Item;
 pub use places::Places;
 pub use ramp_up::ramp_up_pause;
 pub use running::runs;
-pub use sampler::{put_copy, run_sampler, sample_once};
 pub use signal::{Signal, signal_of};
 pub use transaction::Tally;

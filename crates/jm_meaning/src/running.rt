@@ -26,5 +26,17 @@ pub fn runs(kind: &Kind) -> bool
             | Kind::Transaction
             | Kind::Script { .. }
             | Kind::UserVariables { .. }
+            | Kind::Counter { .. }
+            | Kind::DataSet { .. }
+            | Kind::UserParameters { .. }
+            | Kind::ConstantTimer { .. }
+            | Kind::UniformTimer { .. }
+            | Kind::RegexExtractor(_)
+            | Kind::JsonExtractor(_)
+            | Kind::BoundaryExtractor(_)
+            | Kind::ResponseAssertion(_)
+            | Kind::DurationAssertion(_)
+            | Kind::SizeAssertion(_)
+            | Kind::Listener
     )
 }

@@ -40,7 +40,7 @@ module _ {a b : Account} {p q r : Progress} {signal : Signal} (below : Below) (r
       → Plays a p (interleave below round number children) signal r b
   interleave-plays number n place all some at moved same plays =
       way-end (way-move (chosen below round children (Some place)) q (way-start a p (interleave below round number children)) goes-on
-      (ap (λ x. x.items.items) same) (ap (λ x. x.tally) same) (let k = ap (λ x. x.rounds) same in omega (arith, k))) plays where
+      (ap (λ x. x.items.items) same) (ap (λ x. x.tally) same) (let k = ap (λ x. x.rounds) same in omega (arith, k)) (ap (λ x. x.config.feeds) same)) plays where
         goes-on : interleave below round number children (state_in p) ≡ chosen below round children (Some place) (state_in q)
         goes-on = rw (some, at, moved, all) refl
 
@@ -49,7 +49,7 @@ module _ {a b : Account} {p q r : Progress} {signal : Signal} (below : Below) (r
       → Plays a p (random below round children) signal r b
   random-plays n o fns all is after same plays =
       way-end (way-move (chosen below round children o) q (way-start a p (random below round children)) goes-on
-      (ap (λ x. x.items.items) same) (ap (λ x. x.tally) same) (let k = ap (λ x. x.rounds) same in omega (arith, k))) plays where
+      (ap (λ x. x.items.items) same) (ap (λ x. x.tally) same) (let k = ap (λ x. x.rounds) same in omega (arith, k)) (ap (λ x. x.config.feeds) same)) plays where
         goes-on : random below round children (state_in p) ≡ chosen below round children o (state_in q)
         goes-on = rw (same, is, after, all) refl
 
@@ -58,7 +58,7 @@ module _ {a b : Account} {p q r : Progress} {signal : Signal} (below : Below) (r
       → Plays a p (random_order below round children) signal r b
   order-plays xs fns is after same plays =
       way-end (way-move (in_order below round xs) q (way-start a p (random_order below round children)) goes-on
-      (ap (λ x. x.items.items) same) (ap (λ x. x.tally) same) (let k = ap (λ x. x.rounds) same in omega (arith, k))) plays where
+      (ap (λ x. x.items.items) same) (ap (λ x. x.tally) same) (let k = ap (λ x. x.rounds) same in omega (arith, k)) (ap (λ x. x.config.feeds) same)) plays where
         goes-on : random_order below round children (state_in p) ≡ in_order below round xs (state_in q)
         goes-on = rw (same, is, after) refl
 

@@ -16,7 +16,7 @@ use Rattle.jm_meaning.specs.declared.signal.Signal.{Signal}
 use Rattle.jm_meaning.specs.declared.signal.Signal.TheVariants.{Normal, NextLoop, Stop}
 use Rattle.jm_meaning.specs.State.{State, Part, normal}
 use Rattle.jm_meaning.specs.Beginning.{Options, max_rounds, first_of, set_first}
-use Rattle.jm_meaning.specs.Rounds.{rounds, group_turns, caught, round_of_group}
+use Rattle.jm_meaning.specs.Rounds.{rounds, group_turns, caught, round_of_group, round_start}
 use Rattle.jm_meaning.specs.Children.{in_order, children_of}
 use Rattle.jm_meaning.specs.Meaning.{meaning, group_part, group_meaning, here_at, failure_in, failure_of, signal_of, thread_part, events, end_of, and_end, after_pause}
 use Rattle.jm_meaning.specs.RampUp.{pause_of}
@@ -41,44 +41,45 @@ plays-caught {a} {b} {p} {q} {signal} part plays so is = record {
       (subst (λ x. Tells a p.items.items p.tally (round_of_group (part (state_in p))) (over x) q.items.items q.tally b) (caught-is q signal)
       (tells-bind (λ e. over (caught e)) plays.tells));
   fewer = plays.fewer;
+  feeds = plays.feeds;
 }
 
 -- ---- the group
 
 pub group-is : (plan : Tree) (group : ℕ) (e : Element) (loops : Loops) (on_error : OnError) (ramp threads : ℕ) (children : List ℕ) (failure : Signal) (s : State)
     → slice_get plan.elements group ≡ Some e → e.kind ≡ ThreadGroup loops on_error ramp threads → children ≡ children_of plan.elements e → failure ≡ signal_of on_error
-    → group_part (here_at plan group) (slice_get plan.elements group) s
-    ≡ rounds max_rounds (group_turns loops) (λ i s. round_of_group (in_order (meaning (here_of plan failure) 30) i children s)) 0 s
+    → group_part (here_at plan group) group (slice_get plan.elements group) s
+    ≡ rounds max_rounds (group_turns loops (round_start plan.elements group)) (λ i s. round_of_group (in_order (meaning (here_of plan failure) 30) i children s)) 0 s
 group-is plan group e loops on_error ramp threads children failure s there kind of_element leads =
-    ap (λ o. group_part (here_of plan (failure_of o)) o s) there
-    ∙ ap (λ k. group_meaning (here_of plan (failure_in k)) e k s) kind
-    ∙ ap (λ f. rounds max_rounds (group_turns loops) (λ i s. round_of_group (in_order (meaning (here_of plan f) 30) i (children_of plan.elements e) s)) 0 s) (sym leads)
-    ∙ ap (λ cs. rounds max_rounds (group_turns loops) (λ i s. round_of_group (in_order (meaning (here_of plan failure) 30) i cs s)) 0 s) (sym of_element)
+    ap (λ o. group_part (here_of plan (failure_of o)) group o s) there
+    ∙ ap (λ k. group_meaning (here_of plan (failure_in k)) group e k s) kind
+    ∙ ap (λ f. rounds max_rounds (group_turns loops (round_start plan.elements group)) (λ i s. round_of_group (in_order (meaning (here_of plan f) 30) i (children_of plan.elements e) s)) 0 s) (sym leads)
+    ∙ ap (λ cs. rounds max_rounds (group_turns loops (round_start plan.elements group)) (λ i s. round_of_group (in_order (meaning (here_of plan failure) 30) i cs s)) 0 s) (sym of_element)
 
-other-kind : (plan : Tree) (failure : Signal) (e : Element) (s : State) (k : Kind) → ((l : Loops) (o : OnError) (r t : ℕ) → k ≡ ThreadGroup l o r t → ⊥)
-    → group_meaning (here_of plan failure) e k s ≡ over (normal s)
-other-kind plan failure e s (ThreadGroup l o r t) other = absurd (other l o r t refl)
-other-kind plan failure e s k other = refl
+other-kind : (plan : Tree) (failure : Signal) (group : ℕ) (e : Element) (s : State) (k : Kind) → ((l : Loops) (o : OnError) (r t : ℕ) → k ≡ ThreadGroup l o r t → ⊥)
+    → group_meaning (here_of plan failure) group e k s ≡ over (normal s)
+other-kind plan failure group e s (ThreadGroup l o r t) other = absurd (other l o r t refl)
+other-kind plan failure group e s k other = refl
 
 pub no-group : (plan : Tree) (group : ℕ) (e : Element) (s : State) → slice_get plan.elements group ≡ Some e → ((l : Loops) (o : OnError) (r t : ℕ) → e.kind ≡ ThreadGroup l o r t → ⊥)
-    → group_part (here_at plan group) (slice_get plan.elements group) s ≡ over (normal s)
+    → group_part (here_at plan group) group (slice_get plan.elements group) s ≡ over (normal s)
 no-group plan group e s there other =
-    ap (λ o. group_part (here_of plan (failure_of o)) o s) there ∙ other-kind plan (failure_in e.kind) e s e.kind other
+    ap (λ o. group_part (here_of plan (failure_of o)) group o s) there ∙ other-kind plan (failure_in e.kind) group e s e.kind other
 
-pub nothing-there : (plan : Tree) (group : ℕ) (s : State) → slice_get plan.elements group ≡ None → group_part (here_at plan group) (slice_get plan.elements group) s ≡ over (normal s)
-nothing-there plan group s none = ap (λ o. group_part (here_of plan (failure_of o)) o s) none
+pub nothing-there : (plan : Tree) (group : ℕ) (s : State) → slice_get plan.elements group ≡ None → group_part (here_at plan group) group (slice_get plan.elements group) s ≡ over (normal s)
+nothing-there plan group s none = ap (λ o. group_part (here_of plan (failure_of o)) group o s) none
 
 -- ---- the thread
 
 pub thread-runs : {a b c : Account} {p q r : Progress} {first signal : Signal} (plan : Tree) (group : ℕ) → Plays a p (set_first plan.elements) first q b → first ≡ Normal
-    → Plays b q (group_part (here_at plan group) (slice_get plan.elements group)) signal r c → Plays a p (thread_part plan group) signal r c
+    → Plays b q (group_part (here_at plan group) group (slice_get plan.elements group)) signal r c → Plays a p (thread_part plan group) signal r c
 thread-runs {a} {p = p} plan group plays normal next =
-    way-end (way-then (set_first plan.elements) (group_part (here_at plan group) (slice_get plan.elements group)) (way-start a p (thread_part plan group)) refl plays normal) next
+    way-end (way-then (set_first plan.elements) (group_part (here_at plan group) group (slice_get plan.elements group)) (way-start a p (thread_part plan group)) refl plays normal) next
 
 pub thread-stops : {a b : Account} {p q : Progress} {signal : Signal} (plan : Tree) (group : ℕ) → Plays a p (set_first plan.elements) signal q b → (signal ≡ Normal → ⊥)
     → Plays a p (thread_part plan group) signal q b
 thread-stops {a} {p = p} plan group plays other =
-    way-stop (set_first plan.elements) (group_part (here_at plan group) (slice_get plan.elements group)) (way-start a p (thread_part plan group)) refl plays other
+    way-stop (set_first plan.elements) (group_part (here_at plan group) group (slice_get plan.elements group)) (way-start a p (thread_part plan group)) refl plays other
 
 -- after its pause, its first variables and the rounds of its group the thread ends
 pub thread-shows : (plan : Tree) (thread group ms : ℕ) (options : Options) (a b d : Account) (xs : List Item) (p q : Progress) (signal : Signal) (end : End)

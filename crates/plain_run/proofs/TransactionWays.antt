@@ -53,6 +53,7 @@ module _ {a b : Account} (p : Progress) {q : Progress} {signal : Signal} (label 
         counts = joins inside.tells.shows.events counts-so;
       };
       fewer = inside.fewer;
+      feeds = inside.feeds;
     }
 
 -- ---- the sample
@@ -70,15 +71,15 @@ module _ (a : Account) (p : Progress) (label : ℕ) (tally : Tally) (signal : Si
   module _ (some : (gives_sample signal && nat_lt 0 tally.samples) ≡ true) where
     in_sum : OnWay a p (sum_behind label tally signal) (λ s. with_unit s sum_given) p a
     in_sum = way-move (λ s. with_unit s sum_given) p (way-start a p (sum_behind label tally signal))
-        (ap (λ b. if b then with_own_sample label tally (ended p signal) else over (ended p signal)) some) refl refl (omega arith)
+        (ap (λ b. if b then with_own_sample label tally (ended p signal) else over (ended p signal)) some) refl refl (omega arith) refl
 
     pub no-unit-for-sum : p.units ≡ 0 → Plays a p (sum_behind label tally signal) (Stop SampleLimit) p a
     no-unit-for-sum none = way-over (Stop SampleLimit) in_sum (no-units (state_in p) sum_given none)
 
-    pub sum-given : (q : Progress) (x : Sample) → x ≡ sample_by label tally → (p.units ≡ 0 → ⊥) → state_in q ≡ state_of p.user (record { units = p.units - 1; rounds = p.rounds; places = p.places })
-        → q.items.items ≡ p.items.items ++ SampledItem x ∷ [] → q.tally ≡ p.tally → Plays a p (sum_behind label tally signal) signal q a
-    sum-given q x so left is items tallies =
+    pub sum-given : (q : Progress) (x : Sample) → x ≡ sample_by label tally → (p.units ≡ 0 → ⊥) → state_in q ≡ state_of p.user (record { units = p.units - 1; rounds = p.rounds; places = p.places; config = p.config.places })
+        → q.items.items ≡ p.items.items ++ SampledItem x ∷ [] → q.tally ≡ p.tally → q.config.feeds ≡ p.config.feeds → Plays a p (sum_behind label tally signal) signal q a
+    sum-given q x so left is items tallies feeds =
         let unit : p.units ≡ suc (p.units - 1) = omega arith in
         way-over signal (way-give (λ s. over (record { state = s; signal = signal })) q (Sampled Transaction (sample_by label tally))
-        (way-move sum_given (record p { units = p.units - 1 }) in_sum (one-unit (state_in p) sum_given (p.units - 1) unit) refl refl (omega arith))
-        (ap (λ s. sum_given s) (sym is)) (items ∙ ap (λ y. p.items.items ++ SampledItem y ∷ []) so) tallies (omega (arith, ap (λ s. s.own.rounds) is))) refl
+        (way-move sum_given (record p { units = p.units - 1 }) in_sum (one-unit (state_in p) sum_given (p.units - 1) unit) refl refl (omega arith) refl)
+        (ap (λ s. sum_given s) (sym is)) (items ∙ ap (λ y. p.items.items ++ SampledItem y ∷ []) so) tallies (omega (arith, ap (λ s. s.own.rounds) is)) feeds) refl

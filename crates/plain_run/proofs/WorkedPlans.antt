@@ -17,11 +17,14 @@ use Rattle.element_tree.specs.Threads.{threads_in}
 use Rattle.element_tree.specs.Tree.{Tree}
 use Rattle.element_tree.specs.Names.{labels_of}
 use Rattle.var_functions.specs.Expansion.{after_pieces, referred, after_texts}
+use Rattle.scope_resolver.specs.Ancestry.{line, hanging_by, applying_by}
+use Rattle.scope_resolver.specs.Scoping.{package_of}
+use Rattle.sampler_pipeline.specs.Exchanges.{exchange}
 use Rattle.jm_meaning.specs.RampUp.{pause_of}
 use Rattle.jm_meaning.specs.Beginning.{Options}
 use Rattle.jm_meaning.specs.Meaning.{events, meaning}
 use Rattle.jm_meaning.specs.Rounds.{rounds}
-use Rattle.jm_meaning.specs.Sampling.{sampled, pipeline}
+use Rattle.sampler_pipeline.specs.SamplerPipeline.{pipeline}
 use Rattle.jm_meaning.specs.Transactions.{heard}
 
 -- a reply after that many milliseconds, whose body is the text of the request
@@ -81,7 +84,7 @@ once_in_each_run_of_the_loop : (over_value script_form (events once 0 options) o
     ∷ sample 16 2 1 200 (codes "OK") true 0
     ∷ Ended Completed
     ∷ []
-unfolding over_value events digits pause_of threads_in meaning rounds sampled pipeline labels_of after_pieces referred after_texts once once_scripts options sample element reply a_replies b_replies
+unfolding over_value events digits pause_of threads_in meaning rounds exchange pipeline package_of applying_by hanging_by line labels_of after_pieces referred after_texts once once_scripts options sample element reply a_replies b_replies
 once_in_each_run_of_the_loop = refl
 
 -- a While with LAST over a sampler whose second sample fails
@@ -107,7 +110,7 @@ a_while_ends_after_a_failed_sample : (over_value script_form (events last 0 opti
     ∷ sample 5 7 0 500 (codes "Bad") false 0
     ∷ Ended Completed
     ∷ []
-unfolding over_value events digits pause_of threads_in meaning rounds sampled pipeline labels_of after_pieces referred after_texts last last_scripts options sample element reply c_replies
+unfolding over_value events digits pause_of threads_in meaning rounds exchange pipeline package_of applying_by hanging_by line labels_of after_pieces referred after_texts last last_scripts options sample element reply c_replies
 a_while_ends_after_a_failed_sample = refl
 
 -- a ForEach over the variables x_1 and x_2, whose values are sent
@@ -134,7 +137,7 @@ a_foreach_sends_each_value : (over_value script_form (events each 0 options) eac
     ∷ sample 5 5 0 200 (codes "OK") true 3
     ∷ Ended Completed
     ∷ []
-unfolding over_value events digits pause_of threads_in meaning rounds sampled pipeline labels_of after_pieces referred after_texts each each_scripts options sample element reply a_replies pair
+unfolding over_value events digits pause_of threads_in meaning rounds exchange pipeline package_of applying_by hanging_by line labels_of after_pieces referred after_texts each each_scripts options sample element reply a_replies pair
 a_foreach_sends_each_value = refl
 
 -- Random Controllers without a child, and a Simple over a Random Order over A alone
@@ -159,7 +162,7 @@ a_child_alone_runs_in_any_order : (over_value script_form (events alone 0 option
     ≡ sample 0 5 0 200 (codes "OK") true 0
     ∷ Ended Completed
     ∷ []
-unfolding over_value events digits pause_of threads_in meaning rounds sampled pipeline labels_of after_pieces referred after_texts alone alone_scripts options sample element reply a_replies
+unfolding over_value events digits pause_of threads_in meaning rounds exchange pipeline package_of applying_by hanging_by line labels_of after_pieces referred after_texts alone alone_scripts options sample element reply a_replies
 a_child_alone_runs_in_any_order = refl
 
 -- two rounds of a group over an Interleave, and a Switch by name
@@ -192,7 +195,7 @@ an_interleave_takes_turns : (over_value script_form (events turn 0 options) turn
     ∷ sample 9 2 3 200 (codes "OK") true 0
     ∷ Ended Completed
     ∷ []
-unfolding over_value events digits pause_of threads_in meaning rounds sampled pipeline labels_of after_pieces referred after_texts turn turn_scripts options sample element reply a_replies b_replies
+unfolding over_value events digits pause_of threads_in meaning rounds exchange pipeline package_of applying_by hanging_by line labels_of after_pieces referred after_texts turn turn_scripts options sample element reply a_replies b_replies
 an_interleave_takes_turns = refl
 
 -- a Transaction over two samplers, of which the second fails
@@ -230,5 +233,5 @@ a_transaction_sums_its_samples : (over_value script_form (events whole 0 options
     })
     ∷ Ended Completed
     ∷ []
-unfolding over_value events digits pause_of threads_in meaning rounds sampled pipeline heard labels_of after_pieces referred after_texts whole whole_scripts options sample element reply a_replies d_replies
+unfolding over_value events digits pause_of threads_in meaning rounds exchange pipeline package_of applying_by hanging_by line heard labels_of after_pieces referred after_texts whole whole_scripts options sample element reply a_replies d_replies
 a_transaction_sums_its_samples = refl

@@ -1,11 +1,12 @@
 -- What it is that a thread runs a part of its plan.
-use Rattle.std.specs.Prelude.{◌≡◌, ◌≤◌, List}
+use Rattle.std.specs.Prelude.{◌≡◌, ◌≤◌, ℕ, zero, suc, List, [], ◌∷◌, ◌++◌}
 use Rattle.jm_base.specs.Run.{Run, over}
 use Rattle.jm_base.specs.Outside.{Account}
 use Rattle.element_tree.specs.declared.kinds.Kind.{Kind}
 use Rattle.element_tree.specs.declared.kinds.Kind.TheVariants.{Loop, While, ForEach}
 use Rattle.element_tree.specs.Tree.{Tree}
 use Rattle.jm_meaning.specs.declared.item.Item.{Item}
+use Rattle.jm_meaning.specs.declared.item.Item.TheVariants.{Paused}
 use Rattle.jm_meaning.specs.declared.signal.Signal.{Signal}
 use Rattle.jm_meaning.specs.declared.signal.Signal.TheVariants.{Normal, NextLoop, Stop}
 use Rattle.jm_meaning.specs.declared.transaction.Tally.{Tally}
@@ -17,7 +18,12 @@ use Rattle.plain_run.specs.declared.progress.Progress.{Progress}
 
 -- the state of a thread that has come so far
 abbrev pub state_in : Progress → State
-state_in p = state_of p.user (record { units = p.units; rounds = p.rounds; places = p.places })
+state_in p = state_of p.user (record { units = p.units; rounds = p.rounds; places = p.places; config = p.config.places })
+
+-- what a trace shows with a pause of that many milliseconds, if it was any
+abbrev pub with_pause : List Item → ℕ → List Item
+with_pause items zero = items
+with_pause items (suc ms) = items ++ Paused (suc ms) ∷ []
 
 -- a part that has ended so
 abbrev pub ended : Progress → Signal → Ending
@@ -30,10 +36,11 @@ pub record Tells {A : Type 0} (before : Account) (old : List Item) (first : Tall
   pub counts : last ≡ counted first shows.events
 
 -- Between two moments of its outside the thread has run the part: it shows and counts what the part gives, and the part has
--- ended so. No rounds came to those left.
+-- ended so. No rounds came to those left, and what is kept of Counters and data sets is of the same elements.
 pub record Plays (before : Account) (old : Progress) (part : Part) (signal : Signal) (new : Progress) (after : Account) : Type 0 where
   pub tells : Tells before old.items.items old.tally (part (state_in old)) (over (ended new signal)) new.items.items new.tally after
   pub fewer : new.rounds ≤ old.rounds
+  pub feeds : new.config.feeds ≡ old.config.feeds
 
 -- what the run of a thread is over, by its plan and what a failed sample leads to
 abbrev pub here_of : Tree → Signal → Here

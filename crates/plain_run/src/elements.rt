@@ -103,9 +103,7 @@ fn run_kind<O: Outside>(
             progress,
             outside,
         ),
-        Kind::Script { request, .. } => {
-            progress.sample(plan.label_of(number), number, request, at_failure, outside)
-        }
+        Kind::Script { .. } => progress.sample(plan, number, at_failure, outside),
         _ => Ok(Signal::Normal),
     }
 }

@@ -2,7 +2,8 @@
 
 ghost use Rattle.std.specs.Prelude.{◌≡◌, ◌≤◌, IfOk, slice_get};
 ghost use Rattle.jm_meaning.specs.Beginning.{max_rounds};
-ghost use Rattle.jm_meaning.specs.Rounds.{rounds, group_turns, round_of_group};
+ghost use Rattle.config_elements.specs.RoundStart.{feeds_of};
+ghost use Rattle.jm_meaning.specs.Rounds.{rounds, group_turns, round_of_group, round_start};
 ghost use Rattle.jm_meaning.specs.Children.{in_order};
 ghost use Rattle.jm_meaning.specs.Meaning.{meaning, group_part, here_at, thread_part};
 ghost use Rattle.plain_run.specs.Plays.{Plays, here_of, caught_signal};
@@ -15,14 +16,16 @@ use jm_base::{M, Outside};
 use jm_meaning::{Signal, signal_of};
 use logic_controllers::round_begins;
 
-/// Sets the first variables, and runs the rounds of the group at this element.
+/// Sets the first variables, and runs the rounds of the group at this element, for which the thread keeps Counters and data
+/// sets.
 pub fn run_thread<O: Outside>(
     plan: &Plan,
     group: u16,
     progress: &mut Progress,
     outside: &mut O,
 ) -> M<Signal>
-    requires { progress.old.rounds ≤ max_rounds }
+    requires rounds { progress.old.rounds ≤ max_rounds }
+    requires feeds { progress.old.config.feeds ≡ feeds_of plan.now.elements group }
     ensures { IfOk result (λ signal. Plays (O.account outside.old) progress.old
         (thread_part plan.now group) signal progress.new (O.account outside.new)) }
 {
@@ -42,9 +45,10 @@ fn run_group<O: Outside>(
     progress: &mut Progress,
     outside: &mut O,
 ) -> M<Signal>
-    requires { progress.old.rounds ≤ max_rounds }
+    requires rounds { progress.old.rounds ≤ max_rounds }
+    requires feeds { progress.old.config.feeds ≡ feeds_of plan.now.elements group }
     ensures { IfOk result (λ signal. Plays (O.account outside.old) progress.old
-        (group_part (here_at plan.now group) (slice_get plan.now.elements group)) signal progress.new (O.account outside.new)) }
+        (group_part (here_at plan.now group) group (slice_get plan.now.elements group)) signal progress.new (O.account outside.new)) }
 {
     let Some(element) = plan.element(group) else {
         return Ok(Signal::Normal);
@@ -60,6 +64,7 @@ fn run_group<O: Outside>(
     let children = children_of(progress.alloc, plan, element)?;
     let signal = run_rounds(
         plan,
+        group,
         signal_of(*on_error),
         *loops,
         children.as_slice(),
@@ -69,23 +74,25 @@ fn run_group<O: Outside>(
     Ok(signal)
 }
 
-// The rounds of a group. Below it elements nest at most 30 deep.
+// The rounds of the group at this element. Below it elements nest at most 30 deep.
 fn run_rounds<O: Outside>(
     plan: &Plan,
+    group: u16,
     at_failure: Signal,
     loops: Loops,
     children: &[u16],
     progress: &mut Progress,
     outside: &mut O,
 ) -> M<Signal>
-    requires { progress.old.rounds ≤ max_rounds }
+    requires rounds { progress.old.rounds ≤ max_rounds }
+    requires feeds { progress.old.config.feeds ≡ feeds_of plan.now.elements group }
     ensures { IfOk result (λ signal. Plays (O.account outside.old) progress.old
-        (rounds max_rounds (group_turns loops) (λ i s. round_of_group (in_order (meaning (here_of plan.now at_failure) 30) i children.now s)) 0)
+        (rounds max_rounds (group_turns loops (round_start plan.now.elements group)) (λ i s. round_of_group (in_order (meaning (here_of plan.now at_failure) 30) i children.now s)) 0)
         signal progress.new (O.account outside.new)) }
 {
     let mut round = 0;
     'rounds: while round_begins(loops, round) {
-        match progress.take_round() {
+        match progress.open_group_round(plan, outside)? {
             Signal::Normal => {}
             other => return Ok(other),
         }

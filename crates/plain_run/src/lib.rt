@@ -17,6 +17,7 @@ ghost use Rattle.jm_meaning.specs.TraceShown.{Shows};
 
 use crate::group::run_thread;
 use crate::progress::Progress;
+use config_elements::ConfigState;
 use element_tree::Plan;
 use jm_base::{End, M, Outside};
 use jm_meaning::{Item, Places, Signal, Tally, ramp_up_pause};
@@ -49,6 +50,7 @@ pub fn run_plainly<O: Outside>(
         units: budget,
         rounds: 16_777_216,
         places: Places::first(alloc, plan)?,
+        config: ConfigState::new(alloc, plan, thread)?,
         tally: Tally::none(),
         items: Vec::new(alloc),
     };

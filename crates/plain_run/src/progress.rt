@@ -1,23 +1,28 @@
 // How far a thread has come, and the steps of its run that are no recursion.
 
-ghost use Rattle.std.specs.Prelude.{◌≡◌, ◌≤◌, ◌<◌, ◌%◌, [], IfOk, MatchResult};
+ghost use Rattle.std.specs.Prelude.{◌≡◌, ◌≤◌, ◌<◌, ◌%◌, ℕ, [], IfOk, OnOk, MatchResult};
 ghost use Rattle.jm_base.specs.declared.types.End.TheVariants.{ValueLimit as PastValueLimit};
 ghost use Rattle.jm_base.specs.Run.{over};
 ghost use Rattle.jm_base.specs.Outside.{Account, Goes};
+ghost use Rattle.config_elements.specs.RoundStart.{feeds_of};
 ghost use Rattle.logic_controllers.specs.ControllerRounds.{index_name};
 ghost use Rattle.jm_meaning.specs.State.{and_then, normal, place_of, put, text, with_round, with_unit};
-ghost use Rattle.jm_meaning.specs.Rounds.{set_index};
+ghost use Rattle.jm_meaning.specs.Rounds.{set_index, round_start};
 ghost use Rattle.jm_meaning.specs.Choices.{moved_on};
 ghost use Rattle.jm_meaning.specs.Beginning.{set_first};
-ghost use Rattle.jm_meaning.specs.Sampling.{sampling, after_sample};
-ghost use Rattle.plain_run.specs.Plays.{state_in, Plays};
+ghost use Rattle.jm_meaning.specs.Sampling.{sampling, given, after_sample};
+ghost use Rattle.plain_run.specs.Plays.{state_in, with_pause, Plays};
 
+use config_elements::{ConfigState, begin_round};
 use element_tree::Plan;
-use jm_base::{End, M, NoMemory, Outside, Text};
-use jm_meaning::{Item, Places, Signal, Tally, put_copy, run_sampler, set_first};
+use jm_base::{End, M, NoMemory, Outside, Sample, Text};
+use jm_meaning::{Item, Places, Signal, Tally, set_first};
 use logic_controllers::{decimal_text, index_name};
+use sampler_pipeline::{Done, run_one};
+use scope_resolver::package;
 use std::alloc::Global;
 use template_text::Template;
+use var_changes::put_copy;
 use var_functions::{UserState, VarError, expand};
 
 /// How far a thread has come.
@@ -32,6 +37,8 @@ pub struct Progress {
     pub rounds: u32,
     /// The places of the plan's Interleave Controllers.
     pub places: Places,
+    /// What it keeps of the Counters and data sets of its group.
+    pub config: ConfigState,
     /// What its samplers gave in the innermost transaction that is open, or outside of all.
     pub tally: Tally,
     /// What its trace shows so far.
@@ -152,34 +159,100 @@ impl Progress {
         place % children
     }
 
-    /// Runs a sampler by its label, its element's number and its request, where a unit is left.
+    /// Runs the sampler of this number with the elements that apply to it, where a unit is left.
     pub fn sample<O: Outside>(
         &mut self,
-        label: u16,
+        plan: &Plan,
         number: u16,
-        request: &Template,
         at_failure: Signal,
         outside: &mut O,
     ) -> M<Signal>
         ensures { IfOk result (λ signal. Plays (O.account outside.old) self.old
-            (λ s. with_unit s (sampling label number request.now at_failure)) signal self.new (O.account outside.new)) }
+            (λ s. with_unit s (sampling plan.now.elements number at_failure)) signal self.new (O.account outside.new)) }
     {
         if self.units == 0 {
             return Ok(Signal::Stop(End::SampleLimit));
         }
         self.units -= 1;
-        match run_sampler(self.alloc, label, number, request, &mut self.user, outside) {
-            Ok(None) => {
-                self.items.push(Item::Null(number))?;
-                Ok(Signal::Normal)
-            }
-            Ok(Some(sample)) => {
+        let scope = package(self.alloc, plan, number)?;
+        let mut order = Vec::new(self.alloc);
+        match run_one(
+            self.alloc,
+            plan,
+            &scope,
+            number,
+            &mut self.user,
+            outside,
+            &mut order,
+        ) {
+            Ok(Done { sample, paused }) => self.show(number, at_failure, paused, sample),
+            Err(error) => refused(error),
+        }
+    }
+
+    // Shows the pause of a sampler, if it was any, and then its sample or that there is none.
+    fn show(
+        &mut self,
+        number: u16,
+        at_failure: Signal,
+        paused: u32,
+        sample: Option<Sample>,
+    ) -> M<Signal>
+        ensures { IfOk result (λ signal. (a : Account) → Plays a self.old
+            (given number at_failure (record { sample = sample; paused = paused })) signal self.new a) }
+    {
+        self.show_pause(paused)?;
+        match sample {
+            Some(sample) => {
                 let signal = after_sample(sample.ok, at_failure);
                 self.tally = self.tally.with(&sample);
                 self.items.push(Item::Sampled(sample))?;
                 Ok(signal)
             }
+            None => {
+                self.items.push(Item::Null(number))?;
+                Ok(Signal::Normal)
+            }
+        }
+    }
+
+    // Shows a pause of that many milliseconds, if it was any.
+    fn show_pause(&mut self, ms: u32) -> M<()>
+        ensures items { OnOk result (self.new.items.items ≡ with_pause self.old.items.items ms) }
+        ensures same { self.new ≡ record self.old { items = self.new.items } }
+    {
+        if ms > 0 {
+            self.items.push(Item::Paused(ms))?;
+        }
+        Ok(())
+    }
+
+    /// Counters and data sets advance at the start of a round of the thread's group. Where no row is left the thread stops.
+    pub fn feed<O: Outside>(&mut self, plan: &Plan, outside: &mut O) -> M<Signal>
+        ensures plays { (group : ℕ) → self.old.config.feeds ≡ feeds_of plan.now.elements group
+            → IfOk result (λ signal. Plays (O.account outside.old) self.old (round_start plan.now.elements group) signal self.new (O.account outside.new)) }
+        ensures same { self.new ≡ record self.old { user = self.new.user; config = self.new.config } }
+    {
+        match begin_round(self.alloc, &mut self.config, plan, &mut self.user, outside) {
+            Ok(true) => Ok(Signal::Normal),
+            Ok(false) => Ok(Signal::Stop(End::StopThread)),
             Err(error) => refused(error),
+        }
+    }
+
+    /// Begins a round of the thread's group: it is taken from those left, and then Counters and data sets advance.
+    pub fn open_group_round<O: Outside>(&mut self, plan: &Plan, outside: &mut O) -> M<Signal>
+        ensures plays { (group : ℕ) → self.old.config.feeds ≡ feeds_of plan.now.elements group
+            → IfOk result (λ signal. Plays (O.account outside.old) self.old
+            (λ s. with_round s (round_start plan.now.elements group)) signal self.new (O.account outside.new)) }
+        ensures taken { IfOk result (λ signal. signal ≡ Signal.Normal → self.new.rounds < self.old.rounds) }
+    {
+        match self.take_round() {
+            Signal::Normal => {
+                let signal = self.feed(plan, outside)?;
+                Ok(signal)
+            }
+            other => Ok(other),
         }
     }
 

@@ -1,11 +1,16 @@
 // The calls of cases. They have no clauses, so that no proof carries along what the calls promise.
 
 use assertions::{Answer, check};
-use element_tree::{Assertion, BoundaryExtractor, JsonExtractor, RegexExtractor};
+use config_elements::{ConfigState, begin_round};
+use element_props::RegexPatterns;
+use element_tree::{Assertion, BoundaryExtractor, JsonExtractor, Plan, RegexExtractor, build};
 use extractors::{extract_bounds, extract_json, extract_regex};
-use jm_base::M;
+use jm_base::{Heard, M};
+use outside_world::ScriptOutside;
+use plan_json::read_tree;
+use sampler_pipeline::{Done, Packages, run_one};
 use std::alloc::Global;
-use var_functions::{VarError, Vars};
+use var_functions::{FnState, Props, UserState, VarError, Vars};
 
 /// A call of an extractor.
 pub fn regex(
@@ -46,4 +51,58 @@ pub fn bounds(
 /// A call of an assertion.
 pub fn holds(alloc: Global, assertion: &Assertion, answer: &Answer) -> M<bool> {
     check(alloc, assertion, answer)
+}
+
+/// The plan that a text is.
+pub fn plan(alloc: Global, text: &str) -> anyhow::Result<Plan> {
+    let tree = read_tree(alloc, text.as_bytes())?;
+    let mut patterns = RegexPatterns::new(Vec::new(alloc));
+    Ok(build(alloc, &tree, &mut patterns)?)
+}
+
+/// What the functions of a thread keep at its start, without properties, with seed 0.
+pub fn functions(alloc: Global) -> anyhow::Result<FnState> {
+    let props = Props::read(alloc, b"")?;
+    Ok(FnState::new(alloc, &props, 1, 0, 0)?)
+}
+
+/// What the first thread of a plan keeps before its first round.
+pub fn config(alloc: Global, plan: &Plan) -> M<ConfigState> {
+    let _threads = plan.threads();
+    ConfigState::new(alloc, plan, 0)
+}
+
+/// A call of a round's start.
+pub fn round(
+    alloc: Global,
+    config: &mut ConfigState,
+    plan: &Plan,
+    user: &mut UserState,
+    outside: &mut ScriptOutside,
+) -> Result<bool, VarError> {
+    begin_round(alloc, config, plan, user, outside)
+}
+
+/// A sampler runs with the package that is kept for it.
+pub fn sampler(
+    alloc: Global,
+    plan: &Plan,
+    packages: &mut Packages,
+    number: u16,
+    user: &mut UserState,
+    outside: &mut ScriptOutside,
+    order: &mut Vec<u16>,
+) -> Result<Done, VarError> {
+    match packages.of(alloc, plan, number) {
+        Ok(scope) => run_one(alloc, plan, scope, number, user, outside, order),
+        Err(_) => Err(VarError::NoMemory),
+    }
+}
+
+/// What an outside tells of what it was asked.
+pub fn told(alloc: Global, outside: &ScriptOutside) -> M<Vec<Heard>> {
+    match outside.told(alloc)? {
+        Some(told) => Ok(told),
+        None => Ok(Vec::new(alloc)),
+    }
 }

@@ -3,6 +3,7 @@
 use crate::calls;
 use crate::checks::checked;
 use crate::extractors_read::{bounds_of, json_of, regex_of};
+use crate::samplers::Scene;
 use crate::shown::{add_extracted, add_variable, ending};
 use crate::words::{at, fields_of, text_of};
 use assertions::Answer;
@@ -20,6 +21,7 @@ pub struct Cases {
     /// Names of variables that are shown besides those of the extractor.
     look: Vec<String>,
     repeat: u32,
+    scene: Option<Scene>,
 }
 
 impl Cases {
@@ -38,6 +40,7 @@ impl Cases {
             },
             look: Vec::new(alloc),
             repeat: 1,
+            scene: None,
         })
     }
 
@@ -70,6 +73,29 @@ impl Cases {
             },
         };
         Ok(())
+    }
+
+    /// A thread of a plan begins with the variables so far.
+    fn set_scene(&mut self, alloc: Global, text: &str) -> anyhow::Result<()> {
+        let vars = std::mem::replace(&mut self.vars, Vars::new(alloc));
+        self.scene = Some(Scene::new(alloc, text, vars)?);
+        Ok(())
+    }
+
+    /// What the thread of the last plan does, and the variables that are looked at.
+    fn thread(&mut self, alloc: Global, fields: &[&str]) -> anyhow::Result<String> {
+        let Some(scene) = &mut self.scene else {
+            anyhow::bail!("no plan");
+        };
+        let mut out = match at(fields, 0) {
+            "round" => String::from_str(alloc, scene.round(alloc))?,
+            "sampler" => scene.sampler(alloc, at(fields, 1).parse::<u16>()?)?,
+            _ => return scene.told(alloc),
+        };
+        for name in &self.look {
+            add_variable(alloc, &mut out, &scene.user.vars, name.as_str())?;
+        }
+        Ok(out)
     }
 
     /// What an extractor has made of the variables.
@@ -134,6 +160,8 @@ impl Cases {
             "json" => return self.json(alloc, &fields),
             "bounds" => return self.bounds(alloc, &fields),
             "check" => return checked(alloc, &fields, &self.answer),
+            "plan" => self.set_scene(alloc, at(&fields, 1))?,
+            "round" | "sampler" | "told" => return self.thread(alloc, &fields),
             _ => {}
         }
         Ok(String::new(alloc))

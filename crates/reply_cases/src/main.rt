@@ -1,4 +1,4 @@
-//! Runs the cases of extractors and assertions. Each line of the input is a call or what the calls after it are made on; its
+//! Runs the cases of extractors, assertions, whole samplers and rounds. Each line of the input is a call or what the calls after it are made on; its
 //! fields are parted by one tab. A byte of a field may be written as `\n`, `\xNN` and so on, a backslash as `\\`, and a
 //! field `@N:TEXT` is the text N times, `@N:TEXT@M:TEXT` such texts one after another.
 //!
@@ -11,6 +11,12 @@
 //! - `check response TEST FIELD FLAGS PATTERN ..`, `check duration MS`, `check size OP SIZE`: an assertion, with flags `n`, `o`
 //!   and `i` for `not`, `or` and `ignoreStatus`, or `-`. It prints whether it holds.
 //! - `repeat N`: each extractor after it is called N times.
+//! - `plan JSON`: the first thread of this plan, with the variables of the line `vars` before it, over the plan's own replies.
+//! - `round`: a round of it begins. It prints `true`, `false`, `limit` or `no memory`, and the variables of `look`.
+//! - `sampler N`: the element of this number runs, with its package. It prints the sample (stamp, elapsed time, label, code,
+//!   message, success, failure text, bytes, listeners), `null`, `limit` or `no memory`, the pause before it, the elements that took
+//!   part so far or last, and the variables of `look`.
+//! - `told`: what the outside of the thread was asked so far.
 //!
 //! Any other line is for a reader alone. A value of more than 60 bytes is shown by its length and its first 8 bytes.
 #![tactic(auto)]
@@ -19,6 +25,7 @@ mod calls;
 mod cases;
 mod checks;
 mod extractors_read;
+mod samplers;
 mod shown;
 mod words;
 

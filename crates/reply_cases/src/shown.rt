@@ -12,7 +12,7 @@ const MATCHES: u32 = 4;
 const GROUPS: u32 = 3;
 
 /// A value with escapes for bytes that do not print; a long one by its length and its first bytes.
-fn shown(alloc: Global, value: &[u8]) -> anyhow::Result<String> {
+pub fn shown(alloc: Global, value: &[u8]) -> anyhow::Result<String> {
     if value.len() > MOST_SHOWN {
         return Ok(format!(in alloc; "{} bytes: {}..", value.len(), value[..8].escape_ascii())?);
     }

@@ -11,6 +11,8 @@ use Rattle.std.proofs.Crossing.{crosses}
 use Rattle.jm_base.proofs.types.Sample.TheSendSync as sample
 use Rattle.var_functions.proofs.state.UserState.TheSendSync as user
 use Rattle.control_machine.proofs.machine.Machine.TheSendSync as machine
+use Rattle.config_elements.proofs.state.ConfigState.TheSendSync as config
+use Rattle.sampler_pipeline.proofs.packages.Packages.TheSendSync as packages
 use Rattle.thread_machine.proofs.trace.Trace.TheSendSync as trace
 use Rattle.recorder_core.proofs.places.WriterSeat.TheSendSync as writer
 use Rattle.thread_machine.specs.contracts.runner.Runner as Runner
@@ -20,7 +22,7 @@ use Rattle.run_engine.specs.contracts.job.Job as Job
 use Rattle.plan_shares.proofs.PlanShares.{plan}
 
 pub runner : (a : NamedLft) → IsSend (Runner.the_row a)
-runner a = search (plan, sample.the_send, user.the_field_send, machine.the_field_send, trace.the_send, crosses, sendable) depth 60
+runner a = search (plan, sample.the_send, user.the_field_send, config.the_send, packages.the_send, machine.the_field_send, trace.the_send, crosses, sendable) depth 60
 
 pub worker : (a : NamedLft) → IsSend (Worker.the_row a)
 worker a = view_send (WorkerInside.the_row a) _ _ _ _ (declared_send (WorkerInside.the_type a) (runner a, (search sendable depth 20, tt)))

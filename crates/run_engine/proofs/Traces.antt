@@ -1,5 +1,5 @@
 -- What a step of a worker leaves of its samples and of its outside.
-use Rattle.std.proofs.Common.{◌≡◌, ◌∙◌, ℕ, ◌+◌, ◌-◌, ◌<◌, ◌≤◌, Bool, false, List, [], ◌∷◌, ◌++◌, length, None, refl, sym, ap, subst, inl, inr, arith, append_assoc}
+use Rattle.std.proofs.Common.{◌≡◌, ◌∙◌, ℕ, zero, suc, ◌+◌, ◌-◌, ◌<◌, ◌≤◌, Bool, false, List, [], ◌∷◌, ◌++◌, length, None, refl, sym, ap, subst, inl, inr, arith, append_assoc}
 use Rattle.std.specs.Option.{option_map}
 use Rattle.std.proofs.lemmas.List.{append-nil}
 use Rattle.jm_base.specs.declared.types.Entry.{Entry}
@@ -14,7 +14,7 @@ use Rattle.thread_machine.specs.declared.step.Step.TheVariants.{Sampled, Null, E
 use Rattle.thread_machine.specs.declared.trace.TraceItem.{TraceItem}
 use Rattle.thread_machine.specs.declared.trace.TraceItem.TheVariants.{Paused as PausedItem, Sampled as SampledItem, Null as NullItem, Ended as EndedItem}
 use Rattle.thread_machine.specs.Standing.{Standing, rest}
-use Rattle.thread_machine.specs.Stepped.{Begins, Gives, Steps, Ends, IsOver}
+use Rattle.thread_machine.specs.Stepped.{trace_paused, Begins, Gives, Steps, Ends, IsOver}
 use Rattle.thread_machine.proofs.Ends.{begun_on}
 use Rattle.thread_machine.proofs.Labels.{label_within}
 use Rattle.run_engine.specs.Followed.{EndsWith}
@@ -72,6 +72,11 @@ one_more old new item is = ap pairs is ∙ pairs_snoc old item
 no_more : (old new : List TraceItem) (item : TraceItem) → new ≡ old ++ item ∷ [] → pairs_in item ≡ [] → pairs new ≡ pairs old
 no_more old new item is none = one_more old new item is ∙ ap (λ l. pairs old ++ l) none ∙ append-nil (pairs old)
 
+-- a pause is no sample
+pairs_paused : (t : List TraceItem) (ms : ℕ) → pairs (trace_paused t ms) ≡ pairs t
+pairs_paused t zero = refl
+pairs_paused t (suc ms) = no_more t (trace_paused t (suc ms)) (PausedItem (suc ms)) refl refl
+
 pairs_begun : (a b : Account) (old new : Standing) → Begins a b old new → pairs new.trace ≡ pairs old.trace
 pairs_begun a b old new h = elim h [
   | inl p ↦ no_more old.trace new.trace (PausedItem old.pause) (ap (λ s. s.trace) p.new_is) refl
@@ -125,13 +130,16 @@ module _ (a b : Account) (old new : Standing) where
   not_stopped NoMemory s = refl
 
   pub pairs_null : Steps a b old new Null → pairs new.trace ≡ pairs old.trace
-  pairs_null s = no_more s.between.trace new.trace (NullItem s.gives.number) (ap (λ w. w.trace) s.gives.new_is) refl ∙ pairs_begun a s.begun old s.between s.begins
+  pairs_null s =
+      no_more (trace_paused s.between.trace s.gives.paused) new.trace (NullItem s.gives.number) (ap (λ w. w.trace) s.gives.new_is) refl
+      ∙ pairs_paused s.between.trace s.gives.paused ∙ pairs_begun a s.begun old s.between s.begins
 
   -- a sample that is noted is one pair more
   pub pairs_noted : (entry : Entry) (s : Steps a b old new (Sampled entry)) (noted : Standing) (k : ℕ)
       → noted ≡ record new { owed = None; trace = new.trace ++ SampledItem s.gives.sample k ∷ [] } → pairs noted.trace ≡ pairs old.trace ++ (k, entry) ∷ []
   pairs_noted entry s noted k is =
-      let before : pairs new.trace ≡ pairs old.trace = ap (λ w. pairs w.trace) s.gives.new_is ∙ pairs_begun a s.begun old s.between s.begins in
+      let before : pairs new.trace ≡ pairs old.trace =
+      ap (λ w. pairs w.trace) s.gives.new_is ∙ pairs_paused s.between.trace s.gives.paused ∙ pairs_begun a s.begun old s.between s.begins in
       one_more new.trace noted.trace (SampledItem s.gives.sample k) (ap (λ w. w.trace) is)
       ∙ ap (λ e. pairs new.trace ++ (k, e) ∷ []) (sym s.gives.entry_is)
       ∙ ap (λ l. l ++ (k, entry) ∷ []) before

@@ -1,5 +1,5 @@
 -- How many samples a trace has, after a step and after a sample that is noted.
-use Rattle.std.proofs.Common.{◌≡◌, ℕ, ◌+◌, ◌≤◌, ◌<◌, List, [], ◌∷◌, ◌++◌, None, ap, ◌∙◌, inl, inr, arith}
+use Rattle.std.proofs.Common.{◌≡◌, ℕ, zero, suc, refl, ◌+◌, ◌≤◌, ◌<◌, List, [], ◌∷◌, ◌++◌, None, ap, ◌∙◌, inl, inr, arith}
 use Rattle.std.proofs.lemmas.List.Sums.{sum_by_push}
 use Rattle.jm_base.specs.declared.types.Entry.{Entry}
 use Rattle.jm_base.specs.declared.types.Sample.{Sample}
@@ -14,10 +14,15 @@ use Rattle.thread_machine.specs.SampleCounts.{one_if_sample, samples_in}
 use Rattle.element_tree.specs.Tree.{Tree}
 use Rattle.jm_meaning.specs.Beginning.{Options}
 use Rattle.thread_machine.specs.Standing.{Standing, rest, IsAtStart}
-use Rattle.thread_machine.specs.Stepped.{Begins, IsOver, Ends, Steps}
+use Rattle.thread_machine.specs.Stepped.{trace_paused, Begins, IsOver, Ends, Steps}
 
 one_more : (old new : List TraceItem) (item : TraceItem) → new ≡ old ++ item ∷ [] → samples_in new ≡ samples_in old + one_if_sample item
 one_more old new item is = ap samples_in is ∙ sum_by_push one_if_sample old item
+
+-- a pause is no sample
+paused_samples : (t : List TraceItem) (ms : ℕ) → samples_in (trace_paused t ms) ≡ samples_in t
+paused_samples t zero = refl
+paused_samples t (suc ms) = let more : samples_in (trace_paused t (suc ms)) ≡ samples_in t + 0 = one_more t (trace_paused t (suc ms)) (PausedItem (suc ms)) refl in omega arith
 
 -- the samples of the trace and the units that are left are at most this many
 abbrev pub Fits : ℕ → Standing → Type 0
@@ -52,8 +57,8 @@ module _ (most : ℕ) (a b : Account) (old new : Standing) where
   fits_noted entry noted sample k s is fits =
       let first : Fits most s.between = fits_begun most a s.begun old s.between s.begins fits in
       let used : 0 < s.between.units = s.gives.unit in
-      let trace : new.trace ≡ s.between.trace = ap (λ w. w.trace) s.gives.new_is in
-      let same : samples_in new.trace ≡ samples_in s.between.trace = ap samples_in trace in
+      let trace : new.trace ≡ trace_paused s.between.trace s.gives.paused = ap (λ w. w.trace) s.gives.new_is in
+      let same : samples_in new.trace ≡ samples_in s.between.trace = ap samples_in trace ∙ paused_samples s.between.trace s.gives.paused in
       let units : new.units + 1 ≡ s.between.units = (let u = ap (λ w. w.units) s.gives.new_is in omega arith) in
       let more : samples_in noted.trace ≡ samples_in new.trace + 1 = one_more new.trace noted.trace (SampledItem sample k) (ap (λ w. w.trace) is) in
       let kept : noted.units ≡ new.units = ap (λ w. w.units) is in omega arith
@@ -63,7 +68,9 @@ module _ (most : ℕ) (a b : Account) (old new : Standing) where
   fits_null s fits =
       let first : Fits most s.between = fits_begun most a s.begun old s.between s.begins fits in
       let used : 0 < s.between.units = s.gives.unit in
-      let trace : samples_in new.trace ≡ samples_in s.between.trace + 0 = one_more s.between.trace new.trace (NullItem s.gives.number) (ap (λ w. w.trace) s.gives.new_is) in
+      let same : samples_in (trace_paused s.between.trace s.gives.paused) ≡ samples_in s.between.trace = paused_samples s.between.trace s.gives.paused in
+      let trace : samples_in new.trace ≡ samples_in (trace_paused s.between.trace s.gives.paused) + 0 =
+      one_more (trace_paused s.between.trace s.gives.paused) new.trace (NullItem s.gives.number) (ap (λ w. w.trace) s.gives.new_is) in
       let units : new.units + 1 ≡ s.between.units = (let u = ap (λ w. w.units) s.gives.new_is in omega arith) in omega arith
 
   -- the end is no sample

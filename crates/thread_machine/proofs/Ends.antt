@@ -1,5 +1,5 @@
 -- What an ended thread's standing says over each form of an outside, and how each step goes on from the one before.
-use Rattle.std.proofs.Common.{◌≡◌, ℕ, Bool, List, [], ◌∷◌, ◌++◌, Option, Some, None, refl, sym, ap, ◌∙◌, inl, inr}
+use Rattle.std.proofs.Common.{◌≡◌, ℕ, zero, suc, ap₂, append_assoc, Bool, List, [], ◌∷◌, ◌++◌, Option, Some, None, refl, sym, ap, ◌∙◌, inl, inr}
 use Rattle.std.specs.Prelude.{map, MatchOption, IfSome, IsSome}
 use Rattle.std.specs.Option.{option_map}
 use Rattle.std.proofs.lemmas.List.{append-nil, map-append}
@@ -12,7 +12,7 @@ use Rattle.jm_base.specs.Outside.{Account, Goes, Scripts, Replays, list_form, sc
 use Rattle.jm_base.proofs.RunLaws.{path-value, list-replays, goes-append, goes-nothing}
 use Rattle.element_tree.specs.Tree.{Tree}
 use Rattle.jm_meaning.specs.declared.item.Item.{Item}
-use Rattle.jm_meaning.specs.declared.item.Item.TheVariants.{Paused as PausedItem, Sampled as SampledItem, Null as NullItem, Ended as EndedItem}
+use Rattle.jm_meaning.specs.declared.item.Item.TheVariants.{Paused as PausedItem, Ended as EndedItem}
 use Rattle.jm_meaning.specs.Beginning.{Options}
 use Rattle.jm_meaning.specs.Meaning.{events}
 use Rattle.jm_meaning.specs.TraceShown.{shown}
@@ -23,7 +23,7 @@ use Rattle.thread_machine.specs.Standing.{Standing, rest, IsAtStart, owed_items,
 use Rattle.thread_machine.specs.declared.step.Step.{Step}
 use Rattle.thread_machine.specs.declared.step.Step.TheVariants.{Sampled as StepSampled, Null as StepNull, Enter as StepEnter, Leave as StepLeave, Ended as StepEnded}
 use Rattle.thread_machine.specs.SoFar.{StandsAfter, ShowsAPrefix}
-use Rattle.thread_machine.specs.Stepped.{HasPaused, Begins, Gives, Steps, GivesSample, GivesNone, IsOver, Ends}
+use Rattle.thread_machine.specs.Stepped.{trace_paused, events_paused, HasPaused, Begins, Gives, Steps, GivesSample, GivesNone, IsOver, Ends}
 use Rattle.thread_machine.specs.Follows.{FollowsWhole, Follows, HasRun}
 
 -- From start to now the run has given what the items show, and is over.
@@ -97,23 +97,38 @@ module _ (start now later : Account) (options : Options) (w new : Standing) (sta
   shows_so_far : map shown stands.so_far ≡ bare w.trace
   shows_so_far = stands.shows ∙ ap (λ o. bare w.trace ++ owed_items o) none ∙ append-nil (bare w.trace)
 
+  paused_shown : (ms : ℕ) (e : Event) → map shown (events_paused ms (e ∷ [])) ≡ bare (trace_paused [] ms) ++ shown e ∷ []
+  paused_shown zero e = refl
+  paused_shown (suc ms) e = refl
+
+  paused_appended : (t : List TraceItem) (ms : ℕ) → bare (trace_paused t ms) ≡ bare t ++ bare (trace_paused [] ms)
+  paused_appended t zero = sym (append-nil (bare t))
+  paused_appended t (suc ms) = bare-append t (TracedPause (suc ms) ∷ [])
+
+  -- what a pause and an event show after what was shown before
+  shown_paused : (ms : ℕ) (e : Event) → map shown (stands.so_far ++ events_paused ms (e ∷ [])) ≡ bare (trace_paused w.trace ms) ++ shown e ∷ []
+  shown_paused ms e =
+      shown-append stands.so_far (events_paused ms (e ∷ []))
+      ∙ ap₂ ◌++◌ shows_so_far (paused_shown ms e)
+      ∙ sym (append_assoc (bare w.trace) (bare (trace_paused [] ms)) (shown e ∷ []))
+      ∙ ap (λ xs. xs ++ shown e ∷ []) (sym (paused_appended w.trace ms))
+
   -- a sample was given and is owed
   pub stands_sample : (entry : Entry) → GivesSample now later (rest w) w new entry → Stands start later options new
   stands_sample entry g = record {
-    so_far = stands.so_far ++ Sampled g.giver g.sample ∷ [];
+    so_far = stands.so_far ++ events_paused g.paused (Sampled g.giver g.sample ∷ []);
     goes = same_thread start later options w new _ (rest new) (ap (λ s. s.plan) g.new_is) (ap (λ s. s.thread) g.new_is) (goes-append stands.goes g.goes);
-    shows = shown-append stands.so_far (Sampled g.giver g.sample ∷ []) ∙ ap (λ xs. xs ++ SampledItem g.sample ∷ []) shows_so_far
-        ∙ sym (ap (λ s. bare s.trace ++ owed_items s.owed) g.new_is);
+    shows = shown_paused g.paused (Sampled g.giver g.sample) ∙ sym (ap (λ s. bare s.trace ++ owed_items s.owed) g.new_is);
   }
 
   -- none was given
   pub stands_none : GivesNone now later (rest w) w new → Stands start later options new
   stands_none g = record {
-    so_far = stands.so_far ++ Nothing g.number ∷ [];
+    so_far = stands.so_far ++ events_paused g.paused (Nothing g.number ∷ []);
     goes = same_thread start later options w new _ (rest new) (ap (λ s. s.plan) g.new_is) (ap (λ s. s.thread) g.new_is) (goes-append stands.goes g.goes);
-    shows = shown-append stands.so_far (Nothing g.number ∷ []) ∙ ap (λ xs. xs ++ NullItem g.number ∷ []) shows_so_far
-        ∙ sym (ap (λ s. bare s.trace ++ owed_items s.owed) g.new_is ∙ ap (λ o. bare (w.trace ++ TracedNull g.number ∷ []) ++ owed_items o) none
-        ∙ append-nil (bare (w.trace ++ TracedNull g.number ∷ [])) ∙ bare-append w.trace (TracedNull g.number ∷ []));
+    shows = shown_paused g.paused (Nothing g.number)
+        ∙ sym (ap (λ s. bare s.trace ++ owed_items s.owed) g.new_is ∙ ap (λ o. bare (trace_paused w.trace g.paused ++ TracedNull g.number ∷ []) ++ owed_items o) none
+        ∙ append-nil (bare (trace_paused w.trace g.paused ++ TracedNull g.number ∷ [])) ∙ bare-append (trace_paused w.trace g.paused) (TracedNull g.number ∷ []));
   }
 
   ran_over : (end : End) → IsOver now later (rest w) w new end → Follows start later w.plan w.thread options new.trace end

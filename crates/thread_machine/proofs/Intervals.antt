@@ -1,5 +1,5 @@
 -- In which interval the samples of a trace are counted, after a step and after a sample that is noted.
-use Rattle.std.proofs.Common.{◌≡◌, ℕ, List, [], ◌∷◌, ◌++◌, None, refl, ap, inl, inr}
+use Rattle.std.proofs.Common.{◌≡◌, ℕ, zero, suc, List, [], ◌∷◌, ◌++◌, None, refl, ap, inl, inr}
 use Rattle.std.specs.Prelude.{All}
 use Rattle.std.proofs.lemmas.List.Elements.{All-push}
 use Rattle.jm_base.specs.declared.types.Sample.{Sample}
@@ -13,7 +13,7 @@ use Rattle.thread_machine.specs.declared.step.Step.{Step}
 use Rattle.thread_machine.specs.declared.step.Step.TheVariants.{Sampled, Null, Enter, Leave, Ended}
 use Rattle.thread_machine.specs.Bare.{IsCountedIn}
 use Rattle.thread_machine.specs.Standing.{Standing, rest}
-use Rattle.thread_machine.specs.Stepped.{Begins, IsOver, Ends, Gives, Steps}
+use Rattle.thread_machine.specs.Stepped.{trace_paused, Begins, IsOver, Ends, Gives, Steps}
 
 module _ (k : ℕ) where
   abbrev Counted : List TraceItem → Type 0
@@ -21,6 +21,10 @@ module _ (k : ℕ) where
 
   one_more : (old new : List TraceItem) (item : TraceItem) → new ≡ old ++ item ∷ [] → IsCountedIn k item → Counted old → Counted new
   one_more old new item is one all = rw is (All-push (IsCountedIn k) old item all one)
+
+  paused_counted : (t : List TraceItem) (ms : ℕ) → Counted t → Counted (trace_paused t ms)
+  paused_counted t zero all = all
+  paused_counted t (suc ms) all = All-push (IsCountedIn k) t (PausedItem (suc ms)) all (tt {0})
 
   pub counted_noted : (old new : Standing) (sample : Sample) → new ≡ record old { owed = None; trace = old.trace ++ SampledItem sample k ∷ [] } → Counted old.trace → Counted new.trace
   counted_noted old new sample is = one_more old.trace new.trace (SampledItem sample k) (ap (λ s. s.trace) is) refl
@@ -46,8 +50,8 @@ module _ (k : ℕ) where
     ends_counted NoMemory o = one_more old.trace new.trace (EndedItem NoMemory) (ap (λ s. s.trace) o.new_is) (tt {0})
 
     gives_counted : (step : Step) → Gives a b run old new step → Counted old.trace → Counted new.trace
-    gives_counted (Sampled entry) g all = rw (ap (λ s. s.trace) g.new_is) all
-    gives_counted Null g all = one_more old.trace new.trace (NullItem g.number) (ap (λ s. s.trace) g.new_is) (tt {0}) all
+    gives_counted (Sampled entry) g all = rw (ap (λ s. s.trace) g.new_is) (paused_counted old.trace g.paused all)
+    gives_counted Null g all = one_more (trace_paused old.trace g.paused) new.trace (NullItem g.number) (ap (λ s. s.trace) g.new_is) (tt {0}) (paused_counted old.trace g.paused all)
     gives_counted (Enter lock) g all = absurd g
     gives_counted (Leave lock) g all = absurd g
     gives_counted (Ended end) g all = ends_counted end g all

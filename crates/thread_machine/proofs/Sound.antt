@@ -1,5 +1,5 @@
 -- What holds of every worker holds after a step.
-use Rattle.std.proofs.Common.{◌≡◌, ℕ, ◌<◌, true, false, List, [], ◌∷◌, ◌++◌, length, None, ap, ◌∙◌, inl, inr}
+use Rattle.std.proofs.Common.{◌≡◌, ℕ, zero, suc, ◌<◌, true, false, List, [], ◌∷◌, ◌++◌, length, None, ap, ◌∙◌, inl, inr}
 use Rattle.std.specs.Prelude.{All}
 use Rattle.std.proofs.lemmas.List.Elements.{All-push}
 use Rattle.jm_base.specs.declared.types.End.{End}
@@ -15,7 +15,7 @@ use Rattle.thread_machine.specs.declared.step.Step.{Step}
 use Rattle.thread_machine.specs.declared.step.Step.TheVariants.{Sampled, Null, Enter, Leave, Ended}
 use Rattle.thread_machine.specs.Bare.{IsLabelled}
 use Rattle.thread_machine.specs.Standing.{Standing, rest}
-use Rattle.thread_machine.specs.Stepped.{IsGiver, Begins, IsOver, Ends, Gives, Steps}
+use Rattle.thread_machine.specs.Stepped.{trace_paused, IsGiver, Begins, IsOver, Ends, Gives, Steps}
 use Rattle.thread_machine.specs.Recorded.{Recorded}
 use Rattle.thread_machine.specs.Inside.{standing_of, IsSound}
 use Rattle.thread_machine.specs.Ran.{is_end, IsCutAfter, GoesOnAfter}
@@ -55,18 +55,22 @@ module _ (a b : Account) (run : Run (Unit {0})) (s : Standing) (new : Runner) (n
   by_end ValueLimit over nothing = behind_end ValueLimit over nothing
   by_end NoMemory cut nothing = ended NoMemory (ap (λ s. s.plan) cut.new_is) (ap (λ s. s.trace) cut.new_is) nothing
 
+  paused_labels : (ms : ℕ) → All (IsLabelled labels) (trace_paused s.trace ms)
+  paused_labels zero = labels_so_far
+  paused_labels (suc ms) = All-push (IsLabelled labels) s.trace (PausedItem (suc ms)) labels_so_far (tt {0})
+
   gives_sound : (step : Step) → Gives a b run s (standing_of new (is_end step)) step → GoesOnAfter new step → IsSound new (is_end step)
   gives_sound (Sampled entry) g on = record {
     going = λ h. on;
     settled = λ h. absurd (cc);
-    labels = labels_kept s.plan new s.trace (ap (λ s. s.plan) g.new_is) (ap (λ s. s.trace) g.new_is) labels_so_far;
+    labels = labels_kept s.plan new (trace_paused s.trace g.paused) (ap (λ s. s.plan) g.new_is) (ap (λ s. s.trace) g.new_is) (paused_labels g.paused);
     owed_label = rw (ap (λ s. s.plan) g.new_is, ap (λ s. s.owed) g.new_is) (owed_within g.giver s.plan g.number g.sample.label g.given_by);
   }
   gives_sound Null g on = record {
     going = λ h. on;
     settled = λ h. absurd (cc);
-    labels = labels_kept s.plan new (s.trace ++ NullItem g.number ∷ []) (ap (λ s. s.plan) g.new_is) (ap (λ s. s.trace) g.new_is)
-        (All-push (IsLabelled labels) s.trace (NullItem g.number) labels_so_far (tt {0}));
+    labels = labels_kept s.plan new (trace_paused s.trace g.paused ++ NullItem g.number ∷ []) (ap (λ s. s.plan) g.new_is) (ap (λ s. s.trace) g.new_is)
+        (All-push (IsLabelled labels) (trace_paused s.trace g.paused) (NullItem g.number) (paused_labels g.paused) (tt {0}));
     owed_label = rw (ap (λ s. s.owed) g.new_is, none) tt;
   }
   gives_sound (Enter lock) g on = absurd g

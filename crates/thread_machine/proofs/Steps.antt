@@ -18,6 +18,7 @@ use Rattle.element_tree.specs.declared.threads.Thread.{Thread}
 use Rattle.element_tree.specs.declared.kinds.Element.{Element}
 use Rattle.element_tree.specs.Tree.{Tree, threads_of, group_of}
 use Rattle.jm_meaning.specs.State.{State, Own, Ending, state_of, normal, stopped, on_normal, and_then}
+use Rattle.config_elements.specs.RoundStart.{Config, first_config, begin_round}
 use Rattle.jm_meaning.specs.Beginning.{Options, max_rounds, first_places, first_of, set_first}
 use Rattle.jm_meaning.specs.RampUp.{pause_of}
 use Rattle.jm_meaning.specs.Meaning.{and_end, after_pause, end_of, events, thread_part, group_part, here_at}
@@ -25,14 +26,19 @@ use Rattle.control_machine.specs.declared.machine.Machine.{Machine}
 use Rattle.control_machine.specs.declared.moves.Move.{Move}
 use Rattle.control_machine.specs.declared.moves.Move.TheVariants.{Iteration, RunSampler, EnterSection, LeaveSection, TransactionSample, Finished}
 use Rattle.control_machine.specs.Moves.{past}
-use Rattle.control_machine.specs.Left.{left_of, moved, ended, IsMove, IsFinish}
+use Rattle.cursor_steps.specs.CursorStep.{answers, past_limit as step_past_limit}
+use Rattle.jm_meaning.specs.declared.signal.Signal.TheVariants.{Normal, Stop}
+use Rattle.jm_meaning.specs.Rounds.{where_fed, on_fed, round_start}
+use Rattle.control_machine.specs.Left.{here_in, left_of, left_after, own_at, state_at, moved, ended, IsMove, IsFinish}
+use Rattle.control_machine.proofs.Following.{left_normal}
+use Rattle.thread_machine.proofs.StackLaws.{came_left}
 use Rattle.thread_machine.specs.declared.trace.TraceItem.TheVariants.{Paused as PausedItem, Ended as EndedItem}
 use Rattle.thread_machine.specs.declared.runner.Runner.{Runner}
 use Rattle.thread_machine.specs.declared.step.Step.{Step}
 use Rattle.thread_machine.specs.declared.step.Step.TheVariants.{Sampled as SampledStep, Null as NullStep, Enter, Leave, Ended as EndedStep}
 use Rattle.thread_machine.specs.Recorded.{Recorded}
 use Rattle.thread_machine.specs.Standing.{Standing, state_in, rest, IsAtStart}
-use Rattle.thread_machine.specs.Stepped.{HasPaused, IsOver, Ends, Gives, Steps}
+use Rattle.thread_machine.specs.Stepped.{HasPaused, Begins, IsOver, Ends, Gives, Steps}
 use Rattle.thread_machine.specs.Inside.{standing_of}
 use Rattle.thread_machine.specs.Ran.{is_end, left_to, IsTaken, IsSameThread, IsRefusedAt, IsBegun, IsCutAt, IsCutAfter}
 use Rattle.thread_machine.proofs.FirstLaws.{first_alike}
@@ -55,10 +61,32 @@ left_first w begun =
 
 -- ---- from move to move
 
--- after the begin of a round nothing is given
+-- the start of a round comes after its move
 pub round_goes : (a b : Account) (plan : Tree) (m : Machine) (s : State) (run : Run Ending) (move : Move) (index : ℕ) → move ≡ Iteration index
-    → Goes a run [] (moved plan m s move) b → Goes a run [] (left_of plan m s) b
+    → Goes a run [] (moved plan m s move) b → Goes a run [] (left_after plan m (round_start plan.elements m.group.element s)) b
 round_goes a b plan m s run move index is g = subst (λ k. Goes a run [] (moved plan m s k) b) is g
+
+-- Counters and data sets have advanced, or were refused
+pub fed_came : (a b : Account) (plan : Tree) (m : Machine) (units : ℕ) (before after : List ℕ) (old new : UserState) (res : Result Bool VarError)
+    → CameTo a (begin_round plan.elements m.group.element before old) b (λ ok. answers ok after new) (step_past_limit after new) res
+    → CameTo a (left_after plan m (round_start plan.elements m.group.element (state_at m (record { units = units; config = before }) old))) b
+    (λ ok. left_after plan m (where_fed ok (state_at m (record { units = units; config = after }) new))) (past (state_at m (record { units = units; config = after }) new)) res
+fed_came a b plan m units before after old new res came =
+    came_left (here_in plan m) m.group m.stack.frames a b (round_start plan.elements m.group.element (state_at m (record { units = units; config = before }) old))
+    (λ ok. where_fed ok (state_at m (record { units = units; config = after }) new)) (state_at m (record { units = units; config = after }) new) res
+    (came-bind a b (begin_round plan.elements m.group.element before old) (λ ok. answers ok after new) (step_past_limit after new) res
+    (on_fed (own_at m (record { units = units; config = before }))) came)
+
+-- the round goes on
+pub fed_on : (a b : Account) (plan : Tree) (m : Machine) (s : State) (run : Run Ending) → m.signal ≡ Normal
+    → Goes a run [] (left_after plan m (where_fed true s)) b → Goes a run [] (left_of plan m s) b
+fed_on a b plan m s run calm goes = subst (λ r. Goes a run [] r b) (sym (left_normal plan m s calm)) goes
+
+-- or the thread stops
+pub fed_out : (a b : Account) (plan : Tree) (m n : Machine) (units : ℕ) (after : List ℕ) (user : UserState) (run : Run Ending) → n ≡ record m { signal = Stop StopThread }
+    → Goes a run [] (left_after plan m (where_fed false (state_at m (record { units = units; config = after }) user))) b
+    → Goes a run [] (left_of plan n (state_at n (record { units = units; config = after }) user)) b
+fed_out a b plan m n units after user run is goes = rw is goes
 
 -- another move is one that ends a step
 pub taken : (elements : List Element) (move : Move) → IsMove elements move → ((index : ℕ) → move ≡ Iteration index → ⊥) → IsTaken elements move
@@ -77,10 +105,10 @@ set_already a w begun = subst (λ r. Goes a (left_to w) [] r a) (left_on w begun
 -- they are set now
 pub set_now : (a b : Account) (w : Runner) (user : UserState) (res : Result (Unit {0}) VarError) → w.begun ≡ false
     → ((own : Own) → CameTo a (set_first w.plan.now.elements (state_of w.user own)) b (λ (u : Unit {0}). over (normal (state_of user own))) (over (stopped PastValueLimit (state_of user own))) res)
-    → CameTo a (left_to w) b (λ (u : Unit {0}). left_of w.plan.now w.machine (state_of user (record { units = w.units; rounds = w.machine.rounds; places = w.machine.places })))
-    (past (state_of user (record { units = w.units; rounds = w.machine.rounds; places = w.machine.places }))) res
+    → CameTo a (left_to w) b (λ (u : Unit {0}). left_of w.plan.now w.machine (state_of user (record { units = w.units; rounds = w.machine.rounds; places = w.machine.places; config = w.config.places })))
+    (past (state_of user (record { units = w.units; rounds = w.machine.rounds; places = w.machine.places; config = w.config.places }))) res
 set_now a b w user res begun came =
-    let own : Own = record { units = w.units; rounds = w.machine.rounds; places = w.machine.places } in
+    let own : Own = record { units = w.units; rounds = w.machine.rounds; places = w.machine.places; config = w.config.places } in
     subst (λ r. CameTo a r b (λ (u : Unit {0}). left_of w.plan.now w.machine (state_of user own)) (past (state_of user own)) res) (sym (left_first w begun))
     (came-bind a b (set_first w.plan.now.elements (state_of w.user own)) (λ (u : Unit {0}). over (normal (state_of user own))) (over (stopped PastValueLimit (state_of user own))) res
     (on_normal (left_of w.plan.now w.machine)) (came own))
@@ -127,7 +155,7 @@ over_at a b run w new end goes same items = record {
 -- the thread's rounds are over
 pub finished : (a b : Account) (w mid new : Runner) (s : State) (end : End) (move : Move) (step : Step) → move ≡ Finished end → IsFinish end
     → Goes a (left_to w) [] (moved mid.plan.now mid.machine s move) b
-    → mid ≡ record w { begun = mid.begun; user = mid.user; machine = mid.machine } → new ≡ record mid { trace = new.trace } → new.trace.items ≡ mid.trace.items ++ EndedItem end ∷ []
+    → mid ≡ record w { begun = mid.begun; user = mid.user; config = mid.config; machine = mid.machine } → new ≡ record mid { trace = new.trace } → new.trace.items ≡ mid.trace.items ++ EndedItem end ∷ []
     → step ≡ EndedStep end → Gives a b (and_end (left_to w)) (standing_of w false) (standing_of new (is_end step)) step
 finished a b w mid new s end move step move_is is goes mid_is new_is items step_is =
     let same : IsSameThread mid new = same_kept mid new new_is in
@@ -145,55 +173,57 @@ finished a b w mid new s end move step move_is is goes mid_is new_is items step_
 
 -- ---- a step after what came before it
 
-ends_behind : (a m b : Account) (run run' : Run (Unit {0})) (w : Standing) (begun : Bool) (user : UserState) (machine : Machine) (new : Standing) (end : End) → Goes a run [] run' m
-    → Ends m b run' (record w { begun = begun; user = user; machine = machine }) new end → Ends a b run w new end
-ends_behind a m b run run' w begun user machine new Completed go g = record { goes = goes-append go g.goes; new_is = g.new_is }
-ends_behind a m b run run' w begun user machine new StopThread go g = record { goes = goes-append go g.goes; new_is = g.new_is }
-ends_behind a m b run run' w begun user machine new StopTest go g = record { goes = goes-append go g.goes; new_is = g.new_is }
-ends_behind a m b run run' w begun user machine new Stopped go g = g
-ends_behind a m b run run' w begun user machine new SampleLimit go g = record { goes = goes-append go g.goes; new_is = g.new_is }
-ends_behind a m b run run' w begun user machine new RoundLimit go g = record { goes = goes-append go g.goes; new_is = g.new_is }
-ends_behind a m b run run' w begun user machine new PastValueLimit go g = record { goes = goes-append go g.goes; new_is = g.new_is }
-ends_behind a m b run run' w begun user machine new EndNoMemory go g = record { left = g.left; goes = goes-append go g.goes; new_is = g.new_is }
+ends_behind : (a m b : Account) (run run' : Run (Unit {0})) (w : Standing) (begun : Bool) (user : UserState) (config : Config) (machine : Machine) (new : Standing) (end : End) → Goes a run [] run' m
+    → Ends m b run' (record w { begun = begun; user = user; config = config; machine = machine }) new end → Ends a b run w new end
+ends_behind a m b run run' w begun user config machine new Completed go g = record { goes = goes-append go g.goes; new_is = g.new_is }
+ends_behind a m b run run' w begun user config machine new StopThread go g = record { goes = goes-append go g.goes; new_is = g.new_is }
+ends_behind a m b run run' w begun user config machine new StopTest go g = record { goes = goes-append go g.goes; new_is = g.new_is }
+ends_behind a m b run run' w begun user config machine new Stopped go g = g
+ends_behind a m b run run' w begun user config machine new SampleLimit go g = record { goes = goes-append go g.goes; new_is = g.new_is }
+ends_behind a m b run run' w begun user config machine new RoundLimit go g = record { goes = goes-append go g.goes; new_is = g.new_is }
+ends_behind a m b run run' w begun user config machine new PastValueLimit go g = record { goes = goes-append go g.goes; new_is = g.new_is }
+ends_behind a m b run run' w begun user config machine new EndNoMemory go g = record { left = g.left; goes = goes-append go g.goes; new_is = g.new_is }
 
-step_behind : (a m b : Account) (run run' : Run (Unit {0})) (w : Standing) (begun : Bool) (user : UserState) (machine : Machine) (new : Standing) (step : Step) → Goes a run [] run' m
-    → Gives m b run' (record w { begun = begun; user = user; machine = machine }) new step → Gives a b run w new step
-step_behind a m b run run' w begun user machine new (SampledStep entry) go g = record {
+step_behind : (a m b : Account) (run run' : Run (Unit {0})) (w : Standing) (begun : Bool) (user : UserState) (config : Config) (machine : Machine) (new : Standing) (step : Step) → Goes a run [] run' m
+    → Gives m b run' (record w { begun = begun; user = user; config = config; machine = machine }) new step → Gives a b run w new step
+step_behind a m b run run' w begun user config machine new (SampledStep entry) go g = record {
   giver = g.giver;
   sample = g.sample;
   number = g.number;
   given_by = g.given_by;
+  paused = g.paused;
   goes = goes-append go g.goes;
   entry_is = g.entry_is;
   unit = g.unit;
   new_is = g.new_is;
 }
-step_behind a m b run run' w begun user machine new NullStep go g = record {
+step_behind a m b run run' w begun user config machine new NullStep go g = record {
   number = g.number;
   label = g.label;
   sampler = g.sampler;
+  paused = g.paused;
   goes = goes-append go g.goes;
   unit = g.unit;
   new_is = g.new_is;
 }
-step_behind a m b run run' w begun user machine new (Enter lock) go g = g
-step_behind a m b run run' w begun user machine new (Leave lock) go g = g
-step_behind a m b run run' w begun user machine new (EndedStep end) go g = ends_behind a m b run run' w begun user machine new end go g
+step_behind a m b run run' w begun user config machine new (Enter lock) go g = g
+step_behind a m b run run' w begun user config machine new (Leave lock) go g = g
+step_behind a m b run run' w begun user config machine new (EndedStep end) go g = ends_behind a m b run run' w begun user config machine new end go g
 
 -- what the move names
 pub gives_behind : (a m b : Account) (w mid new : Runner) (s : State) (move next : Move) (step : Step) → move ≡ next
-    → Goes a (left_to w) [] (moved mid.plan.now mid.machine s move) m → mid ≡ record w { begun = mid.begun; user = mid.user; machine = mid.machine }
+    → Goes a (left_to w) [] (moved mid.plan.now mid.machine s move) m → mid ≡ record w { begun = mid.begun; user = mid.user; config = mid.config; machine = mid.machine }
     → Gives m b (and_end (moved mid.plan.now mid.machine s next)) (standing_of mid false) (standing_of new (is_end step)) step
     → Gives a b (and_end (left_to w)) (standing_of w false) (standing_of new (is_end step)) step
 gives_behind a m b w mid new s move next step move_is goes mid_is g =
     let run' : Run Ending = moved mid.plan.now mid.machine s next in
     let at_next : Goes a (left_to w) [] run' m = subst (λ k. Goes a (left_to w) [] (moved mid.plan.now mid.machine s k) m) move_is goes in
-    step_behind a m b (and_end (left_to w)) (and_end run') (standing_of w false) mid.begun mid.user mid.machine (standing_of new (is_end step)) step
+    step_behind a m b (and_end (left_to w)) (and_end run') (standing_of w false) mid.begun mid.user mid.config mid.machine (standing_of new (is_end step)) step
     (goes-bind (λ e. give (Ended (end_of e.signal)) (over tt)) at_next)
     (subst (λ v. Gives m b (and_end run') v (standing_of new (is_end step)) step) (ap (λ r. standing_of r false) mid_is) g)
 
 pub refused_behind : (a m b : Account) (w mid new : Runner) (s : State) (move next : Move) (error : VarError) → move ≡ next
-    → Goes a (left_to w) [] (moved mid.plan.now mid.machine s move) m → mid ≡ record w { begun = mid.begun; user = mid.user; machine = mid.machine }
+    → Goes a (left_to w) [] (moved mid.plan.now mid.machine s move) m → mid ≡ record w { begun = mid.begun; user = mid.user; config = mid.config; machine = mid.machine }
     → IsRefusedAt m (moved mid.plan.now mid.machine s next) b mid new error → IsRefusedAt a (left_to w) b w new error
 refused_behind a m b w mid new s move next error move_is goes mid_is r = record {
   state = r.state;
@@ -277,6 +307,17 @@ cut_at_once a w new same items = record {
   cut = record { left = rest (standing_of w false); goes = goes-nothing a (rest (standing_of w false)); same = same; items = items };
 }
 
+-- a thread that was cut after room was taken and the pause was made
+pub cut_later : {X E : Type 0} (a m b : Account) (w : Runner) (t : Recorded) (mid new : Runner) (r : Result X E) → t.items ≡ w.trace.items
+    → IsBegun a m (record w { trace = t }) mid → OnErr r (IsCutAt m b mid new) → OnErr r (IsCutAfter a b w new)
+cut_later a m b w t mid new (Ok x) same begun cut = tt
+cut_later a m b w t mid new (Err e) same begun cut = record {
+  begun = m;
+  between = mid;
+  begins = subst (λ xs. Begins a m (record (standing_of w false) { trace = xs }) (standing_of mid false)) same begun.begins;
+  cut = cut;
+}
+
 -- a thread that was cut has ended out of memory
 pub cut_ended : (a b : Account) (w new : Runner) (t : Recorded) → IsCutAfter a b w new → t.items ≡ new.trace.items ++ EndedItem EndNoMemory ∷ []
     → Steps a b (standing_of w false) (standing_of (record new { trace = t }) true) (EndedStep EndNoMemory)
@@ -293,23 +334,24 @@ cut_ended a b w new t h items = record {
 
 -- ---- a thread before its first step
 
-pub first_is : (plan : Tree) (thread : ℕ) (options : Options) (t : Thread) (vars : Variables) (fns : Functions) (stream rounds : ℕ) (places : List ℕ) → slice_get (threads_of plan) thread ≡ Some t
-    → vars ≡ [] → fns ≡ first_functions options.props t.number stream options.seed → stream ≡ thread → rounds ≡ max_rounds → places ≡ first_places plan.elements
-    → state_of (record { vars = vars; fns = fns }) (record { units = options.budget; rounds = rounds; places = places }) ≡ first_of plan thread options
-first_is plan thread options t vars fns stream rounds places there vars_are fns_are stream_is rounds_are places_are =
+pub first_is : (plan : Tree) (thread : ℕ) (options : Options) (t : Thread) (vars : Variables) (fns : Functions) (stream rounds : ℕ) (places config : List ℕ) → slice_get (threads_of plan) thread ≡ Some t
+    → vars ≡ [] → fns ≡ first_functions options.props t.number stream options.seed → stream ≡ thread → rounds ≡ max_rounds → places ≡ first_places plan.elements → config ≡ first_config plan.elements
+    → state_of (record { vars = vars; fns = fns }) (record { units = options.budget; rounds = rounds; places = places; config = config }) ≡ first_of plan thread options
+first_is plan thread options t vars fns stream rounds places config there vars_are fns_are stream_is rounds_are places_are config_is =
     let number : unwrap_or (option_map (λ (t : Thread). t.number) (slice_get (threads_of plan) thread)) 0 ≡ t.number = ap (λ o. unwrap_or (option_map (λ (t : Thread). t.number) o) 0) there in
-    ap (λ vs. state_of (record { vars = vs; fns = fns }) (record { units = options.budget; rounds = rounds; places = places })) vars_are
-    ∙ ap (λ f. state_of (record { vars = []; fns = f }) (record { units = options.budget; rounds = rounds; places = places })) fns_are
-    ∙ ap (λ n. state_of (record { vars = []; fns = first_functions options.props t.number n options.seed }) (record { units = options.budget; rounds = rounds; places = places })) stream_is
-    ∙ ap (λ n. state_of (record { vars = []; fns = first_functions options.props t.number thread options.seed }) (record { units = options.budget; rounds = n; places = places })) rounds_are
-    ∙ ap (λ ps. state_of (record { vars = []; fns = first_functions options.props t.number thread options.seed }) (record { units = options.budget; rounds = max_rounds; places = ps })) places_are
-    ∙ ap (λ n. state_of (record { vars = []; fns = first_functions options.props n thread options.seed }) (record { units = options.budget; rounds = max_rounds; places = first_places plan.elements })) (sym number)
+    ap (λ vs. state_of (record { vars = vs; fns = fns }) (record { units = options.budget; rounds = rounds; places = places; config = config })) vars_are
+    ∙ ap (λ f. state_of (record { vars = []; fns = f }) (record { units = options.budget; rounds = rounds; places = places; config = config })) fns_are
+    ∙ ap (λ n. state_of (record { vars = []; fns = first_functions options.props t.number n options.seed }) (record { units = options.budget; rounds = rounds; places = places; config = config })) stream_is
+    ∙ ap (λ n. state_of (record { vars = []; fns = first_functions options.props t.number thread options.seed }) (record { units = options.budget; rounds = n; places = places; config = config })) rounds_are
+    ∙ ap (λ ps. state_of (record { vars = []; fns = first_functions options.props t.number thread options.seed }) (record { units = options.budget; rounds = max_rounds; places = ps; config = config })) places_are
+    ∙ ap (λ cs. state_of (record { vars = []; fns = first_functions options.props t.number thread options.seed }) (record { units = options.budget; rounds = max_rounds; places = first_places plan.elements; config = cs })) config_is
+    ∙ ap (λ n. state_of (record { vars = []; fns = first_functions options.props n thread options.seed }) (record { units = options.budget; rounds = max_rounds; places = first_places plan.elements; config = first_config plan.elements })) (sym number)
 
 module _ (w : Runner) (options : Options) (pause : w.pause ≡ pause_of w.plan.now w.thread) (begun : w.begun ≡ false)
     (first : state_in (standing_of w false) ≡ first_of w.plan.now w.thread options)
     (whole : (user : UserState) (own : Own) → own.rounds ≡ max_rounds
     → left_of w.plan.now w.machine (state_of user own)
-    ≡ group_part (here_at w.plan.now (group_of w.plan.now w.thread)) (slice_get w.plan.now.elements (group_of w.plan.now w.thread)) (state_of user own)) where
+    ≡ group_part (here_at w.plan.now (group_of w.plan.now w.thread)) (group_of w.plan.now w.thread) (slice_get w.plan.now.elements (group_of w.plan.now w.thread)) (state_of user own)) where
   abbrev group : ℕ
   group = group_of w.plan.now w.thread
 
@@ -317,9 +359,9 @@ module _ (w : Runner) (options : Options) (pause : w.pause ≡ pause_of w.plan.n
   part_is =
       left_first w begun
       ∙ ap (λ s. and_then (set_first w.plan.now.elements s) (left_of w.plan.now w.machine)) first
-      ∙ first_alike (record { units = options.budget; rounds = max_rounds; places = first_places w.plan.now.elements }) w.plan.now.elements (left_of w.plan.now w.machine)
-      (group_part (here_at w.plan.now group) (slice_get w.plan.now.elements group))
-      (λ user. whole user (record { units = options.budget; rounds = max_rounds; places = first_places w.plan.now.elements }) refl) (first_of w.plan.now w.thread options).user
+      ∙ first_alike (record { units = options.budget; rounds = max_rounds; places = first_places w.plan.now.elements; config = first_config w.plan.now.elements }) w.plan.now.elements (left_of w.plan.now w.machine)
+      (group_part (here_at w.plan.now group) group (slice_get w.plan.now.elements group))
+      (λ user. whole user (record { units = options.budget; rounds = max_rounds; places = first_places w.plan.now.elements; config = first_config w.plan.now.elements }) refl) (first_of w.plan.now w.thread options).user
 
   whole_is : rest (standing_of w false) ≡ events w.plan.now w.thread options
   unfolding events

@@ -56,7 +56,7 @@ module _ (w : Runner) (number : ℕ) (tally : Tally) (r : IsTransaction w.plan.n
   -- a unit is used, and the sample is given
   module _ (some : w.units ≡ 0 → ⊥) (a : Account) where
     abbrev own : Own
-    own = record { units = w.units - 1; rounds = w.machine.rounds; places = w.machine.places }
+    own = record { units = w.units - 1; rounds = w.machine.rounds; places = w.machine.places; config = w.config.places }
 
     some_units : w.units ≡ suc (w.units - 1)
     some_units = omega arith
@@ -87,6 +87,7 @@ module _ (w : Runner) (number : ℕ) (tally : Tally) (r : IsTransaction w.plan.n
           sample = sample;
           number = number;
           given_by = record { element = r.element; there = r.there; kind_is = r.kind; label_is = ap (λ s. s.label) sample_is ∙ own_label };
+          paused = 0;
           goes = goes;
           entry_is = refl;
           unit = omega (arith, some_units);

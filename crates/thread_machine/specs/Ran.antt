@@ -2,12 +2,9 @@
 use Rattle.std.specs.Prelude.{◌≡◌, Bool, true, false, List, [], None}
 use Rattle.jm_base.specs.Run.{Run}
 use Rattle.jm_base.specs.Outside.{Account, Goes}
-use Rattle.template_text.specs.Pieces.{Pieces}
 use Rattle.var_functions.specs.declared.error.VarError.{VarError}
 use Rattle.var_functions.specs.Came.{Refused}
 use Rattle.element_tree.specs.declared.kinds.Element.{Element}
-use Rattle.element_tree.specs.declared.kinds.Kind.{Kind}
-use Rattle.element_tree.specs.declared.kinds.Kind.TheVariants.{Script}
 use Rattle.jm_meaning.specs.State.{State, Ending}
 use Rattle.control_machine.specs.declared.moves.Move.{Move}
 use Rattle.control_machine.specs.declared.moves.Move.TheVariants.{Iteration, RunSampler, EnterSection, LeaveSection, TransactionSample, Finished}
@@ -35,11 +32,6 @@ IsTaken elements (EnterSection lock) = ⊥
 IsTaken elements (LeaveSection lock) = ⊥
 IsTaken elements (TransactionSample element tally) = IsTransaction elements element
 IsTaken elements (Finished end) = IsFinish end
-
--- this is what a Script sampler asks for
-abbrev pub IsRequest : Pieces → Kind → Type 0
-IsRequest asks (Script replies request) = asks ≡ request
-IsRequest asks kind = ⊥
 
 -- what is left of a thread's part of the plan
 abbrev pub left_to : Runner → Run Ending

@@ -11,14 +11,15 @@ use Rattle.jm_meaning.specs.State.{State, Ending, and_then}
 use Rattle.jm_meaning.specs.Beginning.{Options, set_first}
 use Rattle.jm_meaning.specs.Meaning.{events, and_end, after_pause}
 use Rattle.jm_meaning.specs.TraceShown.{shown}
+use Rattle.config_elements.specs.RoundStart.{Config}
 use Rattle.control_machine.specs.declared.machine.Machine.{Machine}
 use Rattle.control_machine.specs.Left.{left_of}
 use Rattle.thread_machine.specs.declared.trace.TraceItem.{TraceItem}
 use Rattle.thread_machine.specs.Bare.{bare}
 
 -- The plan and the thread's number in it; the pause before its first variables that is still to come, and whether those are
--- set; its variables and what functions keep; the units left of its sample budget; its place in the plan; the sample that is
--- owed to its trace, its trace, and whether it has ended.
+-- set; its variables and what functions keep; the units left of its sample budget; what it keeps of Counters and data sets;
+-- its place in the plan; the sample that is owed to its trace, its trace, and whether it has ended.
 pub record Standing : Type 0 where
   pub plan : Tree
   pub thread : ℕ
@@ -26,13 +27,14 @@ pub record Standing : Type 0 where
   pub begun : Bool
   pub user : UserState
   pub units : ℕ
+  pub config : Config
   pub machine : Machine
   pub owed : Option Sample
   pub trace : List TraceItem
   pub ended : Bool
 
 abbrev pub state_in : Standing → State
-state_in w = record { user = w.user; own = record { units = w.units; rounds = w.machine.rounds; places = w.machine.places } }
+state_in w = record { user = w.user; own = record { units = w.units; rounds = w.machine.rounds; places = w.machine.places; config = w.config.places } }
 
 -- what is left of the thread's part of the plan
 abbrev pub part_left : Standing → Run Ending

@@ -1,10 +1,10 @@
 -- What one step of a thread does.
-use Rattle.std.specs.Prelude.{◌≡◌, ◌⊎◌, ℕ, ◌-◌, ◌<◌, true, [], ◌∷◌, ◌++◌, Some, slice_get}
+use Rattle.std.specs.Prelude.{◌≡◌, ◌⊎◌, ℕ, zero, suc, ◌-◌, ◌<◌, true, List, [], ◌∷◌, ◌++◌, Some, slice_get}
 use Rattle.jm_base.specs.declared.types.Entry.{Entry}
 use Rattle.jm_base.specs.declared.types.Sample.{Sample}
 use Rattle.jm_base.specs.declared.types.End.{End}
 use Rattle.jm_base.specs.declared.types.End.TheVariants.{Completed, StopThread, StopTest, Stopped, SampleLimit, RoundLimit, ValueLimit, NoMemory}
-use Rattle.jm_base.specs.Run.{Run, over, Waited, Sampled, Nothing, Ended, Giver, Sampler, Transaction}
+use Rattle.jm_base.specs.Run.{Run, over, Event, Waited, Sampled, Nothing, Ended, Giver, Sampler, Transaction}
 use Rattle.jm_base.specs.Outside.{Account, Goes}
 use Rattle.element_tree.specs.declared.kinds.Element.{Element}
 use Rattle.element_tree.specs.declared.kinds.Kind.{Kind}
@@ -13,6 +13,7 @@ use Rattle.element_tree.specs.declared.types.Class.TheVariants as classes
 use Rattle.element_tree.specs.Types.{class_of}
 use Rattle.element_tree.specs.Tree.{Tree}
 use Rattle.element_tree.specs.Names.{label_of}
+use Rattle.thread_machine.specs.declared.trace.TraceItem.{TraceItem}
 use Rattle.thread_machine.specs.declared.trace.TraceItem.TheVariants.{Paused as PausedItem, Null as NullItem, Ended as EndedItem}
 use Rattle.thread_machine.specs.declared.step.Step.{Step}
 use Rattle.thread_machine.specs.declared.step.Step.TheVariants.{Sampled as SampledStep, Null as NullStep, Enter, Leave, Ended as EndedStep}
@@ -48,36 +49,49 @@ pub record IsGiver (giver : Giver) (plan : Tree) (number label : ℕ) : Type 0 w
   pub kind_is : IsKindOf giver element.kind
   pub label_is : label ≡ label_of plan.elements element.name
 
--- a sampler or a transaction of the plan has used a unit and given a sample, which is owed to the trace
+-- a trace with a pause of that many milliseconds, if it was any
+abbrev pub trace_paused : List TraceItem → ℕ → List TraceItem
+trace_paused trace zero = trace
+trace_paused trace (suc ms) = trace ++ PausedItem (suc ms) ∷ []
+
+-- events after a pause, if it was any
+abbrev pub events_paused : ℕ → List Event → List Event
+events_paused zero events = events
+events_paused (suc ms) events = Waited (suc ms) ∷ events
+
+-- A sampler or a transaction of the plan has used a unit and given a sample, which is owed to the trace. The pause of its
+-- timers is in the trace.
 pub record GivesSample (before after : Account) (run : Run (Unit {0})) (old new : Standing) (entry : Entry) : Type 0 where
   pub giver : Giver
   pub sample : Sample
   pub number : ℕ
   pub given_by : IsGiver giver old.plan number sample.label
-  pub goes : Goes before run (Sampled giver sample ∷ []) (rest new) after
+  pub paused : ℕ
+  pub goes : Goes before run (events_paused paused (Sampled giver sample ∷ [])) (rest new) after
   pub entry_is : entry ≡ entry_of sample
   pub unit : 0 < old.units
-  pub new_is : new ≡ record old { begun = true; user = new.user; units = old.units - 1; machine = new.machine; owed = Some sample }
+  pub new_is : new ≡ record old { begun = true; user = new.user; units = old.units - 1; config = new.config; machine = new.machine; owed = Some sample; trace = trace_paused old.trace paused }
 
 -- a sampler of the plan has used a unit and given none, and the trace says so
 pub record GivesNone (before after : Account) (run : Run (Unit {0})) (old new : Standing) : Type 0 where
   pub number : ℕ
   pub label : ℕ
   pub sampler : IsGiver Sampler old.plan number label
-  pub goes : Goes before run (Nothing number ∷ []) (rest new) after
+  pub paused : ℕ
+  pub goes : Goes before run (events_paused paused (Nothing number ∷ [])) (rest new) after
   pub unit : 0 < old.units
-  pub new_is : new ≡ record old { begun = true; user = new.user; units = old.units - 1; machine = new.machine; trace = old.trace ++ NullItem number ∷ [] }
+  pub new_is : new ≡ record old { begun = true; user = new.user; units = old.units - 1; config = new.config; machine = new.machine; trace = trace_paused old.trace paused ++ NullItem number ∷ [] }
 
 -- the run is over, and the trace says how
 pub record IsOver (before after : Account) (run : Run (Unit {0})) (old new : Standing) (end : End) : Type 0 where
   pub goes : Goes before run (Ended end ∷ []) (over tt) after
-  pub new_is : new ≡ record old { begun = new.begun; user = new.user; units = new.units; machine = new.machine; trace = old.trace ++ EndedItem end ∷ []; ended = true }
+  pub new_is : new ≡ record old { begun = new.begun; user = new.user; units = new.units; config = new.config; machine = new.machine; trace = old.trace ++ EndedItem end ∷ []; ended = true }
 
 -- out of memory: the run has given nothing more, was cut somewhere on its way, and the trace says so
 pub record IsCut (before after : Account) (run : Run (Unit {0})) (old new : Standing) : Type 0 where
   pub left : Run (Unit {0})
   pub goes : Goes before run [] left after
-  pub new_is : new ≡ record old { begun = new.begun; user = new.user; units = new.units; machine = new.machine; trace = old.trace ++ EndedItem NoMemory ∷ []; ended = true }
+  pub new_is : new ≡ record old { begun = new.begun; user = new.user; units = new.units; config = new.config; machine = new.machine; trace = old.trace ++ EndedItem NoMemory ∷ []; ended = true }
 
 abbrev pub Ends : Account → Account → Run (Unit {0}) → Standing → Standing → End → Type 0
 Ends before after run old new Completed = IsOver before after run old new Completed

@@ -3,30 +3,39 @@
 ghost use Rattle.std.specs.Prelude.{◌≡◌, ℕ, ◌+◌, ◌-◌, ◌≤◌, ◌<◌, true, false, None, Some, [], ◌∷◌, ◌++◌, length, slice_get, IfOk, IfErr, IfSome, OnOk, OnErr};
 ghost use Rattle.element_tree.specs.Tree.{threads_of};
 ghost use Rattle.jm_base.specs.Outside.{Account, TellsNothing};
+ghost use Rattle.jm_base.specs.Run.{over};
 ghost use Rattle.var_functions.specs.Came.{CameTo};
+ghost use Rattle.scope_resolver.specs.Scoping.{scope_of};
+ghost use Rattle.trials.specs.Tried.{fine, past_limit};
+ghost use Rattle.config_elements.specs.RoundStart.{feeds_of};
+ghost use Rattle.sampler_pipeline.specs.SamplerPipeline.{pipeline, label_at};
+ghost use Rattle.sampler_pipeline.specs.KeptPackages.{Keeps};
+ghost use Rattle.jm_meaning.specs.Rounds.{round_start};
 ghost use Rattle.jm_meaning.specs.Meaning.{and_end};
 ghost use Rattle.control_machine.specs.Moves.{past};
 ghost use Rattle.control_machine.specs.Hearing.{told};
-ghost use Rattle.control_machine.specs.Left.{StandsIn, left_of, state_at, moved, IsSampler, IsTransaction};
+ghost use Rattle.control_machine.specs.Left.{StandsIn, left_of, left_after, state_at, moved, IsSampler, IsTransaction};
 ghost use Rattle.control_machine.specs.Turns.{IsNormalAt};
 ghost use Rattle.thread_machine.specs.Inside.{standing_of, GoesOn};
 ghost use Rattle.thread_machine.specs.Standing.{IsAtStart, rest, state_in};
-ghost use Rattle.thread_machine.specs.Stepped.{entry_of, Gives, Steps};
-ghost use Rattle.thread_machine.specs.Ran.{left_to, IsTaken, IsRequest, IsRefusedAt, IsBegun, IsCutAt, IsCutAfter, GoesOnAfter, is_end};
+ghost use Rattle.thread_machine.specs.Stepped.{entry_of, trace_paused, Gives, Steps};
+ghost use Rattle.thread_machine.specs.Ran.{left_to, IsTaken, IsRefusedAt, IsBegun, IsCutAt, IsCutAfter, GoesOnAfter, is_end};
 
 use crate::step::Step;
 use crate::trace::{Trace, TraceItem};
-use control_machine::{Machine, Move, Tally};
-use element_tree::{Kind, Plan};
+use config_elements::{ConfigState, begin_round};
+use control_machine::{Leave, Machine, Move, Tally};
+use element_tree::Plan;
 use jm_base::{End, M, NoMemory, Outside, Sample};
-use jm_meaning::{ramp_up_pause, run_sampler, set_first};
+use jm_meaning::{Signal, ramp_up_pause, set_first};
+use sampler_pipeline::{Done, Packages, run_one};
 use std::alloc::Global;
-use template_text::Template;
 use var_functions::{FnState, Props, UserState, VarError, Vars};
 
 /// A thread: its plan and number, the pause before its first variables that is still to come, whether those are set, its
-/// variables and what functions keep, the machine of moves, the units left of its sample budget, the sample that is still to
-/// be noted, and its trace.
+/// variables and what functions keep, what it keeps of Counters and data sets, the packages of the samplers that have run and
+/// the elements that took part in the last one, the machine of moves, the units left of its sample budget, the sample that is
+/// still to be noted, and its trace.
 #[derive(Drop)]
 pub struct Runner<'p> {
     pub plan: &'p Plan,
@@ -34,6 +43,9 @@ pub struct Runner<'p> {
     pub pause: u32,
     pub begun: bool,
     pub user: UserState,
+    pub config: ConfigState,
+    pub packages: Packages,
+    pub order: Vec<u16>,
     pub machine: Machine,
     pub units: u32,
     pub owed: Option<Sample>,
@@ -66,6 +78,9 @@ impl<'p> Runner<'p> {
                 vars: Vars::new(alloc),
                 fns: FnState::new(alloc, props, found.number, u64::from(thread), seed)?,
             },
+            config: ConfigState::new(alloc, plan, thread)?,
+            packages: Packages::new(alloc, plan)?,
+            order: Vec::new(alloc),
             machine: Machine::new(alloc, plan, thread)?,
             units: budget,
             owed: None,
@@ -91,9 +106,9 @@ impl<'p> Runner<'p> {
 
     // The pause before the first variables, if it is still to come.
     fn pause_first<O: Outside>(&mut self, outside: &mut O) -> M<()>
-        requires room { 3 ≤ self.old.trace.room }
+        requires room { 4 ≤ self.old.trace.room }
         ensures begun { OnOk result (IsBegun (O.account outside.old) (O.account outside.new) self.old self.new) }
-        ensures room { 2 ≤ self.new.trace.room }
+        ensures room { 3 ≤ self.new.trace.room }
         ensures still { OnErr result (TellsNothing (O.account outside.old) (O.account outside.new)) }
         ensures kept { OnErr result (self.new ≡ self.old) }
     {
@@ -111,7 +126,7 @@ impl<'p> Runner<'p> {
         requires owed { self.old.owed ≡ None }
         requires pause { self.old.pause ≡ 0 }
         requires on { GoesOn self.old }
-        requires room { 2 ≤ self.old.trace.room }
+        requires room { 3 ≤ self.old.trace.room }
         ensures gives { IfOk result (λ step. Gives (O.account outside.old) (O.account outside.new) (rest (standing_of self.old false))
             (standing_of self.old false) (standing_of self.new (is_end step)) step) }
         ensures on { IfOk result (GoesOnAfter self.new) }
@@ -141,7 +156,9 @@ impl<'p> Runner<'p> {
         requires owed { self.old.owed ≡ None }
         requires pause { self.old.pause ≡ 0 }
         requires stands { StandsIn self.old.plan.now self.old.machine }
-        requires room { 2 ≤ self.old.trace.room }
+        requires feeds { self.old.config.feeds ≡ feeds_of self.old.plan.now.elements self.old.machine.group.element }
+        requires keeps { Keeps self.old.plan.now.elements self.old.packages }
+        requires room { 3 ≤ self.old.trace.room }
         ensures gives { IfOk result (λ step. Gives (O.account outside.old) (O.account outside.new) (and_end (left_to self.old))
             (standing_of self.old false) (standing_of self.new (is_end step)) step) }
         ensures on { IfOk result (GoesOnAfter self.new) }
@@ -158,21 +175,24 @@ impl<'p> Runner<'p> {
 
     // The next move that ends a step. The first variables are set before the first one.
     fn next_move<O: Outside>(&mut self, outside: &mut O) -> Result<Move, VarError>
-        requires { StandsIn self.old.plan.now self.old.machine }
+        requires stands { StandsIn self.old.plan.now self.old.machine }
+        requires feeds { self.old.config.feeds ≡ feeds_of self.old.plan.now.elements self.old.machine.group.element }
         ensures came { CameTo (O.account outside.old) (left_to self.old) (O.account outside.new)
             (moved self.new.plan.now self.new.machine (state_in (standing_of self.new false)))
             (past (state_in (standing_of self.new false))) result }
         ensures given { IfOk result (IsTaken self.new.plan.now.elements) }
         ensures stands { IfOk result (λ m. StandsIn self.new.plan.now self.new.machine) }
         ensures normal { IfOk result (λ m. IsNormalAt m self.new.machine.signal) }
+        ensures feeds { IfOk result (λ m. self.new.config.feeds ≡ feeds_of self.new.plan.now.elements self.new.machine.group.element) }
         ensures begun { IfOk result (λ m. self.new.begun ≡ true) }
-        ensures kept { self.new ≡ record self.old { begun = self.new.begun; user = self.new.user; machine = self.new.machine } }
+        ensures kept { self.new ≡ record self.old { begun = self.new.begun; user = self.new.user; config = self.new.config; machine = self.new.machine } }
     {
         match self.set_out(outside) {
             Ok(()) => walk(
                 &mut self.machine,
                 self.alloc,
                 self.plan,
+                &mut self.config,
                 &mut self.user,
                 outside,
             ),
@@ -206,8 +226,10 @@ impl<'p> Runner<'p> {
         requires pause { self.old.pause ≡ 0 }
         requires begun { self.old.begun ≡ true }
         requires stands { StandsIn self.old.plan.now self.old.machine }
+        requires feeds { self.old.config.feeds ≡ feeds_of self.old.plan.now.elements self.old.machine.group.element }
+        requires keeps { Keeps self.old.plan.now.elements self.old.packages }
         requires normal { IsNormalAt (Move.RunSampler number) self.old.machine.signal }
-        requires room { 2 ≤ self.old.trace.room }
+        requires room { 3 ≤ self.old.trace.room }
         requires there { IsSampler self.old.plan.now.elements number }
         ensures gives { IfOk result (λ step. Gives (O.account outside.old) (O.account outside.new)
             (and_end (moved self.old.plan.now self.old.machine (state_in (standing_of self.old false)) (Move.RunSampler number)))
@@ -221,15 +243,53 @@ impl<'p> Runner<'p> {
             return Ok(self.finish(End::SampleLimit));
         }
         self.units -= 1;
-        let label = self.plan.label_of(number);
-        let request = request_of(self.plan, number);
-        match run_sampler(self.alloc, label, number, request, &mut self.user, outside) {
-            Ok(Some(sample)) => Ok(self.tell(sample)),
-            Ok(None) => {
-                self.trace.put(TraceItem::Null { sampler: number });
-                Ok(Step::Null)
+        match self.run_sampler(number, outside) {
+            Ok(Done { sample, paused }) => {
+                self.put_pause(paused);
+                match sample {
+                    Some(sample) => Ok(self.tell(sample)),
+                    None => {
+                        self.trace.put(TraceItem::Null { sampler: number });
+                        Ok(Step::Null)
+                    }
+                }
             }
             Err(error) => Err(error),
+        }
+    }
+
+    // The sampler of this number runs with the elements that apply to it.
+    fn run_sampler<O: Outside>(&mut self, number: u16, outside: &mut O) -> Result<Done, VarError>
+        requires { Keeps self.old.plan.now.elements self.old.packages }
+        ensures came { CameTo (O.account outside.old) (pipeline self.old.plan.now.elements (scope_of self.old.plan.now.elements number) number self.old.user)
+            (O.account outside.new) (λ done. over (fine done self.new.user)) (over (past_limit self.new.user)) result }
+        ensures label { IfOk result (λ done. IfSome done.sample (λ s. s.label ≡ label_at self.old.plan.now.elements number)) }
+        ensures keeps { Keeps self.old.plan.now.elements self.new.packages }
+        ensures kept { self.new ≡ record self.old { user = self.new.user; packages = self.new.packages; order = self.new.order } }
+    {
+        match self.packages.of(self.alloc, self.plan, number) {
+            Ok(scope) => run_one(
+                self.alloc,
+                self.plan,
+                scope,
+                number,
+                &mut self.user,
+                outside,
+                &mut self.order,
+            ),
+            Err(_) => Err(VarError::NoMemory),
+        }
+    }
+
+    // A pause of that many milliseconds is put into the trace, if it is any.
+    fn put_pause(&mut self, ms: u32)
+        requires room { 1 ≤ self.old.trace.room }
+        ensures items { self.new.trace.items ≡ trace_paused self.old.trace.items ms }
+        ensures room { self.old.trace.room ≤ self.new.trace.room + 1 }
+        ensures kept { self.new ≡ record self.old { trace = self.new.trace } }
+    {
+        if ms > 0 {
+            self.trace.put(TraceItem::Paused(ms));
         }
     }
 
@@ -259,7 +319,9 @@ impl<'p> Runner<'p> {
         requires pause { self.old.pause ≡ 0 }
         requires begun { self.old.begun ≡ true }
         requires stands { StandsIn self.old.plan.now self.old.machine }
-        requires room { 2 ≤ self.old.trace.room }
+        requires feeds { self.old.config.feeds ≡ feeds_of self.old.plan.now.elements self.old.machine.group.element }
+        requires keeps { Keeps self.old.plan.now.elements self.old.packages }
+        requires room { 3 ≤ self.old.trace.room }
         requires there { IsTransaction self.old.plan.now.elements element }
         ensures gives { (a : Account) → IfOk result (λ step. Gives a a
             (and_end (moved self.old.plan.now self.old.machine (state_in (standing_of self.old false)) (Move.TransactionSample element tally)))
@@ -286,22 +348,28 @@ fn walk<O: Outside>(
     machine: &mut Machine,
     alloc: Global,
     plan: &Plan,
+    config: &mut ConfigState,
     user: &mut UserState,
     outside: &mut O,
 ) -> Result<Move, VarError>
-    requires { StandsIn plan.now machine.old }
+    requires stands { StandsIn plan.now machine.old }
+    requires feeds { config.old.feeds ≡ feeds_of plan.now.elements machine.old.group.element }
     ensures came { (units : ℕ)
-        → CameTo (O.account outside.old) (left_of plan.now machine.old (state_at machine.old units user.old)) (O.account outside.new)
-        (moved plan.now machine.new (state_at machine.new units user.new))
-        (past (state_at machine.new units user.new)) result }
+        → CameTo (O.account outside.old) (left_of plan.now machine.old (state_at machine.old (record { units = units; config = config.old.places }) user.old)) (O.account outside.new)
+        (moved plan.now machine.new (state_at machine.new (record { units = units; config = config.new.places }) user.new))
+        (past (state_at machine.new (record { units = units; config = config.new.places }) user.new)) result }
     ensures given { IfOk result (IsTaken plan.now.elements) }
     ensures stands { IfOk result (λ m. StandsIn plan.now machine.new) }
+    ensures feeds { IfOk result (λ m. config.new.feeds ≡ feeds_of plan.now.elements machine.new.group.element) }
     ensures normal { IfOk result (λ m. IsNormalAt m machine.new.signal) }
 {
     'moves: loop {
         match machine.next(alloc, plan, user, outside) {
             Ok(next) => match next {
-                Move::Iteration(_) => {}
+                Move::Iteration(_) => match feed(machine, alloc, plan, config, user, outside) {
+                    Ok(()) => {}
+                    Err(error) => return Err(error),
+                },
                 _ => return Ok(next),
             },
             Err(error) => return Err(error),
@@ -309,16 +377,33 @@ fn walk<O: Outside>(
     }
 }
 
-// The request of a Script sampler.
-fn request_of(plan: &Plan, number: u16) -> &Template
-    requires { IsSampler plan.now.elements number }
-    ensures { IfSome (slice_get plan.now.elements number) (λ e. IsRequest result.now e.kind) }
+// Counters and data sets advance at the start of a round of the group. Where no row is left the thread is to stop.
+fn feed<O: Outside>(
+    machine: &mut Machine,
+    alloc: Global,
+    plan: &Plan,
+    config: &mut ConfigState,
+    user: &mut UserState,
+    outside: &mut O,
+) -> Result<(), VarError>
+    requires feeds { config.old.feeds ≡ feeds_of plan.now.elements machine.old.group.element }
+    requires normal { machine.old.signal ≡ Signal.Normal }
+    ensures came { (units : ℕ)
+        → CameTo (O.account outside.old)
+        (left_after plan.now machine.old (round_start plan.now.elements machine.old.group.element (state_at machine.old (record { units = units; config = config.old.places }) user.old)))
+        (O.account outside.new)
+        (λ u. left_of plan.now machine.new (state_at machine.new (record { units = units; config = config.new.places }) user.new))
+        (past (state_at machine.new (record { units = units; config = config.new.places }) user.new)) result }
+    ensures stands { StandsIn plan.now machine.old → StandsIn plan.now machine.new }
+    ensures feeds { config.new.feeds ≡ config.old.feeds }
+    ensures kept { machine.new ≡ record machine.old { signal = machine.new.signal } }
 {
-    let Some(element) = plan.element(number) else {
-        unreachable!();
-    };
-    let Kind::Script { request, .. } = &element.kind else {
-        unreachable!();
-    };
-    request
+    match begin_round(alloc, config, plan, user, outside) {
+        Ok(true) => Ok(()),
+        Ok(false) => {
+            machine.leave(Leave::StopThread);
+            Ok(())
+        }
+        Err(error) => Err(error),
+    }
 }

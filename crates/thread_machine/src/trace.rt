@@ -48,13 +48,14 @@ impl Trace {
         Ok(Trace { items })
     }
 
-    /// Takes room for three items: a pause, what comes after it, and the thread's end.
+    /// Takes room for four items: a pause before the first variables, one of a sampler's timers, what comes after them, and the
+    /// thread's end.
     pub fn make_room(&mut self) -> M<()>
-        ensures ok { OnOk result (3 ≤ self.new.room) }
+        ensures ok { OnOk result (4 ≤ self.new.room) }
         ensures kept { self.old.room ≤ self.new.room }
         ensures same { self.new.items ≡ self.old.items }
     {
-        self.items.reserve(3)?;
+        self.items.reserve(4)?;
         Ok(())
     }
 

@@ -241,9 +241,6 @@ run_each-rounds-preserved g t c =
 pub run_kind-label_of-requires : goal.run_kind-label_of-requires
 run_kind-label_of-requires g t c = slice_get_within c.args.plan.now.elements c.args.number c.args.element.now c.requires.there
 
-pub run_kind-label_of-requires-in-Script : goal.run_kind-label_of-requires-in-Script
-run_kind-label_of-requires-in-Script g t c = slice_get_within c.args.plan.now.elements c.args.number c.args.element.now c.requires.there
-
 pub run_once-returns-else-round-eq0 : goal.run_once-returns-else-round-eq0
 run_once-returns-else-round-eq0 g t c = plays-nothing _ _ _ (if-not _ (in_order (meaning (here_of c.args.plan.now c.args.at_failure) c.args.depth) c.args.round c.args.children.now (state_in c.args.progress.now)) (over (normal (state_in c.args.progress.now))) (not-zero c.args.round c.if-round-eq0.false))
 

@@ -1,7 +1,7 @@
 use Rattle.std.proofs.Common.{sym, ◌∙◌}
 use Rattle.std.specs.Prelude.{slice_get}
 use Rattle.jm_meaning.specs.Beginning.{max_rounds}
-use Rattle.jm_meaning.specs.Rounds.{rounds, group_turns, round_of_group}
+use Rattle.jm_meaning.specs.Rounds.{rounds, group_turns, round_of_group, round_start}
 use Rattle.jm_meaning.specs.Children.{in_order}
 use Rattle.jm_meaning.specs.Meaning.{meaning, group_part, here_at}
 use Rattle.plain_run.specs.Plays.{state_in, here_of}
@@ -18,8 +18,8 @@ returns-in_default-kind g c =
 
 pub returns : goal.returns
 returns g c =
-    plays-as (group_part (here_at c.args.plan.now c.args.group) (slice_get c.args.plan.now.elements c.args.group))
-    (rounds max_rounds (group_turns c.in-ThreadGroup.loops) (λ i s. round_of_group (in_order (meaning (here_of c.args.plan.now c.signal_of.result) 30) i c.as_slice.result.now s)) 0)
+    plays-as (group_part (here_at c.args.plan.now c.args.group) c.args.group (slice_get c.args.plan.now.elements c.args.group))
+    (rounds max_rounds (group_turns c.in-ThreadGroup.loops (round_start c.args.plan.now.elements c.args.group)) (λ i s. round_of_group (in_order (meaning (here_of c.args.plan.now c.signal_of.result) 30) i c.as_slice.result.now s)) 0)
     c.in_ok-signal.ensures
     (group-is c.args.plan.now c.args.group c.in-Some.element.now c.in-ThreadGroup.loops c.in-ThreadGroup.on_error c.in-ThreadGroup.ramp_ms c.in-ThreadGroup.threads c.as_slice.result.now c.signal_of.result
     (state_in c.args.progress.now) (sym c.in-Some.ensures) c.in-ThreadGroup.is (c.as_slice.ensures.value ∙ c.in_ok-children.ensures) c.signal_of.ensures)

@@ -1,4 +1,4 @@
-use Rattle.jm_meaning.specs.Rounds.{group_turns, round_of_group}
+use Rattle.jm_meaning.specs.Rounds.{group_turns, round_of_group, round_start}
 use Rattle.jm_meaning.specs.Children.{in_order}
 use Rattle.jm_meaning.specs.Meaning.{meaning}
 use Rattle.plain_run.specs.Plays.{here_of}
@@ -7,7 +7,7 @@ use Rattle.plain_run.proofs.group.run_rounds.Given as goal
 
 abbrev pub invariant-rounds : goal.invariant-rounds
 invariant-rounds g l =
-    Rounding (g.O.Outside.account l.fn.outside) l.fn.progress (group_turns l.loops)
+    Rounding (g.O.Outside.account l.fn.outside) l.fn.progress (group_turns l.loops (round_start l.plan.elements l.group))
     (λ i s. round_of_group (in_order (meaning (here_of l.plan l.at_failure) 30) i l.children s)) l.round l.progress (g.O.Outside.account l.outside)
 
 abbrev pub decreases-rounds : goal.decreases-rounds

@@ -12,4 +12,4 @@ returns-then-progress-eq0 c = λ a.
 pub returns : goal.returns
 returns c = λ a.
     sum-given a c.args.progress.now c.args.label c.args.tally c.args.signal (sym c.gives_sample.ensures ∙ c.if-not-gives_sample.false)
-    _ c.in_ok-sample.sample c.in_ok-sample.ensures c.if-progress-eq0.false refl c.in_ok-push.ensures.items refl
+    _ c.in_ok-sample.sample c.in_ok-sample.ensures c.if-progress-eq0.false refl c.in_ok-push.ensures.items refl refl

@@ -1,30 +1,44 @@
+use Rattle.std.proofs.Common.{◌∙◌, ap, sym}
 use Rattle.jm_base.proofs.RunLaws.{goes-append, goes-nothing}
 use Rattle.var_functions.proofs.CameLaws.{refused-first}
+use Rattle.config_elements.specs.RoundStart.{feeds_of}
 use Rattle.control_machine.specs.Left.{left_of, state_at}
 use Rattle.thread_machine.proofs.Steps.{round_goes, taken}
 use Rattle.thread_machine.proofs.runner.walk.Goals as goal
 
 pub moves-init : goal.moves-init
 moves-init g c = record {
-  stands = c.requires;
+  stands = c.requires.stands;
+  feeds = c.requires.feeds;
   goes = λ units. goes-nothing _ _;
 }
 
 pub moves-preserved : goal.moves-preserved
 moves-preserved g c = record {
-  stands = c.in-Ok.ensures.stands;
+  stands = c.feed.ensures.stands c.in-Ok.ensures.stands;
+  feeds = c.feed.ensures.feeds ∙ c.moves.invariant.feeds ∙ ap (feeds_of c.args.plan.now.elements) (sym (ap (λ m. m.group.element) c.feed.ensures.kept ∙ c.next.ensures.thread.0));
   goes = λ units. goes-append (c.moves.invariant.goes units)
-      (round_goes _ _ c.args.plan.now c.next.new.self (state_at c.next.new.self units c.next.new.state) (left_of c.args.plan.now c.moves.machine (state_at c.moves.machine units c.moves.user))
-      c.in-Ok.next c.in-Iteration.field-0 c.in-Iteration.is (c.in-Ok.ensures.came units));
+      (goes-append (round_goes _ _ c.args.plan.now c.next.new.self (state_at c.next.new.self (record { units = units; config = c.moves.config.places }) c.next.new.state)
+      (left_of c.args.plan.now c.moves.machine (state_at c.moves.machine (record { units = units; config = c.moves.config.places }) c.moves.user))
+      c.in-Ok.next c.in-Iteration.field-0 c.in-Iteration.is (c.in-Ok.ensures.came (record { units = units; config = c.moves.config.places })))
+      (c.in-Ok-feed.ensures.came units));
 }
+
+pub returns-in-Err-feed-clause-came : goal.returns-in-Err-feed-clause-came
+returns-in-Err-feed-clause-came g c = λ units. refused-first (c.moves.invariant.goes units)
+    (refused-first (round_goes _ _ c.args.plan.now c.next.new.self (state_at c.next.new.self (record { units = units; config = c.moves.config.places }) c.next.new.state)
+    (left_of c.args.plan.now c.moves.machine (state_at c.moves.machine (record { units = units; config = c.moves.config.places }) c.moves.user))
+    c.in-Ok.next c.in-Iteration.field-0 c.in-Iteration.is (c.in-Ok.ensures.came (record { units = units; config = c.moves.config.places })))
+    (c.in-Err-feed.ensures.came units))
 
 pub returns-in_default : goal.returns-in_default
 returns-in_default g c = record {
-  came = λ units. goes-append (c.moves.invariant.goes units) (c.in-Ok.ensures.came units);
+  came = λ units. goes-append (c.moves.invariant.goes units) (c.in-Ok.ensures.came (record { units = units; config = c.moves.config.places }));
   given = taken c.args.plan.now.elements c.in-Ok.next c.in-Ok.ensures.given c.in_default.not-Iteration;
   stands = c.in-Ok.ensures.stands;
+  feeds = c.moves.invariant.feeds ∙ ap (feeds_of c.args.plan.now.elements) (sym c.next.ensures.thread.0);
   normal = c.in-Ok.ensures.normal;
 }
 
 pub returns-in-Err-clause-came : goal.returns-in-Err-clause-came
-returns-in-Err-clause-came g c = λ units. refused-first (c.moves.invariant.goes units) (c.in-Err.ensures.came units)
+returns-in-Err-clause-came g c = λ units. refused-first (c.moves.invariant.goes units) (c.in-Err.ensures.came (record { units = units; config = c.moves.config.places }))

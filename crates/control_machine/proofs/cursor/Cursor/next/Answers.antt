@@ -10,8 +10,7 @@ use Rattle.control_machine.proofs.ChoiceLaws.{interleave-law, random-law, order-
 use Rattle.control_machine.proofs.PassLaws.{passes_fewer, of_answer}
 use Rattle.control_machine.proofs.ChoicePass.{none_begun, takes_chosen, order_takes, order_kept}
 use Rattle.control_machine.proofs.CameSteps.{came-step, there_at}
-use Rattle.jm_meaning.proofs.SamplingLaws.{on_err}
-use Rattle.control_machine.proofs.CutLaws.{later_of, later_as, cut_same, cut_still, cut_while, cut_each}
+use Rattle.control_machine.proofs.CutLaws.{on_err, later_of, later_as, cut_same, cut_still, cut_while, cut_each}
 use Rattle.control_machine.proofs.cursor.Cursor.next.Goals as goal
 
 pub returns-in-Simple-clause-came : goal.returns-in-Simple-clause-came

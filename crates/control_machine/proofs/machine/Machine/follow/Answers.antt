@@ -14,8 +14,8 @@ use Rattle.var_functions.proofs.LaterLaws.{later_same}
 use Rattle.control_machine.proofs.machine.Machine.follow.Goals as goal
 
 pub returns-in-Over-clause-came : goal.returns-in-Over-clause-came
-returns-in-Over-clause-came g c = λ e units there.
-    rw c.close.ensures (goes_as _ _ _ (is_over c.args.plan.now c.args.self.now c.args.frame e c.args.state.now (own_at c.args.self.now units) there c.args.turn c.in-Over.is c.requires.normal c.args.self.now.rounds refl))
+returns-in-Over-clause-came g c = λ e beside there.
+    rw c.close.ensures (goes_as _ _ _ (is_over c.args.plan.now c.args.self.now c.args.frame e c.args.state.now (own_at c.args.self.now beside) there c.args.turn c.in-Over.is c.requires.normal c.args.self.now.rounds refl))
 
 pub returns-in-Over-clause-given : goal.returns-in-Over-clause-given
 returns-in-Over-clause-given g c = rw c.close.ensures (closed_given c.args.plan.now.elements _ c.args.self.now.rounds c.args.frame c.requires.open)
@@ -30,12 +30,12 @@ pub returns-in-Over-clause-lighter : goal.returns-in-Over-clause-lighter
 returns-in-Over-clause-lighter g c = λ old depth takes. rw c.close.ensures (closed_lightens c.args.frame _ _ (over_lighter c.args.plan.now.elements c.args.self.now old))
 
 pub returns-then-self-eq0-clause-came : goal.returns-then-self-eq0-clause-came
-returns-then-self-eq0-clause-came g c = λ e units there.
-    goes_as _ _ _ (no_round_left c.args.plan.now c.args.self.now c.args.frame e c.args.state.now (own_at c.args.self.now units) there c.args.turn c.in-Round.is (omega (arith, c.if-self-eq0.true)) c.args.self.now.rounds refl)
+returns-then-self-eq0-clause-came g c = λ e beside there.
+    goes_as _ _ _ (no_round_left c.args.plan.now c.args.self.now c.args.frame e c.args.state.now (own_at c.args.self.now beside) there c.args.turn c.in-Round.is (omega (arith, c.if-self-eq0.true)) c.args.self.now.rounds refl)
 
 pub returns-else-self-eq0-clause-came : goal.returns-else-self-eq0-clause-came
-returns-else-self-eq0-clause-came g c = λ e units there.
-    goes_as _ _ _ (round_taken c.args.plan.now c.args.self.now c.args.frame e c.args.state.now (own_at c.args.self.now units) there c.args.turn c.in-Round.is (record c.args.self.now { stack = c.put.new.self; rounds = c.args.self.now.rounds - 1 }) (record { group = refl; failure = refl; signal = c.requires.normal }) c.put.ensures (c.args.self.now.rounds - 1) (omega (arith, c.if-self-eq0.false)))
+returns-else-self-eq0-clause-came g c = λ e beside there.
+    goes_as _ _ _ (round_taken c.args.plan.now c.args.self.now c.args.frame e c.args.state.now (own_at c.args.self.now beside) there c.args.turn c.in-Round.is (record c.args.self.now { stack = c.put.new.self; rounds = c.args.self.now.rounds - 1 }) (record { group = refl; failure = refl; signal = c.requires.normal }) c.put.ensures (c.args.self.now.rounds - 1) (omega (arith, c.if-self-eq0.false)))
 
 pub returns-else-self-eq0-clause-stands : goal.returns-else-self-eq0-clause-stands
 returns-else-self-eq0-clause-stands g c =
@@ -58,12 +58,12 @@ open-requires-clause-nests g c =
     child_nests c.args.plan.now.elements c.args.frame.depth c.in-Child.place c.in-Some.child o.element o.below (sym (c.in-Some.ensures o.element o.there))
 
 pub returns-in-Some-clause-came : goal.returns-in-Some-clause-came
-returns-in-Some-clause-came g c = λ e units there.
-    came_as (g.O.Outside.account c.args.outside.now) (g.O.Outside.account c.open.new.outside) _ _ (went c.args.plan.now c.open.new.self (state_at c.open.new.self units c.open.new.state))
-    (past (state_at c.open.new.self units c.open.new.state)) c.open.result
-    (child_next c.args.plan.now c.args.self.now c.args.frame e c.args.state.now (own_at c.args.self.now units) there c.args.turn c.in-Child.place c.in-Some.child c.round-round.result c.in-Child.is (sym (c.in-Some.ensures e there)) c.round-round.ensures
+returns-in-Some-clause-came g c = λ e beside there.
+    came_as (g.O.Outside.account c.args.outside.now) (g.O.Outside.account c.open.new.outside) _ _ (went c.args.plan.now c.open.new.self (state_at c.open.new.self beside c.open.new.state))
+    (past (state_at c.open.new.self beside c.open.new.state)) c.open.result
+    (child_next c.args.plan.now c.args.self.now c.args.frame e c.args.state.now (own_at c.args.self.now beside) there c.args.turn c.in-Child.place c.in-Some.child c.round-round.result c.in-Child.is (sym (c.in-Some.ensures e there)) c.round-round.ensures
     (record c.args.self.now { stack = c.put-in-Child.new.self }) (record { group = refl; failure = refl; signal = c.requires.normal }) c.put-in-Child.ensures)
-    (c.open.ensures.came units)
+    (c.open.ensures.came beside)
 
 pub returns-in-Some-clause-lighter : goal.returns-in-Some-clause-lighter
 returns-in-Some-clause-lighter g c = IfOk-weaker c.open.result _ _ (λ w opened old depth takes.
@@ -78,8 +78,8 @@ pub returns-in-Some-clause-index : goal.returns-in-Some-clause-index
 returns-in-Some-clause-index g c = c.open.ensures.index
 
 pub returns-in-None-clause-came : goal.returns-in-None-clause-came
-returns-in-None-clause-came g c = λ e units there.
-    goes_as _ _ _ (no_child c.args.plan.now c.args.self.now c.args.frame e c.args.state.now (own_at c.args.self.now units) there c.args.turn c.in-Child.place c.in-Child.is (sym (c.in-None.ensures e there)) (record c.args.self.now { stack = c.put-in-Child.new.self }) (record { group = refl; failure = refl; signal = c.requires.normal }) c.put-in-Child.ensures c.args.self.now.rounds refl)
+returns-in-None-clause-came g c = λ e beside there.
+    goes_as _ _ _ (no_child c.args.plan.now c.args.self.now c.args.frame e c.args.state.now (own_at c.args.self.now beside) there c.args.turn c.in-Child.place c.in-Child.is (sym (c.in-None.ensures e there)) (record c.args.self.now { stack = c.put-in-Child.new.self }) (record { group = refl; failure = refl; signal = c.requires.normal }) c.put-in-Child.ensures c.args.self.now.rounds refl)
 
 pub returns-in-None-clause-lighter : goal.returns-in-None-clause-lighter
 returns-in-None-clause-lighter g c = λ old depth takes.
@@ -87,8 +87,8 @@ returns-in-None-clause-lighter g c = λ old depth takes.
 
 pub returns-in-Some-clause-cut : goal.returns-in-Some-clause-cut
 returns-in-Some-clause-cut g c = λ e there. on_err_weaker c.open.result (λ cut.
-    cut_as c.args.plan.now (λ units. left_answered c.args.plan.now c.args.self.now c.args.frame e c.args.turn (state_at c.args.self.now units c.args.state.now)) _ c.open.new.state
-    (λ units. child_next c.args.plan.now c.args.self.now c.args.frame e c.args.state.now (own_at c.args.self.now units) there c.args.turn c.in-Child.place c.in-Some.child c.round-round.result c.in-Child.is (sym (c.in-Some.ensures e there)) c.round-round.ensures
+    cut_as c.args.plan.now (λ beside. left_answered c.args.plan.now c.args.self.now c.args.frame e c.args.turn (state_at c.args.self.now beside c.args.state.now)) _ c.open.new.state
+    (λ beside. child_next c.args.plan.now c.args.self.now c.args.frame e c.args.state.now (own_at c.args.self.now beside) there c.args.turn c.in-Child.place c.in-Some.child c.round-round.result c.in-Child.is (sym (c.in-Some.ensures e there)) c.round-round.ensures
     (record c.args.self.now { stack = c.put-in-Child.new.self }) (record { group = refl; failure = refl; signal = c.requires.normal }) c.put-in-Child.ensures) cut) c.open.ensures.cut
 
 pub returns-then-self-eq0-clause-later : goal.returns-then-self-eq0-clause-later

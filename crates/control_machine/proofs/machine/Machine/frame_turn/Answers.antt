@@ -17,18 +17,18 @@ follow-requires-clause-open g c =
     answered_open c.args.plan.now.elements c.args.self.now.rounds c.args.frame c.next.new.self c.in-Ok.turn o (c.in-Ok.ensures.fits o.element c.args.frame.element o.there o.fits) c.in-Ok.ensures.begun
 
 pub returns-in-Ok-clause-came : goal.returns-in-Ok-clause-came
-returns-in-Ok-clause-came g c = λ units.
+returns-in-Ok-clause-came g c = λ beside.
     let o = c.requires.open in
-    framed_came (here_in c.args.plan.now c.args.self.now) c.args.self.now.group c.args.self.now.stack.frames c.args.frame o.element (state_at c.args.self.now units c.args.state.now) (g.O.Outside.account c.args.outside.now) (g.O.Outside.account c.next.new.outside) (g.O.Outside.account c.follow.new.outside) _
-    (went c.args.plan.now c.follow.new.self (state_at c.follow.new.self units c.follow.new.state)) (past (state_at c.follow.new.self units c.follow.new.state)) c.follow.result o.there
-    (c.in-Ok.ensures.came o.element c.args.frame.element (meaning (here_in c.args.plan.now c.args.self.now) c.args.frame.depth) (own_at c.args.self.now units) o.there o.fits o.bound)
-    (rw c.in-Ok.ensures.tally at (c.follow.ensures.came o.element units o.there))
+    framed_came (here_in c.args.plan.now c.args.self.now) c.args.self.now.group c.args.self.now.stack.frames c.args.frame o.element (state_at c.args.self.now beside c.args.state.now) (g.O.Outside.account c.args.outside.now) (g.O.Outside.account c.next.new.outside) (g.O.Outside.account c.follow.new.outside) _
+    (went c.args.plan.now c.follow.new.self (state_at c.follow.new.self beside c.follow.new.state)) (past (state_at c.follow.new.self beside c.follow.new.state)) c.follow.result o.there
+    (c.in-Ok.ensures.came o.element c.args.frame.element (meaning (here_in c.args.plan.now c.args.self.now) c.args.frame.depth) (own_at c.args.self.now beside) o.there o.fits o.bound)
+    (rw c.in-Ok.ensures.tally at (c.follow.ensures.came o.element beside o.there))
 
 pub returns-in-Err-clause-came : goal.returns-in-Err-clause-came
-returns-in-Err-clause-came g c = λ units.
+returns-in-Err-clause-came g c = λ beside.
     let o = c.requires.open in
-    (framed_refused (here_in c.args.plan.now c.args.self.now) c.args.self.now.group c.args.self.now.stack.frames c.args.frame o.element (state_at c.args.self.now units c.args.state.now) (state_at c.args.self.now units c.next.new.state) _ _ c.in-Err.error o.there
-    (c.in-Err.ensures.came o.element c.args.frame.element (meaning (here_in c.args.plan.now c.args.self.now) c.args.frame.depth) (own_at c.args.self.now units) o.there o.fits o.bound))
+    (framed_refused (here_in c.args.plan.now c.args.self.now) c.args.self.now.group c.args.self.now.stack.frames c.args.frame o.element (state_at c.args.self.now beside c.args.state.now) (state_at c.args.self.now beside c.next.new.state) _ _ c.in-Err.error o.there
+    (c.in-Err.ensures.came o.element c.args.frame.element (meaning (here_in c.args.plan.now c.args.self.now) c.args.frame.depth) (own_at c.args.self.now beside) o.there o.fits o.bound))
 
 pub returns-in-Ok-clause-later : goal.returns-in-Ok-clause-later
 returns-in-Ok-clause-later g c = later_then c.args.state.now.fns c.next.new.state.fns c.follow.new.state.fns c.in-Ok.ensures.later c.follow.ensures.later
@@ -36,13 +36,13 @@ returns-in-Ok-clause-later g c = later_then c.args.state.now.fns c.next.new.stat
 pub returns-in-Ok-clause-cut : goal.returns-in-Ok-clause-cut
 returns-in-Ok-clause-cut g c = on_err_weaker c.follow.result (λ cut.
     let o = c.requires.open in
-    cut_behind c.args.plan.now (λ units. left_from c.args.plan.now c.args.self.now c.args.frame (over (normal (state_at c.args.self.now units c.args.state.now)))) _ c.follow.new.state
-    (λ units. framed_goes (here_in c.args.plan.now c.args.self.now) c.args.self.now.group c.args.self.now.stack.frames c.args.frame o.element (state_at c.args.self.now units c.args.state.now) _ _ _ o.there
-    (c.in-Ok.ensures.came o.element c.args.frame.element (meaning (here_in c.args.plan.now c.args.self.now) c.args.frame.depth) (own_at c.args.self.now units) o.there o.fits o.bound)) cut)
+    cut_behind c.args.plan.now (λ beside. left_from c.args.plan.now c.args.self.now c.args.frame (over (normal (state_at c.args.self.now beside c.args.state.now)))) _ c.follow.new.state
+    (λ beside. framed_goes (here_in c.args.plan.now c.args.self.now) c.args.self.now.group c.args.self.now.stack.frames c.args.frame o.element (state_at c.args.self.now beside c.args.state.now) _ _ _ o.there
+    (c.in-Ok.ensures.came o.element c.args.frame.element (meaning (here_in c.args.plan.now c.args.self.now) c.args.frame.depth) (own_at c.args.self.now beside) o.there o.fits o.bound)) cut)
     (rw c.in-Ok.ensures.tally at (c.follow.ensures.cut c.requires.open.element c.requires.open.there))
 
 pub returns-in-Err-clause-cut : goal.returns-in-Err-clause-cut
 returns-in-Err-clause-cut g c =
     let o = c.requires.open in
-    cut_inside c.args.plan.now c.args.self.now c.args.frame o.element c.args.state.now c.next.new.state (λ units. past (state_at c.args.self.now units c.next.new.state)) c.in-Err.error o.there c.requires.normal
+    cut_inside c.args.plan.now c.args.self.now c.args.frame o.element c.args.state.now c.next.new.state (λ beside. past (state_at c.args.self.now beside c.next.new.state)) c.in-Err.error o.there c.requires.normal
     (c.in-Err.ensures.cut o.element c.args.frame.element o.there o.fits) (returns-in-Err-clause-came g c)

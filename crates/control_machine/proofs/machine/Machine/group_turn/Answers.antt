@@ -19,16 +19,16 @@ open-requires-clause-nests g c =
     child_nests c.args.plan.now.elements 30 c.in-Some.place c.in-Some-child_at.child o.element o.below (sym (c.in-Some-child_at.ensures o.element o.there))
 
 pub returns-in-Some-child_at-clause-came : goal.returns-in-Some-child_at-clause-came
-returns-in-Some-child_at-clause-came g c = λ units.
+returns-in-Some-child_at-clause-came g c = λ beside.
     let o = c.requires.stands.group in
     let n = c.in-Some.ensures in
-    came_as (g.O.Outside.account c.args.outside.now) (g.O.Outside.account c.open.new.outside) _ _ (went c.args.plan.now c.open.new.self (state_at c.open.new.self units c.open.new.state))
-    (past (state_at c.open.new.self units c.open.new.state)) c.open.result
-    (group_child_next c.args.plan.now c.args.self.now (record c.args.self.now { group = record c.args.self.now.group { pass = c.next_child.new.self } }) c.args.state.now (own_at c.args.self.now units) c.in-Some.place c.in-Some-child_at.child c.from-round.result c.requires.normal c.requires.empty
+    came_as (g.O.Outside.account c.args.outside.now) (g.O.Outside.account c.open.new.outside) _ _ (went c.args.plan.now c.open.new.self (state_at c.open.new.self beside c.open.new.state))
+    (past (state_at c.open.new.self beside c.open.new.state)) c.open.result
+    (group_child_next c.args.plan.now c.args.self.now (record c.args.self.now { group = record c.args.self.now.group { pass = c.next_child.new.self } }) c.args.state.now (own_at c.args.self.now beside) c.in-Some.place c.in-Some-child_at.child c.from-round.result c.requires.normal c.requires.empty
     (some_left c.args.self.now.group.pass c.in-Some.place n.0 n.1) (all_of c.args.plan.now.elements c.args.self.now.group.element o.element c.args.self.now.group.pass.children o.there o.pass) n.0
     (taken_child c.args.plan.now.elements c.args.self.now.group.element o.element c.in-Some.place c.in-Some-child_at.child o.there (sym (c.in-Some-child_at.ensures o.element o.there)))
     (c.from-round.ensures ∙ c.saturating_sub.ensures) (ap (λ p. record c.args.self.now.group { pass = p }) n.2) refl c.requires.empty)
-    (c.open.ensures.came units)
+    (c.open.ensures.came beside)
 
 pub returns-in-Some-child_at-clause-lighter : goal.returns-in-Some-child_at-clause-lighter
 returns-in-Some-child_at-clause-lighter g c = IfOk-weaker c.open.result _ _ (λ w opened.
@@ -53,9 +53,9 @@ returns-in-None-child_at-clause-lighter g c =
     absurd (no_such_child c.args.plan.now.elements o.element c.args.self.now.group.pass c.in-Some.place c.in-Some.ensures.1 o.pass (c.in-None-child_at.ensures o.element o.there))
 
 pub returns-in-None-clause-came : goal.returns-in-None-clause-came
-returns-in-None-clause-came g c = λ units.
+returns-in-None-clause-came g c = λ beside.
     let n = c.in-None.ensures in
-    goes_as _ _ _ (rw n.1 at (c.next_round.ensures.same c.args.plan.now units c.args.state.now) c.requires.stands.group c.requires.empty c.requires.normal n.0)
+    goes_as _ _ _ (rw n.1 at (c.next_round.ensures.same c.args.plan.now beside c.args.state.now) c.requires.stands.group c.requires.empty c.requires.normal n.0)
 
 pub returns-in-None-clause-given : goal.returns-in-None-clause-given
 returns-in-None-clause-given g c = c.next_round.ensures.given c.args.plan.now.elements
@@ -64,8 +64,8 @@ pub returns-in-Some-child_at-clause-cut : goal.returns-in-Some-child_at-clause-c
 returns-in-Some-child_at-clause-cut g c = on_err_weaker c.open.result (λ cut.
     let o = c.requires.stands.group in
     let n = c.in-Some.ensures in
-    cut_as c.args.plan.now (λ units. left_of c.args.plan.now c.args.self.now (state_at c.args.self.now units c.args.state.now)) _ c.open.new.state
-    (λ units. group_child_next c.args.plan.now c.args.self.now (record c.args.self.now { group = record c.args.self.now.group { pass = c.next_child.new.self } }) c.args.state.now (own_at c.args.self.now units) c.in-Some.place c.in-Some-child_at.child c.from-round.result c.requires.normal c.requires.empty
+    cut_as c.args.plan.now (λ beside. left_of c.args.plan.now c.args.self.now (state_at c.args.self.now beside c.args.state.now)) _ c.open.new.state
+    (λ beside. group_child_next c.args.plan.now c.args.self.now (record c.args.self.now { group = record c.args.self.now.group { pass = c.next_child.new.self } }) c.args.state.now (own_at c.args.self.now beside) c.in-Some.place c.in-Some-child_at.child c.from-round.result c.requires.normal c.requires.empty
     (some_left c.args.self.now.group.pass c.in-Some.place n.0 n.1) (all_of c.args.plan.now.elements c.args.self.now.group.element o.element c.args.self.now.group.pass.children o.there o.pass) n.0
     (taken_child c.args.plan.now.elements c.args.self.now.group.element o.element c.in-Some.place c.in-Some-child_at.child o.there (sym (c.in-Some-child_at.ensures o.element o.there)))
     (c.from-round.ensures ∙ c.saturating_sub.ensures) (ap (λ p. record c.args.self.now.group { pass = p }) n.2) refl c.requires.empty) cut) c.open.ensures.cut

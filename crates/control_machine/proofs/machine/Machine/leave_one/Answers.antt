@@ -6,8 +6,8 @@ use Rattle.control_machine.proofs.Lightening.{popped_light}
 use Rattle.control_machine.proofs.machine.Machine.leave_one.Goals as goal
 
 pub returns-in-Some-clause-same : goal.returns-in-Some-clause-same
-returns-in-Some-clause-same c = λ plan units user stands away.
-    rw c.close.ensures (popped_same plan c.args.self.now (record c.args.self.now { stack = c.pop.new.self }) c.in-Some.frame user (own_at c.args.self.now units) c.in-Some.ensures.0 away refl refl refl stands c.args.self.now.rounds refl)
+returns-in-Some-clause-same c = λ plan beside user stands away.
+    rw c.close.ensures (popped_same plan c.args.self.now (record c.args.self.now { stack = c.pop.new.self }) c.in-Some.frame user (own_at c.args.self.now beside) c.in-Some.ensures.0 away refl refl refl stands c.args.self.now.rounds refl)
 
 pub returns-in-Some-clause-given : goal.returns-in-Some-clause-given
 returns-in-Some-clause-given c = λ plan stands away. rw c.close.ensures (closed_given plan.elements _ c.args.self.now.rounds c.in-Some.frame (rw c.in-Some.ensures.0 at stands.open_).0)

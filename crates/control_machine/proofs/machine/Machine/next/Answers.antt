@@ -13,7 +13,7 @@ turns-init g c = record {
   stands = c.requires;
   fewer = omega arith;
   thread = (refl, refl);
-  goes = λ units. goes_as _ _ _ refl;
+  goes = λ beside. goes_as _ _ _ refl;
   later = later_same c.args.state.now.fns;
 }
 
@@ -32,13 +32,13 @@ turns-preserved g c =
       stands = t.stands;
       fewer = omega (arith, i.fewer, r);
       thread = (t.thread.0 ∙ i.thread.0, t.thread.1 ∙ i.thread.1);
-      goes = λ units. goes-append (i.goes units) (rw c.in-Ok-On.field-0-is at (t.came units));
+      goes = λ beside. goes-append (i.goes beside) (rw c.in-Ok-On.field-0-is at (t.came beside));
       later = later_then c.args.state.now.fns c.turns.state.fns c.turn.new.state.fns i.later t.later;
     }
 
 pub returns-in-Ok-To-clause-came : goal.returns-in-Ok-To-clause-came
-returns-in-Ok-To-clause-came g c = λ units.
-    goes-append (c.turns.invariant.goes units) (rw c.in-Ok-To.field-0-is at (c.in-Ok-To.ensures.came units))
+returns-in-Ok-To-clause-came g c = λ beside.
+    goes-append (c.turns.invariant.goes beside) (rw c.in-Ok-To.field-0-is at (c.in-Ok-To.ensures.came beside))
 
 pub returns-in-Ok-To-clause-rounds : goal.returns-in-Ok-To-clause-rounds
 returns-in-Ok-To-clause-rounds g c = later_rounds c.in-Ok-To.next _ _ _ c.turns.invariant.fewer (rw c.in-Ok-To.field-0-is at c.in-Ok-To.ensures.rounds)
@@ -50,7 +50,7 @@ pub returns-in-Ok-To-clause-thread : goal.returns-in-Ok-To-clause-thread
 returns-in-Ok-To-clause-thread g c = let i = c.turns.invariant.thread in let t = c.in-Ok-To.ensures.thread in (t.0 ∙ i.0, t.1 ∙ i.1)
 
 pub returns-in-Err-clause-came : goal.returns-in-Err-clause-came
-returns-in-Err-clause-came g c = λ units. refused-first (c.turns.invariant.goes units) (c.in-Err.ensures.came units)
+returns-in-Err-clause-came g c = λ beside. refused-first (c.turns.invariant.goes beside) (c.in-Err.ensures.came beside)
 
 pub returns-in-Err-clause-thread : goal.returns-in-Err-clause-thread
 returns-in-Err-clause-thread g c = let i = c.turns.invariant.thread in let t = c.in-Err.ensures.thread in (t.0 ∙ i.0, t.1 ∙ i.1)
@@ -63,5 +63,5 @@ returns-in-Err-clause-later g c = later_then c.args.state.now.fns c.turns.state.
 
 pub returns-in-Err-clause-cut : goal.returns-in-Err-clause-cut
 returns-in-Err-clause-cut g c =
-    cut_behind c.args.plan.now (λ units. left_of c.args.plan.now c.args.self.now (state_at c.args.self.now units c.args.state.now)) (λ units. left_of c.args.plan.now c.turns.self (state_at c.turns.self units c.turns.state)) c.turn.new.state
+    cut_behind c.args.plan.now (λ beside. left_of c.args.plan.now c.args.self.now (state_at c.args.self.now beside c.args.state.now)) (λ beside. left_of c.args.plan.now c.turns.self (state_at c.turns.self beside c.turns.state)) c.turn.new.state
     c.turns.invariant.goes c.in-Err.ensures.cut

@@ -14,16 +14,16 @@ pub push-requires : goal.push-requires
 push-requires g c = (nests_at c.args.plan.now.elements c.args.depth c.args.child c.requires.nests).some
 
 pub returns-in-Ok-Nothing-clause-came : goal.returns-in-Ok-Nothing-clause-came
-returns-in-Ok-Nothing-clause-came g c = λ units.
+returns-in-Ok-Nothing-clause-came g c = λ beside.
     let n = nests_at c.args.plan.now.elements c.args.depth c.args.child c.requires.nests in
-    open_nothing c.args.plan.now c.args.self.now c.args.child c.args.round c.args.depth n.element c.args.state.now c.enter.new.state (own_at c.args.self.now units) (own_at (record c.args.self.now { places = c.enter.new.places }) units) _ _ n.some n.there c.requires.normal
-    (rw c.in-Ok-Nothing.field-0-is at (c.in-Ok-Nothing.ensures.came n.element c.args.self.now.at_failure (meaning (here_in c.args.plan.now c.args.self.now) (c.args.depth - 1)) c.args.round (own_at c.args.self.now units) n.there))
+    open_nothing c.args.plan.now c.args.self.now c.args.child c.args.round c.args.depth n.element c.args.state.now c.enter.new.state (own_at c.args.self.now beside) (own_at (record c.args.self.now { places = c.enter.new.places }) beside) _ _ n.some n.there c.requires.normal
+    (rw c.in-Ok-Nothing.field-0-is at (c.in-Ok-Nothing.ensures.came n.element c.args.self.now.at_failure (meaning (here_in c.args.plan.now c.args.self.now) (c.args.depth - 1)) c.args.round (own_at c.args.self.now beside) n.there))
 
 pub returns-in-Ok-Sampler-clause-came : goal.returns-in-Ok-Sampler-clause-came
-returns-in-Ok-Sampler-clause-came g c = λ units.
+returns-in-Ok-Sampler-clause-came g c = λ beside.
     let n = nests_at c.args.plan.now.elements c.args.depth c.args.child c.requires.nests in
-    open_sampler c.args.plan.now c.args.self.now c.args.child c.args.round c.args.depth n.element c.args.state.now c.enter.new.state (own_at c.args.self.now units) (own_at (record c.args.self.now { places = c.enter.new.places }) units) _ _ n.some n.there
-    (rw c.in-Ok-Sampler.field-0-is at (c.in-Ok-Sampler.ensures.came n.element c.args.self.now.at_failure (meaning (here_in c.args.plan.now c.args.self.now) (c.args.depth - 1)) c.args.round (own_at c.args.self.now units) n.there))
+    open_sampler c.args.plan.now c.args.self.now c.args.child c.args.round c.args.depth n.element c.args.state.now c.enter.new.state (own_at c.args.self.now beside) (own_at (record c.args.self.now { places = c.enter.new.places }) beside) _ _ n.some n.there
+    (rw c.in-Ok-Sampler.field-0-is at (c.in-Ok-Sampler.ensures.came n.element c.args.self.now.at_failure (meaning (here_in c.args.plan.now c.args.self.now) (c.args.depth - 1)) c.args.round (own_at c.args.self.now beside) n.there))
 
 pub returns-in-Ok-Sampler-clause-given : goal.returns-in-Ok-Sampler-clause-given
 returns-in-Ok-Sampler-clause-given g c =
@@ -31,12 +31,12 @@ returns-in-Ok-Sampler-clause-given g c =
     record { element = n.element; there = n.there; script = rw c.in-Ok-Sampler.field-0-is at (c.in-Ok-Sampler.ensures.fits n.element n.there) }
 
 pub returns-in-Ok-Open-clause-came : goal.returns-in-Ok-Open-clause-came
-returns-in-Ok-Open-clause-came g c = λ units.
+returns-in-Ok-Open-clause-came g c = λ beside.
     let n = nests_at c.args.plan.now.elements c.args.depth c.args.child c.requires.nests in
     let r = c.push.ensures.rest in
-    open_frame c.args.plan.now c.args.self.now c.args.child c.args.round c.args.depth n.element c.args.state.now c.enter.new.state (own_at c.args.self.now units) (own_at (record c.args.self.now { places = c.enter.new.places }) units) (g.O.Outside.account c.args.outside.now) (g.O.Outside.account c.enter.new.outside) n.some n.there
-    c.push.new.self c.in-Ok-Open.cursor c.push.result (record { group = r.0; failure = r.2; signal = r.3 ∙ c.requires.normal }) (own_at c.push.new.self units) (own_is (record c.args.self.now { places = c.enter.new.places }) c.push.new.self units r.1 c.push.ensures.places) c.push.ensures.pushed
-    (rw c.in-Ok-Open.field-0-is at (c.in-Ok-Open.ensures.came n.element c.args.self.now.at_failure (meaning (here_in c.args.plan.now c.args.self.now) (c.args.depth - 1)) c.args.round (own_at c.args.self.now units) n.there))
+    open_frame c.args.plan.now c.args.self.now c.args.child c.args.round c.args.depth n.element c.args.state.now c.enter.new.state (own_at c.args.self.now beside) (own_at (record c.args.self.now { places = c.enter.new.places }) beside) (g.O.Outside.account c.args.outside.now) (g.O.Outside.account c.enter.new.outside) n.some n.there
+    c.push.new.self c.in-Ok-Open.cursor c.push.result (record { group = r.0; failure = r.2; signal = r.3 ∙ c.requires.normal }) (own_at c.push.new.self beside) (own_is (record c.args.self.now { places = c.enter.new.places }) c.push.new.self beside r.1 c.push.ensures.places) c.push.ensures.pushed
+    (rw c.in-Ok-Open.field-0-is at (c.in-Ok-Open.ensures.came n.element c.args.self.now.at_failure (meaning (here_in c.args.plan.now c.args.self.now) (c.args.depth - 1)) c.args.round (own_at c.args.self.now beside) n.there))
 
 pub returns-in-Ok-Open-clause-stands : goal.returns-in-Ok-Open-clause-stands
 returns-in-Ok-Open-clause-stands g c =
@@ -58,19 +58,19 @@ pub returns-in-Ok-Open-clause-index : goal.returns-in-Ok-Open-clause-index
 returns-in-Ok-Open-clause-index g c = pushed_begins c.args.self.now c.push.new.self _ c.push.result c.push.ensures.pushed
 
 pub returns-in-Err-clause-came : goal.returns-in-Err-clause-came
-returns-in-Err-clause-came g c = λ units.
+returns-in-Err-clause-came g c = λ beside.
     let n = nests_at c.args.plan.now.elements c.args.depth c.args.child c.requires.nests in
-    open_refused c.args.plan.now c.args.self.now c.args.child c.args.round c.args.depth n.element c.args.state.now c.enter.new.state (own_at c.args.self.now units) (own_at (record c.args.self.now { places = c.enter.new.places }) units) _ _ n.some n.there c.in-Err.error
-    (c.in-Err.ensures.came n.element c.args.self.now.at_failure (meaning (here_in c.args.plan.now c.args.self.now) (c.args.depth - 1)) c.args.round (own_at c.args.self.now units) n.there)
+    open_refused c.args.plan.now c.args.self.now c.args.child c.args.round c.args.depth n.element c.args.state.now c.enter.new.state (own_at c.args.self.now beside) (own_at (record c.args.self.now { places = c.enter.new.places }) beside) _ _ n.some n.there c.in-Err.error
+    (c.in-Err.ensures.came n.element c.args.self.now.at_failure (meaning (here_in c.args.plan.now c.args.self.now) (c.args.depth - 1)) c.args.round (own_at c.args.self.now beside) n.there)
 
 pub returns-in-Ok-Open-clause-cut : goal.returns-in-Ok-Open-clause-cut
 returns-in-Ok-Open-clause-cut g c =
     cut_here (g.O.Outside.account c.args.outside.now) (g.O.Outside.account c.enter.new.outside) c.args.plan.now c.args.self.now (before_element c.args.depth c.args.child c.args.round) c.args.state.now c.enter.new.state
-    (λ units. went c.args.plan.now c.push.new.self (state_at c.push.new.self units c.enter.new.state)) (λ units. past (state_at c.push.new.self units c.enter.new.state)) c.push.result
+    (λ beside. went c.args.plan.now c.push.new.self (state_at c.push.new.self beside c.enter.new.state)) (λ beside. past (state_at c.push.new.self beside c.enter.new.state)) c.push.result
     (returns-in-Ok-Open-clause-came g c) c.in-Ok-Open.ensures.stands
 
 pub returns-in-Err-clause-cut : goal.returns-in-Err-clause-cut
 returns-in-Err-clause-cut g c =
-    cut_at c.args.plan.now (λ units. left_after c.args.plan.now c.args.self.now (meaning (here_in c.args.plan.now c.args.self.now) c.args.depth c.args.child c.args.round (state_at c.args.self.now units c.args.state.now)))
+    cut_at c.args.plan.now (λ beside. left_after c.args.plan.now c.args.self.now (meaning (here_in c.args.plan.now c.args.self.now) c.args.depth c.args.child c.args.round (state_at c.args.self.now beside c.args.state.now)))
     c.args.self.now (before_element c.args.depth c.args.child c.args.round) c.args.state.now c.enter.new.state
-    (λ units. past (state_at (record c.args.self.now { places = c.enter.new.places }) units c.enter.new.state)) c.in-Err.error (λ units. refl) (returns-in-Err-clause-came g c) c.in-Err.ensures.stands
+    (λ beside. past (state_at (record c.args.self.now { places = c.enter.new.places }) beside c.enter.new.state)) c.in-Err.error (λ beside. refl) (returns-in-Err-clause-came g c) c.in-Err.ensures.stands

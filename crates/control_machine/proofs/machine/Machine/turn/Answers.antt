@@ -8,7 +8,7 @@ returns-in-NextLoop g c =
     let l = c.leave_one.ensures in
     let away = not_normal c.args.self.now.signal c.in-NextLoop.is in
     record {
-      came = λ units. goes_as _ _ _ (l.same c.args.plan.now units c.args.state.now c.requires away);
+      came = λ beside. goes_as _ _ _ (l.same c.args.plan.now beside c.args.state.now c.requires away);
       given = l.given c.args.plan.now c.requires away;
       stands = l.stands c.args.plan.now c.requires;
       lighter = l.lighter c.args.plan.now.elements;

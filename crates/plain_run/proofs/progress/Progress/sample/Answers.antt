@@ -1,18 +1,16 @@
-use Rattle.std.proofs.Common.{refl}
-use Rattle.plain_run.proofs.StepLaws.{no-unit, no-sample, one-sample, sample-refused, refused-so}
+use Rattle.std.proofs.lemmas.Result.{IfOk-weaker}
+use Rattle.plain_run.proofs.StepLaws.{no-unit, sampler-runs, sampler-refused, refused-so}
 use Rattle.plain_run.proofs.progress.Progress.sample.Goals as goal
 
 pub returns-then-self-eq0 : goal.returns-then-self-eq0
-returns-then-self-eq0 g c = no-unit _ (g.O.Outside.account c.args.outside.now) c.args.self.now c.args.self.now c.args.label c.args.number c.args.request.now c.args.at_failure c.if-self-eq0.true
+returns-then-self-eq0 g c = no-unit _ (g.O.Outside.account c.args.outside.now) c.args.self.now c.args.plan.now.elements c.args.number c.args.at_failure c.if-self-eq0.true
 
-pub returns-in_ok-push-in-Ok-None : goal.returns-in_ok-push-in-Ok-None
-returns-in_ok-push-in-Ok-None g c = no-sample _ _ c.args.self.now _ c.args.label c.args.number c.args.request.now c.args.at_failure c.if-self-eq0.false c.run_sampler.new.state
-    (rw c.in-Ok-None.field-0-is at c.in-Ok-None.ensures.came) refl c.in_ok-push-in-Ok-None.ensures.items refl
+pub returns-in-Ok : goal.returns-in-Ok
+returns-in-Ok g c = IfOk-weaker c.show.result _ _ (λ signal plays.
+    sampler-runs _ _ c.args.self.now c.args.plan.now.elements c.args.number c.args.at_failure c.if-self-eq0.false c.run_one.new.state c.in-Ok.field-0
+    (rw c.in_ok-scope.ensures.package at c.in-Ok.ensures.came) c.show.new.self signal (plays _)) c.show.ensures
 
-pub returns-in_ok-push-in-Ok-Some : goal.returns-in_ok-push-in-Ok-Some
-returns-in_ok-push-in-Ok-Some g c = one-sample _ _ c.args.self.now _ c.args.label c.args.number c.args.request.now c.args.at_failure c.if-self-eq0.false c.run_sampler.new.state c.in-Ok-Some.sample
-    (rw c.in-Ok-Some.field-0-is at c.in-Ok-Some.ensures.came) refl c.in_ok-push-in-Ok-Some.ensures.items c.with-self.ensures c.after_sample-signal.result c.after_sample-signal.ensures
-
-pub returns-in-Err : goal.returns-in-Err
-returns-in-Err g c = refused-so c.refused.result c.in-Err.error _ c.refused.ensures
-    (λ is. sample-refused _ _ c.args.self.now c.args.self.now c.args.label c.args.number c.args.request.now c.args.at_failure c.if-self-eq0.false c.run_sampler.new.state c.in-Err.error c.in-Err.ensures.came is)
+pub returns : goal.returns
+returns g c = refused-so c.refused.result c.in-Err.error _ c.refused.ensures
+    (λ is. sampler-refused _ _ c.args.self.now c.args.plan.now.elements c.args.number c.args.at_failure c.if-self-eq0.false c.run_one.new.state c.in-Err.error
+    (rw c.in_ok-scope.ensures.package at c.in-Err.ensures.came) is)

@@ -6,9 +6,9 @@ use Rattle.plain_run.proofs.progress.Progress.set_first.Goals as goal
 
 pub returns-in-Ok : goal.returns-in-Ok
 returns-in-Ok g c = silent-plays (set_first c.args.plan.now.elements) c.args.self.now c.set_first.new.state Normal
-    (c.in-Ok.ensures.came (record { units = c.args.self.now.units; rounds = c.args.self.now.rounds; places = c.args.self.now.places }))
+    (c.in-Ok.ensures.came (record { units = c.args.self.now.units; rounds = c.args.self.now.rounds; places = c.args.self.now.places; config = c.args.self.now.config.places }))
 
 pub returns-in-Err : goal.returns-in-Err
 returns-in-Err g c = refused-so c.refused.result c.in-Err.error _ c.refused.ensures
     (λ is. silent-plays (set_first c.args.plan.now.elements) c.args.self.now c.set_first.new.state (Stop PastValueLimit)
-    (at-limit (c.in-Err.ensures.came (record { units = c.args.self.now.units; rounds = c.args.self.now.rounds; places = c.args.self.now.places })) is))
+    (at-limit (c.in-Err.ensures.came (record { units = c.args.self.now.units; rounds = c.args.self.now.rounds; places = c.args.self.now.places; config = c.args.self.now.config.places })) is))

@@ -10,6 +10,6 @@ use Rattle.thread_machine.proofs.runner.Runner.next_move.Goals as goal
 pub returns-in-Ok-clause-came : goal.returns-in-Ok-clause-came
 returns-in-Ok-clause-came g c =
     came-first _ _ _ (left_to c.args.self.now) (left_of c.set_out.new.self.plan.now c.set_out.new.self.machine (state_in (standing_of c.set_out.new.self false)))
-    (λ m. moved c.set_out.new.self.plan.now c.walk.new.machine (state_at c.walk.new.machine c.set_out.new.self.units c.walk.new.user) m)
-    (past (state_at c.walk.new.machine c.set_out.new.self.units c.walk.new.user))
+    (λ m. moved c.set_out.new.self.plan.now c.walk.new.machine (state_at c.walk.new.machine (record { units = c.set_out.new.self.units; config = c.walk.new.config.places }) c.walk.new.user) m)
+    (past (state_at c.walk.new.machine (record { units = c.set_out.new.self.units; config = c.walk.new.config.places }) c.walk.new.user))
     c.walk.result c.in-Ok.ensures.came (c.walk.ensures.came c.set_out.new.self.units)

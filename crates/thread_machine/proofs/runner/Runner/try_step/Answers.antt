@@ -1,5 +1,5 @@
 use Rattle.std.proofs.Common.{◌∙◌, refl, ap}
-use Rattle.thread_machine.proofs.Steps.{cut_before, cut_at_once, on_err}
+use Rattle.thread_machine.proofs.Steps.{cut_before, cut_at_once, cut_later, on_err}
 use Rattle.thread_machine.proofs.runner.Runner.try_step.Goals as goal
 
 pub returns-in_err-make_room-clause-cut : goal.returns-in_err-make_room-clause-cut
@@ -13,3 +13,8 @@ returns-in_err-pause_first-clause-cut g c =
     (cut_before _ _ c.args.self.now c.pause_first.new.self c.in_err-pause_first.ensures.still
     (record { plan = ap (λ n. n.plan.now) kept; thread = ap (λ n. n.thread) kept; pause = ap (λ n. n.pause) kept; owed = ap (λ n. n.owed) kept })
     (ap (λ n. n.trace.items) kept ∙ c.in_ok-make_room.ensures.same))
+
+pub returns-clause-cut : goal.returns-clause-cut
+returns-clause-cut g c =
+    cut_later _ _ _ c.args.self.now c.make_room.new.self c.pause_first.new.self c.go_on.new.self c.go_on.result
+    c.in_ok-make_room.ensures.same c.in_ok-pause_first.ensures.begun c.go_on.ensures.cut

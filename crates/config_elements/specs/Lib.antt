@@ -1,0 +1,3 @@
+pub mod TimerDelay
+pub mod RoundStart
+pub mod RoundCut

@@ -1,0 +1,4 @@
+pub mod ExchangeLaws
+pub mod StageLaws
+pub mod AnswerLaws
+pub mod PipelineStages

@@ -1,0 +1,25 @@
+use Rattle.std.specs.Prelude.{Some, Ok, Err}
+use Rattle.jm_base.specs.Run.{over}
+use Rattle.jm_base.proofs.RunLaws.{goes-nothing}
+use Rattle.trials.specs.Tried.{fine, past_limit, giving, text}
+use Rattle.trials.proofs.TrialLaws.{then-came, then-refused, text-came}
+use Rattle.jm_base.specs.declared.types.Request.TheVariants.{Script as ScriptRequest}
+use Rattle.sampler_pipeline.proofs.StageLaws.{no-request}
+use Rattle.var_functions.proofs.LaterLaws.{later_same}
+use Rattle.sampler_pipeline.proofs.pre.request_by.Goals as goal
+
+pub returns-in-Ok-clause-came : goal.returns-in-Ok-clause-came
+returns-in-Ok-clause-came g c = rw c.in-Script.is (then-came _ _ _ (text c.in-Script.request) (λ t. giving (Some (ScriptRequest t))) c.args.state.now c.expand.new.state c.in-Ok.text
+    (λ request. over (fine request c.expand.new.state)) (over (past_limit c.expand.new.state)) (Ok (Some (ScriptRequest c.in-Ok.text)))
+    (text-came _ _ c.in-Script.request c.args.state.now c.expand.new.state (Ok c.in-Ok.text) c.in-Ok.ensures.came c.in-Ok.ensures.vars)
+    (goes-nothing _ _))
+
+pub returns-in-Err-clause-came : goal.returns-in-Err-clause-came
+returns-in-Err-clause-came g c = rw c.in-Script.is (then-refused _ _ (text c.in-Script.request) (λ t. giving (Some (ScriptRequest t))) c.args.state.now c.expand.new.state c.in-Err.error
+    (text-came _ _ c.in-Script.request c.args.state.now c.expand.new.state (Err c.in-Err.error) c.in-Err.ensures.came c.in-Err.ensures.vars))
+
+pub returns-in_default-clause-came : goal.returns-in_default-clause-came
+returns-in_default-clause-came g c = rw (no-request c.args.kind.now c.in_default.not-Script) (goes-nothing _ _)
+
+pub returns-in_default-clause-later : goal.returns-in_default-clause-later
+returns-in_default-clause-later g c = later_same _

@@ -1,0 +1,28 @@
+use Rattle.std.specs.Prelude.{Some, Ok}
+use Rattle.jm_base.specs.Run.{over}
+use Rattle.jm_base.proofs.RunLaws.{goes-nothing}
+use Rattle.trials.specs.Tried.{fine, past_limit, giving}
+use Rattle.trials.proofs.TrialLaws.{then-came, then-refused}
+use Rattle.sampler_pipeline.specs.SamplerPipeline.{answering}
+use Rattle.var_functions.proofs.LaterLaws.{later_same}
+use Rattle.var_functions.specs.declared.error.VarError.TheVariants.{NoMemory}
+use Rattle.sampler_pipeline.proofs.StageLaws.{same-error}
+use Rattle.sampler_pipeline.proofs.run.sample.Goals as goal
+
+pub returns-in-Ok-clause-came : goal.returns-in-Ok-clause-came
+returns-in-Ok-clause-came c = λ a. rw c.in-Some.is
+    (then-came a a _ (answering c.args.plan.now.elements c.args.scope.now c.args.sampler c.args.stamp c.in-Some.answer) (λ sample. giving (Some sample)) c.args.state.now c.sample_answer.new.state c.in-Ok.sample
+    (λ s. over (fine s c.sample_answer.new.state)) (over (past_limit c.sample_answer.new.state)) (Ok (Some c.in-Ok.sample)) (c.in-Ok.ensures.came a) (goes-nothing a _))
+
+pub returns-in-Some-clause-came : goal.returns-in-Some-clause-came
+returns-in-Some-clause-came c = λ a. rw c.in-Some.is
+    (then-refused a a (answering c.args.plan.now.elements c.args.scope.now c.args.sampler c.args.stamp c.in-Some.answer) (λ sample. giving (Some sample)) c.args.state.now c.sample_answer.new.state c.in-Err.error (c.in-Err.ensures.came a))
+
+pub returns-clause-came : goal.returns-clause-came
+returns-clause-came c = λ a. rw c.in-None.is (goes-nothing a _)
+
+pub returns-clause-later : goal.returns-clause-later
+returns-clause-later c = later_same _
+
+pub returns-in-Some-clause-cut : goal.returns-in-Some-clause-cut
+returns-in-Some-clause-cut c = λ a none. rw c.in-Some.is (c.in-Err.ensures.cut a (same-error c.in-Err.error NoMemory none))

@@ -1,0 +1,4 @@
+pub mod Exchanges
+pub mod SamplerPipeline
+pub mod PipelineCut
+pub mod KeptPackages

@@ -1,0 +1,13 @@
+//! The sampler pipeline: what one sampler does with the elements that apply to it, in the order of the manual's "Execution
+//! order".
+#![tactic(auto)]
+
+mod exchange;
+mod packages;
+mod post;
+mod pre;
+mod run;
+mod verdict;
+
+pub use packages::Packages;
+pub use run::{Done, run_one};

@@ -1,0 +1,128 @@
+// What a sampler does before its request.
+
+ghost use Rattle.std.specs.Prelude.{◌≡◌, None, Err, slice_get};
+ghost use Rattle.jm_base.specs.Run.{over};
+ghost use Rattle.var_functions.specs.Came.{CameTo};
+ghost use Rattle.var_functions.specs.FunctionState.{IsLater};
+ghost use Rattle.trials.specs.Tried.{giving, fine, past_limit};
+ghost use Rattle.sampler_pipeline.specs.SamplerPipeline.{by_kind, prepares, pre_process, pausing, requests};
+ghost use Rattle.sampler_pipeline.specs.PipelineCut.{cut_at, cut_preparing, cut_pre};
+
+use element_tree::{Kind, Plan};
+use jm_base::{Outside, Request};
+use std::alloc::Global;
+use trials::set_pairs;
+use var_functions::{UserState, VarError, expand};
+
+// A pre-processor; another element does nothing.
+fn prepare_by<O: Outside>(
+    alloc: Global,
+    kind: &Kind,
+    state: &mut UserState,
+    outside: &mut O,
+) -> Result<(), VarError>
+    ensures came { CameTo (O.account outside.old) (prepares kind.now state.old) (O.account outside.new)
+        (λ u. over (fine u state.new)) (over (past_limit state.new)) result }
+    ensures later { IsLater state.old.fns state.new.fns }
+    ensures cut { result ≡ Err VarError.NoMemory → cut_preparing kind.now (O.account outside.old) state.old (O.account outside.new) state.new }
+{
+    match kind {
+        Kind::UserParameters { vars } => set_pairs(alloc, vars.as_slice(), state, outside),
+        _ => Ok(()),
+    }
+}
+
+fn prepare<O: Outside>(
+    alloc: Global,
+    plan: &Plan,
+    number: u16,
+    state: &mut UserState,
+    outside: &mut O,
+) -> Result<(), VarError>
+    ensures came { CameTo (O.account outside.old) (by_kind (giving tt) prepares plan.now.elements number state.old) (O.account outside.new)
+        (λ u. over (fine u state.new)) (over (past_limit state.new)) result }
+    ensures later { IsLater state.old.fns state.new.fns }
+    ensures cut { result ≡ Err VarError.NoMemory
+        → cut_at cut_preparing (slice_get plan.now.elements number) (O.account outside.old) state.old (O.account outside.new) state.new }
+{
+    match plan.element(number) {
+        Some(element) => prepare_by(alloc, &element.kind, state, outside),
+        None => Ok(()),
+    }
+}
+
+/// The pre-processors, one after another.
+pub(crate) fn pre_process<O: Outside>(
+    alloc: Global,
+    plan: &Plan,
+    numbers: &[u16],
+    state: &mut UserState,
+    outside: &mut O,
+) -> Result<(), VarError>
+    ensures came { CameTo (O.account outside.old) (pre_process plan.now.elements numbers.now state.old) (O.account outside.new)
+        (λ u. over (fine u state.new)) (over (past_limit state.new)) result }
+    ensures later { IsLater state.old.fns state.new.fns }
+    ensures cut { result ≡ Err VarError.NoMemory → cut_pre plan.now.elements numbers.now (O.account outside.old) state.old (O.account outside.new) state.new }
+{
+    'numbers: for number in numbers {
+        match prepare(alloc, plan, *number, state, outside) {
+            Ok(()) => {}
+            Err(error) => return Err(error),
+        }
+    }
+    Ok(())
+}
+
+/// Pauses that many milliseconds, where it isn't 0.
+pub(crate) fn pause<O: Outside>(ms: u32, state: &UserState, outside: &mut O) -> Result<(), VarError>
+    ensures came { CameTo (O.account outside.old) (pausing ms state.now) (O.account outside.new)
+        (λ u. over (fine u state.now)) (over (past_limit state.now)) result }
+{
+    if ms == 0 {
+        return Ok(());
+    }
+    match outside.pause(ms) {
+        Ok(()) => Ok(()),
+        Err(_) => Err(VarError::NoMemory),
+    }
+}
+
+// What a sampler of this kind asks for; another element asks for nothing.
+fn request_by<O: Outside>(
+    alloc: Global,
+    kind: &Kind,
+    state: &mut UserState,
+    outside: &mut O,
+) -> Result<Option<Request>, VarError>
+    ensures came { CameTo (O.account outside.old) (requests kind.now state.old) (O.account outside.new)
+        (λ request. over (fine request state.new)) (over (past_limit state.new)) result }
+    ensures later { IsLater state.old.fns state.new.fns }
+    ensures vars { state.new.vars ≡ state.old.vars }
+{
+    match kind {
+        Kind::Script { request, .. } => match expand(alloc, request, state, outside) {
+            Ok(text) => Ok(Some(Request::Script(text))),
+            Err(error) => Err(error),
+        },
+        _ => Ok(None),
+    }
+}
+
+/// What the element of this number asks for.
+pub(crate) fn request<O: Outside>(
+    alloc: Global,
+    plan: &Plan,
+    number: u16,
+    state: &mut UserState,
+    outside: &mut O,
+) -> Result<Option<Request>, VarError>
+    ensures came { CameTo (O.account outside.old) (by_kind (giving None) requests plan.now.elements number state.old) (O.account outside.new)
+        (λ request. over (fine request state.new)) (over (past_limit state.new)) result }
+    ensures later { IsLater state.old.fns state.new.fns }
+    ensures vars { state.new.vars ≡ state.old.vars }
+{
+    match plan.element(number) {
+        Some(element) => request_by(alloc, &element.kind, state, outside),
+        None => Ok(None),
+    }
+}

@@ -1,0 +1,333 @@
+// The whole of one sampler.
+
+ghost use Rattle.std.specs.Prelude.{◌≡◌, Err, IfOk, OnErr, IfSome, take};
+ghost use Rattle.jm_base.specs.Run.{over};
+ghost use Rattle.jm_base.specs.Outside.{Account};
+ghost use Rattle.var_functions.specs.Came.{CameTo};
+ghost use Rattle.var_functions.specs.FunctionState.{IsLater};
+ghost use Rattle.trials.specs.Tried.{fine, past_limit};
+ghost use Rattle.sampler_pipeline.specs.Exchanges.{sample_of};
+ghost use Rattle.sampler_pipeline.specs.SamplerPipeline.{label_at, listeners_of, assert_all, noting, truth_text, exchanging, answering, sampling_of, following, asking, pipeline, order_of};
+ghost use Rattle.sampler_pipeline.specs.PipelineCut.{cut_answering, cut_sampling, cut_following, cut_asking, cut_pipeline, cut_sampler};
+
+use crate::exchange::{Exchange, hold_exchange};
+use crate::post::post_process;
+use crate::pre::{pause, pre_process, request};
+use crate::verdict::{Verdict, judge};
+use assertions::Answer;
+use config_elements::{capped, delay};
+use element_tree::{Package, Plan};
+use jm_base::{M, Outside, Request, Sample, Text};
+use std::alloc::Global;
+use var_changes::put_copy;
+use var_functions::{UserState, VarError};
+
+/// What one sampler came to.
+#[derive(Drop)]
+pub struct Done {
+    /// The sample, unless the outcome was null.
+    pub sample: Option<Sample>,
+    /// How long its timers paused it, in milliseconds.
+    pub paused: u32,
+}
+
+fn at_most_256(bytes: &[u8]) -> &[u8]
+    ensures { result.now ≡ take 256 bytes.now }
+{
+    if bytes.len() > 256 {
+        &bytes[..256]
+    } else {
+        bytes
+    }
+}
+
+fn truth_text(ok: bool) -> &'static [u8]
+    ensures { result.now ≡ truth_text ok }
+{
+    if ok { b"true" } else { b"false" }
+}
+
+// The label of the element of this number; 0 where it isn't there.
+fn label_at(plan: &Plan, number: u16) -> u16
+    ensures { result ≡ label_at plan.now.elements number }
+{
+    match plan.element(number) {
+        Some(_element) => plan.label_of(number),
+        None => 0,
+    }
+}
+
+fn listeners_of(scope: &Package) -> u16
+    ensures { result ≡ listeners_of scope.now }
+{
+    u16::try_from(scope.listeners.len()).unwrap_or(u16::MAX)
+}
+
+fn sample_of(
+    alloc: Global,
+    label: u16,
+    stamp: u64,
+    answer: &Answer,
+    verdict: Verdict,
+    listeners: u16,
+) -> M<Sample>
+    ensures { IfOk result (λ s. s ≡ sample_of label stamp answer.now verdict listeners) }
+{
+    Ok(Sample {
+        stamp,
+        elapsed: answer.elapsed,
+        label,
+        code: answer.reply.code,
+        message: Text::new(alloc, at_most_256(answer.reply.message.bytes()))?,
+        ok: verdict.ok,
+        failure: verdict.failure,
+        bytes: capped(answer.reply.body.bytes().len() as u64),
+        listeners,
+    })
+}
+
+// The sample of an answer, after the assertions.
+fn assert_all(
+    alloc: Global,
+    plan: &Plan,
+    scope: &Package,
+    sampler: u16,
+    stamp: u64,
+    answer: &Answer,
+) -> M<Sample>
+    ensures { IfOk result (λ s. s ≡ assert_all plan.now.elements scope.now sampler stamp answer.now) }
+{
+    let verdict = judge(alloc, plan, scope.assertions.as_slice(), answer)?;
+    sample_of(
+        alloc,
+        label_at(plan, sampler),
+        stamp,
+        answer,
+        verdict,
+        listeners_of(scope),
+    )
+}
+
+// Sets whether the last sample succeeded.
+fn note(alloc: Global, ok: bool, state: &mut UserState) -> Result<(), VarError>
+    ensures came { (a : Account) (sample : Sample) → sample.ok ≡ ok → CameTo a (noting sample state.old) a
+        (λ u. over (fine u state.new)) (over (past_limit state.new)) result }
+    ensures later { IsLater state.old.fns state.new.fns }
+    ensures kept { OnErr result (state.new ≡ state.old) }
+{
+    put_copy(
+        alloc,
+        b"JMeterThread.last_sample_ok",
+        truth_text(ok),
+        &mut state.vars,
+    )
+}
+
+// Post-processors, assertions and listeners after an answer.
+fn sample_answer(
+    alloc: Global,
+    plan: &Plan,
+    scope: &Package,
+    sampler: u16,
+    stamp: u64,
+    answer: &Answer,
+    state: &mut UserState,
+) -> Result<Sample, VarError>
+    ensures came { (a : Account) → CameTo a (answering plan.now.elements scope.now sampler stamp answer.now state.old) a
+        (λ s. over (fine s state.new)) (over (past_limit state.new)) result }
+    ensures label { IfOk result (λ s. s.label ≡ label_at plan.now.elements sampler) }
+    ensures later { IsLater state.old.fns state.new.fns }
+    ensures cut { (a : Account) → result ≡ Err VarError.NoMemory → cut_answering plan.now.elements scope.now answer.now a state.old a state.new }
+{
+    match post_process(alloc, plan, scope.post.as_slice(), &answer.reply, state) {
+        Ok(()) => match assert_all(alloc, plan, scope, sampler, stamp, answer) {
+            Ok(sample) => match note(alloc, sample.ok, state) {
+                Ok(()) => Ok(sample),
+                Err(error) => Err(error),
+            },
+            Err(_) => Err(VarError::NoMemory),
+        },
+        Err(error) => Err(error),
+    }
+}
+
+// What follows from an answer, if there is one.
+fn sample(
+    alloc: Global,
+    plan: &Plan,
+    scope: &Package,
+    sampler: u16,
+    stamp: u64,
+    answer: Option<Answer>,
+    state: &mut UserState,
+) -> Result<Option<Sample>, VarError>
+    ensures came { (a : Account) → CameTo a (sampling_of plan.now.elements scope.now sampler stamp answer state.old) a
+        (λ s. over (fine s state.new)) (over (past_limit state.new)) result }
+    ensures label { IfOk result (λ o. IfSome o (λ s. s.label ≡ label_at plan.now.elements sampler)) }
+    ensures later { IsLater state.old.fns state.new.fns }
+    ensures cut { (a : Account) → result ≡ Err VarError.NoMemory → cut_sampling plan.now.elements scope.now answer a state.old a state.new }
+{
+    match answer {
+        Some(answer) => match sample_answer(alloc, plan, scope, sampler, stamp, &answer, state) {
+            Ok(sample) => Ok(Some(sample)),
+            Err(error) => Err(error),
+        },
+        None => Ok(None),
+    }
+}
+
+// What follows from an exchange, if there was any.
+fn follow(
+    alloc: Global,
+    plan: &Plan,
+    scope: &Package,
+    sampler: u16,
+    exchange: Option<Exchange>,
+    state: &mut UserState,
+) -> Result<Option<Sample>, VarError>
+    ensures came { (a : Account) → CameTo a (following plan.now.elements scope.now sampler exchange state.old) a
+        (λ s. over (fine s state.new)) (over (past_limit state.new)) result }
+    ensures label { IfOk result (λ o. IfSome o (λ s. s.label ≡ label_at plan.now.elements sampler)) }
+    ensures later { IsLater state.old.fns state.new.fns }
+    ensures cut { (a : Account) → result ≡ Err VarError.NoMemory → cut_following plan.now.elements scope.now exchange a state.old a state.new }
+{
+    match exchange {
+        Some(exchange) => {
+            let Exchange { stamp, answer } = exchange;
+            sample(alloc, plan, scope, sampler, stamp, answer, state)
+        }
+        None => Ok(None),
+    }
+}
+
+// One request between two readings, if there is any.
+fn exchange_for<O: Outside>(
+    alloc: Global,
+    sampler: u16,
+    request: Option<Request>,
+    state: &UserState,
+    outside: &mut O,
+) -> Result<Option<Exchange>, VarError>
+    ensures came { CameTo (O.account outside.old) (exchanging sampler request state.now) (O.account outside.new)
+        (λ x. over (fine x state.now)) (over (past_limit state.now)) result }
+{
+    match request {
+        Some(request) => match hold_exchange(alloc, sampler, &request, outside) {
+            Ok(exchange) => Ok(Some(exchange)),
+            Err(_) => Err(VarError::NoMemory),
+        },
+        None => Ok(None),
+    }
+}
+
+// The request, and what follows from its reply.
+fn ask<O: Outside>(
+    alloc: Global,
+    plan: &Plan,
+    scope: &Package,
+    sampler: u16,
+    state: &mut UserState,
+    outside: &mut O,
+) -> Result<Option<Sample>, VarError>
+    ensures came { CameTo (O.account outside.old) (asking plan.now.elements scope.now sampler state.old) (O.account outside.new)
+        (λ s. over (fine s state.new)) (over (past_limit state.new)) result }
+    ensures label { IfOk result (λ o. IfSome o (λ s. s.label ≡ label_at plan.now.elements sampler)) }
+    ensures later { IsLater state.old.fns state.new.fns }
+    ensures cut { result ≡ Err VarError.NoMemory
+        → cut_asking plan.now.elements scope.now sampler (O.account outside.old) state.old (O.account outside.new) state.new }
+{
+    match request(alloc, plan, sampler, state, outside) {
+        Ok(request) => match exchange_for(alloc, sampler, request, state, outside) {
+            Ok(exchange) => follow(alloc, plan, scope, sampler, exchange, state),
+            Err(error) => Err(error),
+        },
+        Err(error) => Err(error),
+    }
+}
+
+// The whole of a sampler.
+fn run_pipeline<O: Outside>(
+    alloc: Global,
+    plan: &Plan,
+    scope: &Package,
+    sampler: u16,
+    state: &mut UserState,
+    outside: &mut O,
+) -> Result<Done, VarError>
+    ensures came { CameTo (O.account outside.old) (pipeline plan.now.elements scope.now sampler state.old) (O.account outside.new)
+        (λ done. over (fine done state.new)) (over (past_limit state.new)) result }
+    ensures label { IfOk result (λ done. IfSome done.sample (λ s. s.label ≡ label_at plan.now.elements sampler)) }
+    ensures later { IsLater state.old.fns state.new.fns }
+    ensures cut { result ≡ Err VarError.NoMemory
+        → cut_pipeline plan.now.elements scope.now sampler (O.account outside.old) state.old (O.account outside.new) state.new }
+{
+    match pre_process(alloc, plan, scope.pre.as_slice(), state, outside) {
+        Ok(()) => match delay(alloc, plan, scope, state, outside) {
+            Ok(paused) => match pause(paused, state, outside) {
+                Ok(()) => match ask(alloc, plan, scope, sampler, state, outside) {
+                    Ok(sample) => Ok(Done { sample, paused }),
+                    Err(error) => Err(error),
+                },
+                Err(error) => Err(error),
+            },
+            Err(error) => Err(error),
+        },
+        Err(error) => Err(error),
+    }
+}
+
+// The elements that took part, in their order.
+fn order_of(alloc: Global, scope: &Package, sampler: u16, sample: &Option<Sample>) -> M<Vec<u16>>
+    ensures { IfOk result (λ order. order.items ≡ order_of scope.now sampler sample.now) }
+{
+    let mut order = Vec::new(alloc);
+    order.extend_from_slice(scope.config.as_slice())?;
+    order.extend_from_slice(scope.pre.as_slice())?;
+    order.extend_from_slice(scope.timers.as_slice())?;
+    order.push(sampler)?;
+    if sample.is_some() {
+        order.extend_from_slice(scope.post.as_slice())?;
+        order.extend_from_slice(scope.assertions.as_slice())?;
+        order.extend_from_slice(scope.listeners.as_slice())?;
+    }
+    Ok(order)
+}
+
+/// Runs one sampler with its package, in the order of the manual's "Execution order": pre-processors; the pause of its
+/// timers, if it is any; its request between two readings of the clock; and where there is a reply, post-processors,
+/// assertions and listeners. After post-processors and assertions `JMeterThread.last_sample_ok` is set to whether the sample
+/// succeeded; without a sample it stays. `order` becomes the elements that took part; after a refusal it is as before.
+///
+/// `ValueLimit` comes where a text or a value would have more than 65,536 bytes, or all names and values of variables more
+/// than 4,194,304. After it and out of memory variables and functions are what the steps done left: each step before the one
+/// that was refused is whole, and of that one a prefix of its changes is made.
+pub fn run_one<O: Outside>(
+    alloc: Global,
+    plan: &Plan,
+    scope: &Package,
+    sampler: u16,
+    state: &mut UserState,
+    outside: &mut O,
+    order: &mut Vec<u16>,
+) -> Result<Done, VarError>
+    ensures came { CameTo (O.account outside.old) (pipeline plan.now.elements scope.now sampler state.old) (O.account outside.new)
+        (λ done. over (fine done state.new)) (over (past_limit state.new)) result }
+    ensures label { IfOk result (λ done. IfSome done.sample (λ s. s.label ≡ label_at plan.now.elements sampler)) }
+    ensures order { IfOk result (λ done. order.new.items ≡ order_of scope.now sampler done.sample) }
+    ensures kept { OnErr result (order.new.items ≡ order.old.items) }
+    ensures cut { result ≡ Err VarError.NoMemory
+        → cut_sampler plan.now.elements scope.now sampler (O.account outside.old) state.old (O.account outside.new) state.new }
+    // After every answer, out of memory included.
+    ensures later { IsLater state.old.fns state.new.fns }
+{
+    match run_pipeline(alloc, plan, scope, sampler, state, outside) {
+        Ok(done) => match order_of(alloc, scope, sampler, &done.sample) {
+            Ok(taken) => {
+                *order = taken;
+                Ok(done)
+            }
+            Err(_) => Err(VarError::NoMemory),
+        },
+        Err(error) => Err(error),
+    }
+}
