@@ -1,7 +1,8 @@
 #!/bin/sh
 # How many times a second one core extracts from a body of 1 KiB and of 64 KiB, by each extractor, and how long a byte takes; and the
 # same for bodies that are hostile to boundaries, of two sizes each: `left` everywhere and no `right`, and a `left` that nearly matches
-# everywhere. Time that is linear in the body shows as the same time a byte. The runner of cases makes the calls.
+# everywhere; and for the first match of expressions with matches everywhere: one that looks to the end again at each of them, and one with
+# a hundred groups. Time that is linear in the body shows as the same time a byte. The runner of cases makes the calls.
 # Usage: bench/extract.sh [ROUNDS]
 set -eu
 cd "$(dirname "$0")/.."
@@ -42,4 +43,10 @@ for size in 65536:400 1048576:25; do
     measure "left everywhere and no right" "$bytes" "$count" "@$bytes:[" "$bounds"
     measure "a left that nearly matches" "$bytes" "$count" "@$bytes:a" "bounds${tab}x${tab}@255:a@1:b${tab}]${tab}1${tab}body${tab}0"
     measure "left and right everywhere" "$bytes" "$count" "@$((bytes / 2)):[]" "$bounds"
+done
+for size in 65536:5000 1048576:1000; do
+    bytes=${size%:*}
+    count=${size#*:}
+    measure "first match, looks to the end" "$bytes" "$count" "@$bytes:a" "regex${tab}x${tab}.*z|a${tab}\$0\$${tab}1${tab}body${tab}0"
+    measure "first match, a hundred groups" "$bytes" "$count" "@$bytes:a" "regex${tab}x${tab}@100:()${tab}\$0\$${tab}1${tab}body${tab}0"
 done

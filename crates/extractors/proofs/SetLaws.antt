@@ -57,3 +57,17 @@ matches-next f all name xs i x own m old mid within is own_is m_is s =
 pub matches-over : {X : Type 0} (f : X → Match) (all : List Change) (name : List ℕ) (xs : List X) (i : ℕ) (old now : Variables) → length xs ≤ i
     → Standing all old (sets_matches name (i + 1) (map f (drop i xs))) now → changed all old ≡ all_made now
 matches-over f all name xs i old now past s = standing-over all old now (subst (λ ys. Standing all old (sets_matches name (i + 1) (map f ys)) now) (drop_all i xs past) s)
+
+-- the same where the matches that are left are known by the first of them and those after it
+pub found-next : {X : Type 0} (f : X → Match) (all : List Change) (name : List ℕ) (were : List X) (x : X) (left : List X) (n : ℕ) (own : List ℕ) (m : Match) (old mid : Variables) → were ≡ x ∷ left → own ≡ match_name name n → m ≡ f x
+    → Standing all old (sets_matches name n (map f were)) mid → Standing all old (sets_match own m ++ sets_matches name (n + 1) (map f left)) mid
+found-next f all name were x left n own m old mid first own_is m_is s =
+    subst (λ own. Standing all old (sets_match own m ++ sets_matches name (n + 1) (map f left)) mid) (sym own_is)
+    (subst (λ m. Standing all old (sets_match (match_name name n) m ++ sets_matches name (n + 1) (map f left)) mid) (sym m_is)
+    (subst (λ ms. Standing all old (sets_matches name n (map f ms)) mid) first s))
+
+-- none is left
+pub found-over : {X : Type 0} (f : X → Match) (all : List Change) (name : List ℕ) (left : List X) (n : ℕ) (old now : Variables) → length left ≡ 0
+    → Standing all old (sets_matches name n (map f left)) now → changed all old ≡ all_made now
+found-over f all name [] n old now none s = standing-over all old now s
+found-over f all name (x ∷ xs) n old now none s = absurd (omega (arith, none))

@@ -1,5 +1,5 @@
 -- What is taken of all matches.
-use Rattle.std.proofs.Common.{◌≡◌, ℕ, ◌%◌, List, [], ◌∷◌, ◌++◌, length, map, decimal, Option, refl, sym, ap, ◌∙◌, subst}
+use Rattle.std.proofs.Common.{◌≡◌, ℕ, ◌%◌, List, [], ◌∷◌, ◌++◌, length, map, decimal, Option, Some, None, refl, sym, ap, ◌∙◌, subst}
 use Rattle.std.specs.Prelude.{slice_get}
 use Rattle.std.specs.Option.{option_map}
 use Rattle.std.proofs.lemmas.List.{length-map}
@@ -25,12 +25,36 @@ one-first f name default groups which pick xs m old is =
     subst (λ t. Standing (takes_one name default groups (taken which pick (map f xs))) old (removes_groups name groups ++ sets_one name default t) old) (taken-map f which pick xs ∙ ap (option_map f) (sym is))
     (standing-first (takes_one name default groups (taken which pick (map f xs))) old)
 
+kept-map : {X R : Type 0} (f : R → Match) (kept : X → R) (o : Option X) → option_map (λ x. f (kept x)) o ≡ option_map f (option_map kept o)
+kept-map f kept None = refl
+kept-map f kept (Some x) = refl
+
+-- the match that is taken, by what is kept of it
+pub row-taken : {X R : Type 0} (f : R → Match) (kept : X → R) (row : Option X) (which : Which) (pick : ℕ) (rows : List R) → option_map kept row ≡ taken which pick rows
+    → option_map (λ x. f (kept x)) row ≡ taken which pick (map f rows)
+row-taken f kept row which pick rows is = kept-map f kept row ∙ ap (option_map f) is ∙ sym (taken-map f which pick rows)
+
 -- the same of names that are equal
-pub one-renamed : (n name : List ℕ) (g groups : Option ℕ) (default : Option (List ℕ)) (t m : Option Match) (old new : Variables) (res : Result (Unit {0}) VarError) → n ≡ name → g ≡ groups → t ≡ m
+one-renamed : (n name : List ℕ) (g groups : Option ℕ) (default : Option (List ℕ)) (t m : Option Match) (old new : Variables) (res : Result (Unit {0}) VarError) → n ≡ name → g ≡ groups → t ≡ m
     → Changes (takes_one n default g t) old new res → Changes (takes_one name default groups m) old new res
 one-renamed n name g groups default t m old new res n_is g_is t_is is =
     subst (λ n. Changes (takes_one n default groups m) old new res) n_is
     (subst (λ g. Changes (takes_one n default g m) old new res) g_is (subst (λ t. Changes (takes_one n default g t) old new res) t_is is))
+
+-- the groups from before were to be removed
+pub one-unbegun : (n name : List ℕ) (g groups : Option ℕ) (default : Option (List ℕ)) (m : Option Match) (old new : Variables) (error : VarError) → n ≡ name → g ≡ groups
+    → Changes (removes_groups n g) old new (Err error) → Changes (takes_one name default groups m) old new (Err error)
+one-unbegun n name g groups default m old new error n_is g_is is =
+    one-renamed n name g groups default m m old new (Err error) n_is g_is refl
+    (standing-stopped (takes_one n default g m) (removes_groups n g) (sets_one n default m) old old new error (standing-first (takes_one n default g m) old) is)
+
+-- they are removed, and the match or the default is set
+pub one-set : (n name : List ℕ) (g groups : Option ℕ) (default : Option (List ℕ)) (t m : Option Match) (old mid new : Variables) (res : Result (Unit {0}) VarError) → n ≡ name → g ≡ groups → t ≡ m
+    → changed (removes_groups n g) old ≡ all_made mid → Changes (sets_one n default t) mid new res → Changes (takes_one name default groups m) old new res
+one-set n name g groups default t m old mid new res n_is g_is t_is gone is =
+    one-renamed n name g groups default t m old new res n_is g_is t_is
+    (standing-last (takes_one n default g t) (sets_one n default t) old mid new res
+    (standing-more (takes_one n default g t) (removes_groups n g) (sets_one n default t) old old mid (standing-first (takes_one n default g t) old) gone) is)
 
 -- before all are taken
 all-first : {X : Type 0} (f : X → Match) (name : List ℕ) (default : Option (List ℕ)) (groups : Option ℕ) (xs : List X) (old : Variables)
@@ -57,11 +81,12 @@ all-set f name default groups xs old mid last new res begun set is =
     standing-last (takes_all name default groups (map f xs) old) (sets_default name default) old last new res
     (standing-more (takes_all name default groups (map f xs) old) (sets_matches name 1 (map f xs)) (sets_default name default) old mid last (all-begun f name default groups xs old mid begun) set) is
 
-pub all-renamed : (n name : List ℕ) (g groups : Option ℕ) (default : Option (List ℕ)) (ts ms : List Match) (old new : Variables) (res : Result (Unit {0}) VarError) → n ≡ name → g ≡ groups → ts ≡ ms
-    → Changes (takes_all n default g ts old) old new res → Changes (takes_all name default groups ms old) old new res
-all-renamed n name g groups default ts ms old new res n_is g_is t_is is =
-    subst (λ n. Changes (takes_all n default groups ms old) old new res) n_is
-    (subst (λ g. Changes (takes_all n default g ms old) old new res) g_is (subst (λ ts. Changes (takes_all n default g ts old) old new res) t_is is))
+-- what comes before all matches, of names and counts that are equal
+pub begins-renamed : (n name : List ℕ) (g groups : Option ℕ) (k count : ℕ) (old new : Variables) (res : Result (Unit {0}) VarError) → n ≡ name → g ≡ groups → k ≡ count
+    → Changes (begins_all n g k old) old new res → Changes (begins_all name groups count old) old new res
+begins-renamed n name g groups k count old new res n_is g_is k_is is =
+    subst (λ n. Changes (begins_all n groups count old) old new res) n_is
+    (subst (λ g. Changes (begins_all n g count old) old new res) g_is (subst (λ k. Changes (begins_all n g k old) old new res) k_is is))
 
 -- before those from before are removed
 begins-first : (name : List ℕ) (groups : Option ℕ) (count n : ℕ) (old : Variables) → n ≡ old_count name old

@@ -1,14 +1,20 @@
 // All matches that are set.
 
-ghost use Rattle.std.specs.Prelude.{map};
+ghost use Rattle.std.specs.Prelude.{◌≡◌, length, map};
+ghost use Rattle.regex.specs.Patterns.{find_all_str};
+ghost use Rattle.regex.specs.Strings.{regex_names, regex_pattern};
+ghost use Rattle.reply_search.specs.Found.{matches_of, spans_of};
 ghost use Rattle.var_changes.specs.Changes.{Changes};
-ghost use Rattle.extractors.specs.Matches.{match_by, plain};
+ghost use Rattle.extractors.specs.Matches.{match_by, pattern_matches, plain};
 ghost use Rattle.extractors.specs.Extraction.{sets_matches, begins_all};
 
 use crate::names::{count_name, match_name};
 use crate::removed::{old_count, remove_groups, remove_matches};
 use crate::set::{put_match, put_number, put_text};
+use element_tree::RegexExtractor;
 use jm_base::Text;
+use regex::Regex;
+use reply_search::spans_in;
 use std::alloc::Global;
 use var_functions::{VarError, Vars};
 
@@ -29,22 +35,58 @@ pub(crate) fn begin_all(
     put_number(alloc, own, count as u64, vars)
 }
 
-/// Sets the matches of a pattern under their numbers, by its template and what their groups span in the text.
-pub(crate) fn put_matches(
+// Sets the matches of a regular expression in a text under their numbers, by a template. Each is set before the next one is
+// looked for.
+fn put_found(
     alloc: Global,
     name: &[u8],
     template: &[u8],
-    text: &[u8],
-    rows: &[Vec<Option<(usize, usize)>>],
+    regex: &Regex,
+    text: &str,
+    count: usize,
     vars: &mut Vars,
 ) -> Result<(), VarError>
-    ensures exact { Changes (sets_matches name.now 1 (map (λ row. match_by template.now text.now row.items) rows.now)) vars.old vars.new result }
+    requires { count ≡ length (find_all_str (regex_pattern regex.now) text.now) }
+    ensures exact { Changes (sets_matches name.now 1 (map (λ m. match_by template.now text.now (spans_of (length (regex_names regex.now)) m))
+        (find_all_str (regex_pattern regex.now) text.now))) vars.old vars.new result }
 {
-    'rows: for (place, row) in rows.iter().enumerate() {
-        let name = match_name(alloc, name, place as u64 + 1)?;
-        put_match(alloc, name.bytes(), template, text, row.as_slice(), vars)?;
+    let mut matcher = regex.matcher(alloc)?;
+    let mut locations = regex.capture_locations(alloc)?;
+    let _groups = regex.captures_len();
+    let mut all = matcher.captures_iter(text);
+    'matches: for place in 0..count {
+        let Some(found) = all.next_read(&mut locations) else {
+            return Ok(());
+        };
+        let spans = spans_in(alloc, (found.start(), found.end()), &locations)?;
+        let own = match_name(alloc, name, place as u64 + 1)?;
+        put_match(
+            alloc,
+            own.bytes(),
+            template,
+            text.as_bytes(),
+            spans.as_slice(),
+            vars,
+        )?;
     }
     Ok(())
+}
+
+/// Sets the matches of a pattern in a text under their numbers, of which there are this many.
+pub(crate) fn put_matches(
+    alloc: Global,
+    x: &RegexExtractor,
+    text: &str,
+    count: usize,
+    vars: &mut Vars,
+) -> Result<(), VarError>
+    requires { count ≡ length (matches_of x.now.pattern text.now) }
+    ensures exact { Changes (sets_matches x.now.ref_ 1 (pattern_matches x.now.pattern x.now.template text.now)) vars.old vars.new result }
+{
+    let name = x.ref_.bytes();
+    let template = x.template.bytes();
+    let kept = x.pattern.regex();
+    put_found(alloc, name, template, kept, text, count, vars)
 }
 
 /// Sets texts under their numbers.

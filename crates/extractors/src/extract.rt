@@ -5,10 +5,10 @@ ghost use Rattle.var_changes.specs.Changes.{Changes};
 ghost use Rattle.extractors.specs.Matches.{extracted_regex, extracted_json, extracted_bounds};
 
 use crate::matches::{bounded_texts, json_texts};
-use crate::taking::{take_rows, take_texts};
+use crate::taking::{take_matches, take_texts};
 use crate::which::which_of;
 use element_tree::{BoundaryExtractor, JsonExtractor, RegexExtractor};
-use reply_search::{all_matches, text_in};
+use reply_search::text_in;
 use std::alloc::Global;
 use var_functions::{VarError, Vars};
 
@@ -28,8 +28,7 @@ pub fn extract_regex(
     ensures exact { Changes (extracted_regex x.now text.now pick vars.old) vars.old vars.new result }
 {
     let text = text_in(text);
-    let rows = all_matches(alloc, &x.pattern, text)?;
-    take_rows(alloc, x, text.as_bytes(), rows.as_slice(), pick, vars)
+    take_matches(alloc, x, text, pick, vars)
 }
 
 /// Takes values that a JSON path reaches into variables (the manual's "JSON Extractor"). The text is seen up to its longest

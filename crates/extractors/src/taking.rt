@@ -1,77 +1,98 @@
 // What is taken of all matches.
 
 ghost use Rattle.std.specs.Prelude.{None, Some, map};
+ghost use Rattle.std.specs.Option.{option_map};
 ghost use Rattle.var_changes.specs.Changes.{Changes};
 ghost use Rattle.reply_search.specs.Found.{groups_of};
 ghost use Rattle.extractors.specs.Extraction.{which_of, taken, takes_one, takes_all, extracted};
-ghost use Rattle.extractors.specs.Matches.{match_by, plain};
+ghost use Rattle.extractors.specs.Matches.{match_by, pattern_matches, plain};
 
 use crate::all::{begin_all, put_matches, put_texts};
 use crate::removed::remove_groups;
 use crate::set::{put_default, put_match};
-use crate::which::{Which, taken, which_of};
+use crate::which::{Which, taken, taken_row, which_of};
 use element_tree::RegexExtractor;
 use jm_base::Text;
-use reply_search::groups_of;
+use reply_search::{groups_of, match_count};
 use std::alloc::Global;
 use var_changes::put_copy;
 use var_functions::{VarError, Vars};
 
-// Sets all matches of a pattern, by what their groups span in the text.
-fn take_all_rows(
-    alloc: Global,
-    x: &RegexExtractor,
-    text: &[u8],
-    rows: &[Vec<Option<(usize, usize)>>],
-    vars: &mut Vars,
-) -> Result<(), VarError>
-    ensures exact { Changes (takes_all x.now.ref_ x.now.default (Some (groups_of x.now.pattern))
-        (map (λ row. match_by x.now.template text.now row.items) rows.now) vars.old) vars.old vars.new result }
-{
-    let name = x.ref_.bytes();
-    begin_all(alloc, name, Some(groups_of(&x.pattern)), rows.len(), vars)?;
-    put_matches(alloc, name, x.template.bytes(), text, rows, vars)?;
-    put_default(alloc, name, &x.default, vars)
-}
-
-// Sets the one match of a pattern that is taken, or the default.
+// Sets a match of a pattern, by what its groups span in the text, or where there is none the default.
 fn take_one_row(
     alloc: Global,
     x: &RegexExtractor,
     text: &[u8],
-    rows: &[Vec<Option<(usize, usize)>>],
+    row: Option<Vec<Option<(usize, usize)>>>,
+    vars: &mut Vars,
+) -> Result<(), VarError>
+    ensures exact { Changes (takes_one x.now.ref_ x.now.default (Some (groups_of x.now.pattern))
+        (option_map (λ spans. match_by x.now.template text.now spans.items) row)) vars.old vars.new result }
+{
+    let name = x.ref_.bytes();
+    remove_groups(alloc, name, Some(groups_of(&x.pattern)), vars)?;
+    match row {
+        Some(spans) => put_match(
+            alloc,
+            name,
+            x.template.bytes(),
+            text,
+            spans.as_slice(),
+            vars,
+        ),
+        None => put_default(alloc, name, &x.default, vars),
+    }
+}
+
+// Sets all matches of a pattern in a text. They are counted first.
+fn take_all_matches(
+    alloc: Global,
+    x: &RegexExtractor,
+    text: &str,
+    vars: &mut Vars,
+) -> Result<(), VarError>
+    ensures exact { Changes (takes_all x.now.ref_ x.now.default (Some (groups_of x.now.pattern))
+        (pattern_matches x.now.pattern x.now.template text.now) vars.old) vars.old vars.new result }
+{
+    let name = x.ref_.bytes();
+    let count = match_count(alloc, &x.pattern, text)?;
+    begin_all(alloc, name, Some(groups_of(&x.pattern)), count, vars)?;
+    put_matches(alloc, x, text, count, vars)?;
+    put_default(alloc, name, &x.default, vars)
+}
+
+// Sets the one match of a pattern in a text that is taken, or the default.
+fn take_one_match(
+    alloc: Global,
+    x: &RegexExtractor,
+    text: &str,
     which: Which,
     pick: u64,
     vars: &mut Vars,
 ) -> Result<(), VarError>
     ensures exact { Changes (takes_one x.now.ref_ x.now.default (Some (groups_of x.now.pattern))
-        (taken which pick (map (λ row. match_by x.now.template text.now row.items) rows.now))) vars.old vars.new result }
+        (taken which pick (pattern_matches x.now.pattern x.now.template text.now))) vars.old vars.new result }
 {
-    let name = x.ref_.bytes();
-    remove_groups(alloc, name, Some(groups_of(&x.pattern)), vars)?;
-    match taken(which, pick, rows) {
-        Some(row) => put_match(alloc, name, x.template.bytes(), text, row.as_slice(), vars),
-        None => put_default(alloc, name, &x.default, vars),
-    }
+    let row = taken_row(alloc, x, text, which, pick)?;
+    take_one_row(alloc, x, text.as_bytes(), row, vars)
 }
 
-/// What a regular expression's extractor makes of the variables by all its matches, each by what its groups span in the
-/// text.
-pub(crate) fn take_rows(
+/// What a regular expression's extractor makes of the variables by all matches of its pattern in a text. Where one match is
+/// taken, the others are not kept.
+pub(crate) fn take_matches(
     alloc: Global,
     x: &RegexExtractor,
-    text: &[u8],
-    rows: &[Vec<Option<(usize, usize)>>],
+    text: &str,
     pick: u64,
     vars: &mut Vars,
 ) -> Result<(), VarError>
     ensures exact { Changes (extracted x.now.ref_ (which_of x.now.match_) x.now.default (Some (groups_of x.now.pattern))
-        (map (λ row. match_by x.now.template text.now row.items) rows.now) pick vars.old) vars.old vars.new result }
+        (pattern_matches x.now.pattern x.now.template text.now) pick vars.old) vars.old vars.new result }
 {
     let which = which_of(x.match_);
     match which {
-        Which::All => take_all_rows(alloc, x, text, rows, vars),
-        Which::AtRandom | Which::One(_) => take_one_row(alloc, x, text, rows, which, pick, vars),
+        Which::All => take_all_matches(alloc, x, text, vars),
+        Which::AtRandom | Which::One(_) => take_one_match(alloc, x, text, which, pick, vars),
     }
 }
 

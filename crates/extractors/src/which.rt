@@ -1,8 +1,14 @@
 // Which match is taken.
 
-ghost use Rattle.std.specs.Prelude.{◌≡◌};
-ghost use Rattle.std.specs.Option.{option_copied};
+ghost use Rattle.std.specs.Prelude.{◌≡◌, IfOk};
+ghost use Rattle.std.specs.Option.{option_copied, option_map};
+ghost use Rattle.reply_search.specs.Found.{matches_of};
 ghost use Rattle.extractors.specs.Extraction.{which_of, taken};
+
+use element_tree::RegexExtractor;
+use jm_base::M;
+use reply_search::{match_count, nth_match};
+use std::alloc::Global;
 
 /// Which match is taken.
 #[derive(Clone, Copy, PartialEq, Eq, Debug)]
@@ -44,4 +50,39 @@ fn at_random<M>(pick: u64, matches: &[M]) -> Option<&M>
         return None;
     }
     matches.get((pick % matches.len() as u64) as usize)
+}
+
+/// The one match of a pattern that is taken, where it is there, by what its groups span. The search ends with it, and no
+/// other match is kept; for one at random all are counted before.
+pub(crate) fn taken_row(
+    alloc: Global,
+    x: &RegexExtractor,
+    text: &str,
+    which: Which,
+    pick: u64,
+) -> M<Option<Vec<Option<(usize, usize)>>>>
+    ensures { IfOk result (λ row. option_map (λ spans. spans.items) row ≡ taken which pick (matches_of x.now.pattern text.now)) }
+{
+    match which {
+        Which::All => Ok(None),
+        Which::AtRandom => random_row(alloc, x, text, pick),
+        Which::One(place) => nth_match(alloc, &x.pattern, text, place as usize),
+    }
+}
+
+fn random_row(
+    alloc: Global,
+    x: &RegexExtractor,
+    text: &str,
+    pick: u64,
+) -> M<Option<Vec<Option<(usize, usize)>>>>
+    ensures { IfOk result (λ row. option_map (λ spans. spans.items) row
+        ≡ taken Which.AtRandom pick (matches_of x.now.pattern text.now)) }
+{
+    let count = match_count(alloc, &x.pattern, text)?;
+    if count == 0 {
+        return Ok(None);
+    }
+    let row = nth_match(alloc, &x.pattern, text, (pick % count as u64) as usize)?;
+    Ok(row)
 }

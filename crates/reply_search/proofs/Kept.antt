@@ -1,9 +1,10 @@
 -- What a kept pattern finds is what its text says.
-use Rattle.std.proofs.Common.{◌≡◌, ℕ, zero, suc, ◌+◌, ◌-◌, ◌*◌, ◌<◌, ◌≤◌, List, [], ◌∷◌, Option, Some, None, map, length, is_some, true, refl, sym, ap, ap₂, ◌∙◌, arith, get_or, ◌++◌, append_assoc}
-use Rattle.std.specs.Prelude.{option_and_then, IsSomeAnd, IfSome}
+use Rattle.std.proofs.Common.{◌≡◌, ℕ, zero, suc, ◌+◌, ◌-◌, ◌*◌, ◌<◌, ◌≤◌, List, [], ◌∷◌, Option, Some, None, map, length, is_some, true, refl, sym, ap, ap₂, ◌∙◌, arith, get_or}
+use Rattle.std.specs.Prelude.{option_and_then, IsSomeAnd, IfSome, slice_get}
 use Rattle.std.specs.List.{range_with_len}
 use Rattle.std.specs.Option.{option_map_or}
 use Rattle.std.proofs.lemmas.Bool.{cond-true, le-leb}
+use Rattle.std.proofs.lemmas.List.{length-map}
 use Rattle.std.proofs.lemmas.Simd.{map-map}
 use Rattle.regex.specs.Patterns.{Re, Match, span, find_str, find_all_str, SameCaptures, Reads}
 use Rattle.regex.specs.Writes.{both, group_of}
@@ -65,13 +66,27 @@ module _ (r : Regex) (kept : IsKept r) (hay : List ℕ) (bytes : (k : ℕ) → g
       let count = length (regex_names r) in
       rw reads.is (groups_seen count _ ∙ ap (map (seen count)) (find_all_alike reads.same hay bytes true) ∙ sym (groups_seen count _))
 
+  pub kept_count : length (find_all_str (regex_pattern r) hay) ≡ length (matches_of (regex_source r) hay)
+  kept_count = sym (length-map (find_all_str (regex_pattern r) hay) (spans_of (length (regex_names r)))) ∙ ap length kept_matches
+
   pub kept_found : is_some (find_str (regex_pattern r) hay 0) ≡ is_found (regex_source r) hay
   kept_found = let reads = kept_reading r kept in rw reads.is (is_match_alike reads.same hay bytes true 0)
 
--- one more row: that of the first match that was left
-pub row_more : {R M : Type 0} (g : M → R) (rows : List R) (row : R) (m : M) (left : List M) (all : List R)
-    → rows ++ map g (m ∷ left) ≡ all → row ≡ g m → (rows ++ row ∷ []) ++ map g left ≡ all
-row_more g rows row m left all e same = rw (append_assoc, same) e
+-- the match that is looked for is the first that was left
+pub row_found : {R M : Type 0} (g : M → R) (row : R) (m : M) (left were : List M) (n : ℕ) (o : Option R)
+    → were ≡ m ∷ left → n ≡ 0 → slice_get (map g were) n ≡ o → row ≡ g m → Some row ≡ o
+row_found g row m left were n o first none so_far same =
+    ap Some same ∙ ap (λ k. slice_get (map g (m ∷ left)) k) (sym none) ∙ ap (λ ms. slice_get (map g ms) n) (sym first) ∙ so_far
+
+after_first : {R M : Type 0} (g : M → R) (m : M) (left : List M) (n : ℕ) (o : Option R)
+    → (n ≡ 0 → ⊥) → slice_get (map g (m ∷ left)) n ≡ o → slice_get (map g left) (n - 1) ≡ o
+after_first g m left zero o some so_far = absurd (some refl)
+after_first g m left (suc n) o some so_far = let less : suc n - 1 ≡ n = omega arith in rw less so_far
+
+-- it comes after the first that was left
+pub row_later : {R M : Type 0} (g : M → R) (m : M) (left were : List M) (n : ℕ) (o : Option R)
+    → were ≡ m ∷ left → (n ≡ 0 → ⊥) → slice_get (map g were) n ≡ o → slice_get (map g left) (n - 1) ≡ o
+row_later g m left were n o first some so_far = after_first g m left n o some (ap (λ ms. slice_get (map g ms) n) (sym first) ∙ so_far)
 
 -- the row that is read from the locations of a match
 pub row_of_match : (l : CaptureLocations) (m : Match) (n : ℕ) (whole : ℕ × ℕ) (row : List (Option (ℕ × ℕ)))

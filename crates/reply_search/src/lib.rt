@@ -4,5 +4,5 @@
 mod found;
 mod seen;
 
-pub use found::{all_matches, finds, groups_of, place_in};
+pub use found::{finds, groups_of, match_count, nth_match, place_in, spans_in};
 pub use seen::{field_of, text_in};

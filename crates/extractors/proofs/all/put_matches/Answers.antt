@@ -1,31 +1,30 @@
-use Rattle.std.proofs.Common.{◌+◌, ◌∙◌, ap, drop}
+use Rattle.std.proofs.Common.{length, sym, ap, ◌∙◌, subst}
 use Rattle.std.specs.Prelude.{map}
-use Rattle.std.proofs.lemmas.Result.{err_from_is_err_and}
-use Rattle.var_changes.proofs.ChangeLaws.{standing-more, standing-stopped}
-use Rattle.extractors.specs.Extraction.{sets_match, sets_matches}
+use Rattle.std.proofs.lemmas.Simd.{map-map}
+use Rattle.regex.specs.Patterns.{find_all_str}
+use Rattle.regex.specs.Strings.{regex_names, regex_pattern}
+use Rattle.reply_search.specs.Found.{spans_of, matches_of}
+use Rattle.reply_search.proofs.Kept.{kept_matches, kept_count}
+use Rattle.var_changes.specs.Changes.{Changes}
+use Rattle.extractors.specs.Extraction.{sets_matches}
 use Rattle.extractors.specs.Matches.{match_by}
-use Rattle.extractors.proofs.SetLaws.{matches-next}
 use Rattle.extractors.proofs.all.put_matches.Goals as goal
 
-pub returns-in_err-put_match : goal.returns-in_err-put_match
-returns-in_err-put_match c =
-    let p = err_from_is_err_and c.from_residual-in_err-put_match.result c.from_residual-in_err-put_match.ensures.1 in
-    rw (p.1, p.2) (record {
-      exact = standing-stopped _ (sets_match c.bytes.result.now (match_by c.args.template.now c.args.text.now c.as_slice.result.now))
-          (sets_matches c.args.name.now (c.rows.place + 1 + 1) (map (λ row. match_by c.args.template.now c.args.text.now row.items) (drop (c.rows.place + 1) c.args.rows.now)))
-          _ c.rows.vars c.put_match.new.vars c.in_err-put_match.field-0.0
-          (matches-next (λ row. match_by c.args.template.now c.args.text.now row.items) _ c.args.name.now c.args.rows.now c.rows.place c.index-rows-place.result
-          c.bytes.result.now (match_by c.args.template.now c.args.text.now c.as_slice.result.now) _ c.rows.vars c.rows-test.true c.index-rows-place.is
-          (c.bytes.ensures ∙ c.in_ok-name.ensures) (ap (match_by c.args.template.now c.args.text.now) c.as_slice.ensures.value) c.rows.invariant)
-          c.in_err-put_match.ensures.exact;
-    })
+pub put_found-requires : goal.put_found-requires
+put_found-requires c =
+    c.requires ∙ ap (λ p. length (matches_of p c.args.text.now)) (sym c.regex-kept.ensures.0)
+    ∙ sym (kept_count c.regex-kept.result.now c.regex-kept.ensures.1 c.args.text.now (λ k. (c.type_inv.text k).fits))
 
-pub rows-preserved : goal.rows-preserved
-rows-preserved c =
-    standing-more _ (sets_match c.bytes.result.now (match_by c.args.template.now c.args.text.now c.as_slice.result.now))
-    (sets_matches c.args.name.now (c.rows.place + 1 + 1) (map (λ row. match_by c.args.template.now c.args.text.now row.items) (drop (c.rows.place + 1) c.args.rows.now)))
-    _ c.rows.vars c.put_match.new.vars
-    (matches-next (λ row. match_by c.args.template.now c.args.text.now row.items) _ c.args.name.now c.args.rows.now c.rows.place c.index-rows-place.result
-    c.bytes.result.now (match_by c.args.template.now c.args.text.now c.as_slice.result.now) _ c.rows.vars c.rows-test.true c.index-rows-place.is
-    (c.bytes.ensures ∙ c.in_ok-name.ensures) (ap (match_by c.args.template.now c.args.text.now) c.as_slice.ensures.value) c.rows.invariant)
-    c.in_ok-put_match.ensures.exact
+pub returns : goal.returns
+returns c =
+    let r = c.regex-kept.result.now in
+    let seen = c.args.text.now in
+    let count = length (regex_names r) in
+    record {
+      exact = subst (λ name. Changes (sets_matches name 1 (map (match_by c.args.x.now.template seen) (matches_of c.args.x.now.pattern seen))) c.args.vars.now c.put_found.new.vars c.put_found.result) c.bytes-name.ensures
+          (subst (λ ms. Changes (sets_matches c.bytes-name.result.now 1 ms) c.args.vars.now c.put_found.new.vars c.put_found.result)
+          (ap (λ template. map (λ m. match_by template seen (spans_of count m)) (find_all_str (regex_pattern r) seen)) c.bytes-template.ensures
+          ∙ sym (map-map (match_by c.args.x.now.template seen) (spans_of count) (find_all_str (regex_pattern r) seen))
+          ∙ ap (map (match_by c.args.x.now.template seen)) (kept_matches r c.regex-kept.ensures.1 seen (λ k. (c.type_inv.text k).fits) ∙ ap (λ p. matches_of p seen) c.regex-kept.ensures.0))
+          c.put_found.ensures.exact);
+    }
