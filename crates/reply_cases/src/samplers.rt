@@ -93,24 +93,21 @@ fn sample_text(alloc: Global, sample: &Sample) -> anyhow::Result<String> {
     Ok(format!(in alloc; "{reply},{ok},{failure},{bytes},{listeners}")?)
 }
 
-/// The sample and the pause before it, or why there is none.
+/// The sample, or that there is none.
+fn sampled_text(alloc: Global, sample: &Option<Sample>) -> anyhow::Result<String> {
+    match sample {
+        Some(sample) => sample_text(alloc, sample),
+        None => Ok(String::from_str(alloc, "null")?),
+    }
+}
+
+/// What the sampler came to and the pause before it, or why it was refused.
 fn done_text(alloc: Global, done: Result<Done, VarError>) -> anyhow::Result<String> {
     match done {
-        Ok(
-            Done {
-                sample: Some(sample),
-                paused,
-            },
-        ) => {
-            let sample = sample_text(alloc, &sample)?;
-            Ok(format!(in alloc; "{sample}\tpaused {paused}")?)
+        Ok(done) => {
+            let sampled = sampled_text(alloc, &done.sample)?;
+            Ok(format!(in alloc; "{sampled}\tpaused {}", done.paused)?)
         }
-        Ok(
-            Done {
-                sample: None,
-                paused,
-            },
-        ) => Ok(format!(in alloc; "null\tpaused {paused}")?),
         Err(error) => Ok(String::from_str(alloc, ending(Err(error)))?),
     }
 }
