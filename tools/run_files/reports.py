@@ -1,0 +1,185 @@
+"""Reading REPORTS: the reports of intervals, the summary, and how each thread ended."""
+import contextlib
+import enum
+from typing import NamedTuple
+
+from run_files.records import FileFault, records_of
+from run_files.sums import Sums
+from run_files.texts import shown
+
+DIGITS = 20  # of a number, at most
+ROW = 9  # fields of a row
+SCRIPT = "jm: "  # how the script jm begins what it says of building the program, before the program's own lines
+
+
+class OrderFault(FileFault):
+    """A line of reports that can't stand where it stands."""
+
+
+class Stage(enum.Enum):
+    """What the last line of reports was."""
+
+    START = "the start"
+    INTERVALS = "a report of an interval"
+    TOTALS = "a line `total`"
+    ALL = "the line `all`"
+    ENDS = "a line `end`"
+
+
+class IntervalLine(NamedTuple):
+    """`interval`: an interval is closed, with this many samples, of which this many failed."""
+
+    number: int
+    count: int
+    errors: int
+
+
+class RowLine(NamedTuple):
+    """`row`: a label in an interval."""
+
+    number: int
+    label: str
+    sums: Sums
+
+
+class TotalLine(NamedTuple):
+    """`total`: a label over all intervals."""
+
+    label: str
+    sums: Sums
+
+
+class AllLine(NamedTuple):
+    """`all`: the sums over all labels."""
+
+    count: int
+    errors: int
+    total: int
+    size: int
+
+
+class EndLine(NamedTuple):
+    """`end`: how a thread ended."""
+
+    thread: str
+    end: str
+
+
+class Reports:
+    """The lines of reports, to be gone through once.
+
+    Their form and their order are held against the format; their sums are not. Lines of the script jm, which come first,
+    are passed over. What is `cut` and `whole` is known at the end.
+    """
+
+    def __init__(self, records):
+        self.stage = Stage.START
+        self.records = records
+        self._number, self._text = -1, None  # of the interval whose rows can follow
+        self._labels = set()
+        self._kinds = {"interval": (4, self._interval), "total": (8, self._total),
+                       "all": (5, self._all), "end": (3, self._end)}
+
+    @property
+    def line(self):
+        """The number of the line that came last."""
+        return self.records.line
+
+    @property
+    def cut(self):
+        """Whether the last line is cut off."""
+        return self.records.cut
+
+    @property
+    def has_summary(self):
+        """Whether the summary is there."""
+        return self.stage in (Stage.ALL, Stage.ENDS)
+
+    @property
+    def whole(self):
+        """Whether the summary and end lines are there, and nothing is cut off."""
+        return self.stage is Stage.ENDS and not self.cut
+
+    def __iter__(self):
+        labels = self._labels
+        for fields in self.records:
+            if len(fields) == ROW and fields[0] == "row":
+                _, number, label, *texts = fields
+                if number != self._text or label in labels:
+                    self._refuse_row(number, label)
+                labels.add(label)
+                yield RowLine(self._number, label, Sums(*self._numbers(texts)))
+                continue
+            first = fields[0] if fields else ""
+            width, kind = self._kinds.get(first, (None, None))
+            if width == len(fields):
+                yield kind(fields)
+            elif self.stage is not Stage.START or not first.startswith(SCRIPT):
+                raise self.fault(f"this is no line of reports: {shown(','.join(fields), 80)}")
+
+    def fault(self, text):
+        """A fault at the line that came last."""
+        return self.records.fault(text)
+
+    def misplaced(self, text):
+        """A fault of the order at the line that came last."""
+        return OrderFault(f"{self.records.name}:{self.line}: {text}")
+
+    def _numbers(self, texts):
+        digits = "".join(texts)
+        if digits.isdigit() and digits.isascii() and len(digits) <= DIGITS * len(texts):
+            try:
+                return list(map(int, texts))
+            except ValueError:
+                pass
+        raise self.fault(f"numbers are to stand here: {shown(','.join(texts), 80)}")
+
+    def _once(self, label):
+        if label in self._labels:
+            raise self.misplaced(f"a second line of label {shown(label)}")
+        self._labels.add(label)
+        return label
+
+    def _go_on(self, stage, after):
+        if self.stage not in after:
+            raise self.misplaced(f"this line can't stand after {self.stage.value}")
+        if self.stage is not stage:
+            self._labels.clear()
+            self._text = None  # no row can follow, but after a line of an interval
+        self.stage = stage
+
+    def _interval(self, fields):
+        self._go_on(Stage.INTERVALS, (Stage.START, Stage.INTERVALS))
+        number, count, errors = self._numbers(fields[1:])
+        if number != self._number + 1:
+            raise self.misplaced(f"interval {number} stands where interval {self._number + 1} is to stand")
+        self._number, self._text = number, str(number)
+        self._labels.clear()
+        return IntervalLine(number, count, errors)
+
+    def _refuse_row(self, number, label):
+        if self.stage is not Stage.INTERVALS:
+            raise self.misplaced(f"a row can't stand after {self.stage.value}")
+        if number != self._text:
+            raise self.misplaced(f"a row of interval {shown(number, 20)} can't stand in interval {self._text}")
+        raise self.misplaced(f"a second line of label {shown(label)}")
+
+    def _total(self, fields):
+        self._go_on(Stage.TOTALS, (Stage.START, Stage.INTERVALS, Stage.TOTALS))
+        return TotalLine(self._once(fields[1]), Sums(*self._numbers(fields[2:])))
+
+    def _all(self, fields):
+        self._go_on(Stage.ALL, (Stage.START, Stage.INTERVALS, Stage.TOTALS))
+        return AllLine(*self._numbers(fields[1:]))
+
+    def _end(self, fields):
+        self._go_on(Stage.ENDS, (Stage.ALL, Stage.ENDS))
+        return EndLine(*fields[1:])
+
+
+@contextlib.contextmanager
+def reports_of(path):
+    """The lines of the file at a path."""
+    records, file = records_of(path)
+    with file:
+        yield Reports(records)
