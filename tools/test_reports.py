@@ -246,6 +246,7 @@ class Watch(InFolder):
     def started(self, path):
         """A watch on a terminal, and the terminal's other side."""
         ours, theirs = pty.openpty()
+        self.given = b""
         self.addCleanup(os.close, ours)
         environment = {**os.environ, "TERM": "xterm", "COLUMNS": "100", "LINES": "30"}
         process = subprocess.Popen([TOOLS / "watch", "-o", path], stdin=subprocess.PIPE, stdout=theirs, stderr=theirs, env=environment)
@@ -255,19 +256,20 @@ class Watch(InFolder):
         self.addCleanup(process.stdin.close)
         return process, ours
 
-    def frames(self, ours, until, seconds=60):
-        """The frames that a terminal was given, as texts, until the last one has a text."""
-        given, ends = b"", time.monotonic() + seconds
+    def frame(self, ours, until, seconds=60):
+        """The last frame that a terminal was given, as a text, once it has what a regular expression asks for."""
+        ends = time.monotonic() + seconds
         while time.monotonic() < ends:
-            frames = re.split(r"(?=\d+ intervals?, )", re.sub(r"\x1b\[[0-9;?]*[A-Za-z]", "", given.decode(errors="replace")))
-            if until in frames[-1]:
-                return frames
+            text = re.sub(r"\x1b\[[0-9;?]*[A-Za-z]", "", self.given.decode(errors="replace"))
+            frame = re.split(r"(?=\d+ intervals?, )", text)[-1]
+            if re.search(until, frame, re.DOTALL):
+                return frame
             if select.select([ours], [], [], 0.1)[0]:
                 try:
-                    given += os.read(ours, 65_536)
+                    self.given += os.read(ours, 65_536)
                 except OSError:  # the other side is closed
                     break
-        self.fail(f"the terminal was not given {until!r}: {given[-2000:]!r}")
+        self.fail(f"the terminal was not given {until!r}: {self.given[-2000:]!r}")
 
     def rows(self, frame):
         """The cells of each label's row."""
@@ -280,7 +282,7 @@ class Watch(InFolder):
         second = b"interval,1,3,1\nrow,1,open,2,0,81,10,40,41\nrow,1,read,1,1,1000,6,1000,1000\n"
         watch.stdin.write(first)
         watch.stdin.flush()
-        frame = self.frames(ours, "12.0")[-1]
+        frame = self.frame(ours, r"read .*12\.0 +12 .*12\.0 +12\b")
         self.assertIn("1 interval, 11 samples, 2 failed (18.2 %)", frame)
         self.assertEqual(self.rows(frame), {"open": ["4", "0", "30.0", "30"] * 2, "buy": ["4", "2", "87.5", "95"] * 2,
                                             "read": ["3", "0", "12.0", "12"] * 2})
@@ -289,8 +291,7 @@ class Watch(InFolder):
         time.sleep(0.3)
         watch.stdin.write(second[40:])
         watch.stdin.flush()
-        frame = self.frames(ours, "2 intervals")[-1]
-        frame = self.frames(ours, "1,000")[-1] if "1,000" not in frame else frame
+        frame = self.frame(ours, r"2 intervals.*259\.0 +1,000\b")
         self.assertIn("2 intervals, 14 samples, 3 failed (21.4 %)", frame)
         # (120 + 81) / 6 = 33.5 and (36 + 1000) / 4 = 259.0
         self.assertEqual(self.rows(frame), {"open": ["2", "0", "40.5", "41", "6", "0", "33.5", "41"],
@@ -300,7 +301,7 @@ class Watch(InFolder):
                 b"end,A 1-1,Completed\n")
         watch.stdin.write(tail)
         watch.stdin.close()
-        self.frames(ours, "the run is over")
+        self.frame(ours, "the run is over")
         self.assertEqual(watch.wait(60), 0)
         self.assertEqual(pathlib.Path(path).read_bytes(), first + second + tail)
 
@@ -310,7 +311,7 @@ class Watch(InFolder):
         text = self.run_of_example.reports()[:150].encode()
         watch.stdin.write(text)
         watch.stdin.close()
-        self.frames(ours, "broken off")
+        self.frame(ours, "broken off")
         self.assertEqual(watch.wait(60), 0)
         self.assertEqual(pathlib.Path(path).read_bytes(), text)
 
@@ -321,7 +322,7 @@ class Watch(InFolder):
             watch, ours = self.started(path)
             watch.stdin.write(text)
             watch.stdin.close()
-            self.frames(ours, "no longer shown")
+            self.frame(ours, "no longer shown")
             self.assertEqual(watch.wait(60), 0)
             self.assertEqual(pathlib.Path(path).read_bytes(), text)
 
@@ -330,7 +331,7 @@ class Watch(InFolder):
         watch, ours = self.started(self.folder + "/out.csv")
         watch.stdin.write(run.reports().encode(errors="surrogateescape"))
         watch.stdin.close()
-        frame = self.frames(ours, "the run is over")[-1]
+        frame = self.frame(ours, r"the run is over.*été")
         for label in ("<script>alert(1)", "two\\nlines", "caf\\xe9 \\xff", "\\u202eabc\\x1b[31m", "return\\rhere"):
             self.assertIn(label, frame)
         self.assertEqual(watch.wait(60), 0)
@@ -353,8 +354,8 @@ class Watch(InFolder):
         watch, ours = self.started("/dev/full")
         watch.stdin.write(self.run_of_example.reports().encode())
         watch.stdin.close()
-        self.frames(ours, "the run is over")
-        self.frames(ours, "")
+        self.frame(ours, "the run is over")
+        self.frame(ours, "watch: /dev/full: No space left on device")
         self.assertEqual(watch.wait(60), 1)
 
     def test_no_terminal(self):

@@ -6,8 +6,8 @@ from typing import NamedTuple
 from run_files.records import FileFault, records_of
 from run_files.sums import Sums
 from run_files.texts import shown
+from run_files.values import value_of
 
-DIGITS = 20  # of a number, at most
 ROW = 9  # fields of a row
 SCRIPT = "jm: "  # how the script jm begins what it says of building the program, before the program's own lines
 
@@ -126,13 +126,10 @@ class Reports:
         return OrderFault(f"{self.records.name}:{self.line}: {text}")
 
     def _numbers(self, texts):
-        digits = "".join(texts)
-        if digits.isdigit() and digits.isascii() and len(digits) <= DIGITS * len(texts):
-            try:
-                return list(map(int, texts))
-            except ValueError:
-                pass
-        raise self.fault(f"numbers are to stand here: {shown(','.join(texts), 80)}")
+        try:
+            return list(map(value_of, texts))
+        except ValueError:
+            raise self.fault(f"numbers are to stand here: {shown(','.join(texts), 80)}") from None
 
     def _once(self, label):
         if label in self._labels:

@@ -3,17 +3,17 @@ from typing import NamedTuple
 
 from run_files.records import records_of
 from run_files.texts import shown
+from run_files.values import DIGITS, value_of
 
 HEADER = ["timeStamp", "elapsed", "label", "responseCode", "responseMessage", "threadName", "success", "failureMessage",
           "bytes", "interval"]
-FAILED = {"true": False, "false": True}  # by the column success
-DIGITS = 100  # of the five numbers of a line together, each of which has at most 20
+ELAPSED, LABEL, THREAD, SUCCESS, BYTES, INTERVAL = 1, 2, 5, 6, 8, 9  # the fields that sums are made of
 
 
 class Sample(NamedTuple):
-    """One result line, its numbers as numbers but for the stamp and the code, which are the digits."""
+    """One result line, its numbers as numbers but for the code, which is the digits."""
 
-    stamp: str
+    stamp: int
     elapsed: int
     label: str
     code: str
@@ -25,10 +25,17 @@ class Sample(NamedTuple):
     interval: int
 
 
-class Results:
-    """The samples of RESULTS, to be gone through once.
+def sample_of(row):
+    """The sample of a result line's fields."""
+    stamp, elapsed, label, code, message, thread, success, failure, size, interval = row
+    return Sample(int(stamp), int(elapsed), label, code, message, thread, success == "false", failure, int(size), int(interval))
 
-    `cut` says from then on that the last line, or the header, is cut off, and `empty` that there is not even a header.
+
+class Results:
+    """The result lines of RESULTS, to be gone through once, each the list of its ten fields.
+
+    Each is held against the format: its numbers are digits, and its success is `true` or `false`. `cut` says from then on
+    that the last line, or the header, is cut off, and `empty` that there is not even a header.
     """
 
     def __init__(self, path):
@@ -44,18 +51,18 @@ class Results:
             self.empty = header is None and not records.cut
             if header not in (None, HEADER):
                 raise records.fault(f"this is not the header of results, `{','.join(HEADER)}`")
-            yield from samples_of(records, rows)
+            for row in rows:
+                if not is_result(row):
+                    raise records.fault(f"this is no result line: {shown(','.join(row), 80)}")
+                yield row
             self.cut = records.cut
 
 
-def samples_of(records, rows):
-    """The samples of these records; a fault at the first that is none."""
-    for row in rows:
-        try:
-            stamp, elapsed, label, code, message, thread, success, failure, size, interval = row
-            digits = stamp + elapsed + code + size + interval
-            if not (digits.isdigit() and digits.isascii() and stamp and code and len(digits) <= DIGITS):
-                raise ValueError
-            yield Sample(stamp, int(elapsed), label, code, message, thread, FAILED[success], failure, int(size), int(interval))
-        except (ValueError, KeyError):
-            raise records.fault(f"this is no result line: {shown(','.join(row), 80)}") from None
+def is_result(row):
+    """Whether fields are those of a result line."""
+    try:
+        stamp, elapsed, _, code, _, _, success, _, size, interval = row
+        value_of(elapsed), value_of(code), value_of(size), value_of(interval)
+    except ValueError:
+        return False
+    return stamp.isdigit() and stamp.isascii() and len(stamp) <= DIGITS and success in ("true", "false")

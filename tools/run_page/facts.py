@@ -4,9 +4,10 @@ import dataclasses
 import heapq
 
 from run_files.reports import EndLine, IntervalLine, RowLine, TotalLine, reports_of
-from run_files.results import Results
+from run_files.results import BYTES, ELAPSED, INTERVAL, LABEL, SUCCESS, THREAD, Results, sample_of
 from run_files.sums import over_all
 from run_files.texts import many, shown
+from run_files.values import value_of
 from run_page.timeline import Timeline
 
 SLOWEST = 20
@@ -114,18 +115,22 @@ def read_results(facts, path):
     """Reads RESULTS into the facts; the intervals come from it where REPORTS has none, as of `solo`."""
     results, with_intervals = Results(path), not facts.timeline.intervals
     slowest, failures, labels = Slowest(SLOWEST), collections.Counter(), {}
-    for sample in results:
+    for row in results:
         facts.lines += 1
-        facts.threads[sample.thread] = True
-        if sample.elapsed > slowest.least:
-            slowest.offer(sample)
-        if sample.failed:
+        facts.threads[row[THREAD]] = True
+        elapsed = value_of(row[ELAPSED])
+        if elapsed > slowest.least:
+            slowest.offer(sample_of(row))
+        failed = row[SUCCESS] == "false"
+        if failed:
+            sample = sample_of(row)
             kind = sample.code, sample.message, sample.failure
             failures[kind] += 1
             labels.setdefault(kind, {})[sample.label] = True
         if with_intervals:
-            facts.timeline.begin(sample.interval)
-            facts.timeline.of(sample.interval, sample.label).add_sample(sample.elapsed, sample.failed, sample.size)
+            interval = value_of(row[INTERVAL])
+            facts.timeline.begin(interval)
+            facts.timeline.of(interval, row[LABEL]).add_sample(elapsed, failed, value_of(row[BYTES]))
     facts.slowest = slowest.all()
     facts.failures = [Failure(*kind, count, list(labels[kind])) for kind, count in failures.most_common(FAILURES)]
     facts.other_failures = max(0, len(failures) - FAILURES)
