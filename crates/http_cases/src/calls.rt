@@ -1,0 +1,25 @@
+// The calls of cases. They have no clauses, so that no proof carries along what the calls promise.
+
+use http_text::{Fed, HttpSettings, ResponseReader, Target, TargetError, WireError, request_bytes};
+use jm_base::{M, Reply};
+use std::alloc::Global;
+
+/// A new reader.
+pub fn reader(alloc: Global, head_only: bool) -> M<ResponseReader> {
+    ResponseReader::new(alloc, head_only)
+}
+
+/// A call of a reader.
+pub fn feed(reader: &mut ResponseReader, piece: &[u8]) -> Result<Fed, WireError> {
+    reader.feed(piece)
+}
+
+/// The last call of a reader.
+pub fn finish(reader: ResponseReader) -> Result<Reply, WireError> {
+    reader.finish()
+}
+
+/// A request.
+pub fn request(alloc: Global, settings: &HttpSettings) -> Result<Target, TargetError> {
+    request_bytes(alloc, settings)
+}

@@ -1,0 +1,38 @@
+//! Runs the cases of HTTP requests and responses. Each line of the input is a call; its fields are parted by one tab. A byte of a field
+//! may be written as `\n`, `\xNN` and so on, a backslash as `\\`, and a field `@N:TEXT` is the text N times, `@N:TEXT@M:TEXT` such texts
+//! one after another.
+//!
+//! - `response FLAGS TEXT`: a response, with the flag `h` one to HEAD, else `-`. It is read whole, byte by byte, and cut in two at every
+//!   place. Printed are the reply and how many bytes belong to it, or the refusal and how many bytes there are up to the one that settles
+//!   it; and in how many ways it was read, all of which gave the same. After a refusal and after a whole response one more piece is fed.
+//! - `prefixes FLAGS TEXT`: each proper prefix of a response, from none of its bytes to all but one, which are all to end early.
+//! - `sized FLAGS SIZE TEXT`: a response in pieces of a size. A refusal is printed with how many bytes had come with its piece.
+//! - `pieces FLAGS TEXT ..`: a response in these pieces: what each is, and how the reader finishes.
+//! - `request METHOD HOST PORT PATH BODY FIELD ..`: a request, a field being `p:NAME=VALUE` for a parameter or `h:NAME=VALUE` for a header
+//!   field. Printed are the host, the port and the bytes.
+//! - `repeat N`: each call after it is made N times.
+//!
+//! Any other line is for a reader alone. A part of a reply of more than 60 bytes and a request of more than 1,000 are shown by their
+//! length and their first 8 bytes.
+#![tactic(auto)]
+
+mod calls;
+mod cases;
+mod requests;
+mod shown;
+mod ways;
+mod words;
+
+use cases::Cases;
+
+fn main(rt: HostRuntime) -> anyhow::Result<()> {
+    let mut cases = Cases::new();
+    for line in rt.lines(rt.alloc()) {
+        let line = line?;
+        let answer = cases.run(rt.alloc(), line.as_str())?;
+        if !answer.is_empty() {
+            println!(rt; "{answer}")?;
+        }
+    }
+    Ok(())
+}

@@ -1,0 +1,166 @@
+// The ways to cut a response into pieces, and what comes of each.
+
+use crate::calls;
+use crate::shown::{error_name, finish_shown};
+use http_text::{Fed, ResponseReader, WireError};
+use jm_base::Reply;
+use std::alloc::Global;
+
+/// What came of a response, and after how many bytes.
+#[derive(Drop)]
+pub struct Came {
+    /// The reply or the refusal, and how it came.
+    pub answer: String,
+    /// How many bytes belong to the response, or had come when it was refused.
+    pub place: usize,
+    /// Whether it was refused before its end.
+    refused: bool,
+}
+
+/// A whole response. A further piece has to be used for nothing.
+fn done(alloc: Global, mut reader: ResponseReader, place: usize) -> anyhow::Result<Came> {
+    let further = calls::feed(&mut reader, b"HTTP/1.1");
+    let mut answer = finish_shown(alloc, calls::finish(reader))?;
+    answer.push_str("\tdone")?;
+    if further != Ok(Fed::Done { used: 0 }) {
+        answer.push_str(", and then something else")?;
+    }
+    Ok(Came {
+        answer,
+        place,
+        refused: false,
+    })
+}
+
+/// Whether the last call of a reader gives this error.
+fn finishes_with(finish: Result<Reply, WireError>, error: WireError) -> bool {
+    match finish {
+        Ok(_) => false,
+        Err(last) => last == error,
+    }
+}
+
+/// A refusal. Each later call has to give the same.
+fn refused(
+    alloc: Global,
+    mut reader: ResponseReader,
+    error: WireError,
+    place: usize,
+) -> anyhow::Result<Came> {
+    let mut answer = String::from_str(alloc, error_name(error))?;
+    let further = calls::feed(&mut reader, b"\r\n\r\n");
+    if further != Err(error) || !finishes_with(calls::finish(reader), error) {
+        answer.push_str(", and then something else")?;
+    }
+    Ok(Came {
+        answer,
+        place,
+        refused: true,
+    })
+}
+
+/// What comes of a response in these pieces, and then the end of input.
+pub fn came<'p>(alloc: Global, head_only: bool, pieces: &[&'p [u8]]) -> anyhow::Result<Came> {
+    let mut reader = calls::reader(alloc, head_only)?;
+    let mut place = 0usize;
+    for piece in pieces {
+        match calls::feed(&mut reader, piece) {
+            Ok(Fed::More) => place = place.saturating_add(piece.len()),
+            Ok(Fed::Done { used }) => {
+                return done(alloc, reader, place.saturating_add(used as usize));
+            }
+            Err(error) => return refused(alloc, reader, error, place.saturating_add(piece.len())),
+        }
+    }
+    let mut answer = finish_shown(alloc, calls::finish(reader))?;
+    answer.push_str("\tat the end")?;
+    Ok(Came {
+        answer,
+        place,
+        refused: false,
+    })
+}
+
+/// What comes of a response in pieces of a size.
+pub fn sized(alloc: Global, head_only: bool, text: &[u8], size: usize) -> anyhow::Result<Came> {
+    let mut pieces = Vec::new(alloc);
+    for piece in text.chunks(size.max(1)) {
+        pieces.push(piece)?;
+    }
+    came(alloc, head_only, &pieces)
+}
+
+/// Whether each proper prefix of a response is one that ends early.
+pub fn prefixes(alloc: Global, head_only: bool, text: &[u8]) -> anyhow::Result<String> {
+    for cut in 0..text.len() {
+        let way = came(alloc, head_only, &[text.get(..cut).unwrap_or(text)])?;
+        if way.answer.as_str() != "EndEarly\tat the end" {
+            return Ok(format!(in alloc; "after {cut} bytes it is {}", way.answer)?);
+        }
+    }
+    Ok(format!(in alloc; "EndEarly after each of {} prefixes", text.len())?)
+}
+
+/// Reads a response in pieces of a size, and lets go what came of it.
+pub fn read_through(
+    alloc: Global,
+    head_only: bool,
+    text: &[u8],
+    size: usize,
+) -> anyhow::Result<()> {
+    let mut reader = calls::reader(alloc, head_only)?;
+    for piece in text.chunks(size.max(1)) {
+        if calls::feed(&mut reader, piece) != Ok(Fed::More) {
+            break;
+        }
+    }
+    let _reply = calls::finish(reader);
+    Ok(())
+}
+
+/// Where a response is refused that is cut in two and refused at this byte: with the piece that has it.
+fn refused_at(place: usize, cut: usize, length: usize) -> usize {
+    if place <= cut { cut } else { length }
+}
+
+/// Whether a way gave what reading byte by byte gave.
+fn agrees(way: &Came, bytewise: &Came, cut: usize, length: usize) -> bool {
+    if way.answer.as_str() != bytewise.answer.as_str() {
+        return false;
+    }
+    if bytewise.refused {
+        return way.place == refused_at(bytewise.place, cut, length);
+    }
+    way.place == bytewise.place
+}
+
+/// What comes of a response that is read byte by byte, whole, and cut in two at every place; and whether all ways agree.
+pub fn all_ways(alloc: Global, head_only: bool, text: &[u8]) -> anyhow::Result<String> {
+    let bytewise = sized(alloc, head_only, text, 1)?;
+    let mut ways = 1usize;
+    for cut in 0..text.len() + 1 {
+        let first = text.get(..cut).unwrap_or(text);
+        let second = text.get(cut..).unwrap_or(&[]);
+        let way = came(alloc, head_only, &[first, second])?;
+        if !agrees(&way, &bytewise, cut, text.len()) {
+            return Ok(format!(in alloc;
+                "cut at {cut} it is {} {}, and byte by byte {} {}",
+                way.answer, way.place, bytewise.answer, bytewise.place
+            )?);
+        }
+        ways = ways.saturating_add(1);
+    }
+    let whole = came(alloc, head_only, &[text])?;
+    if !agrees(&whole, &bytewise, 0, text.len()) {
+        return Ok(format!(in alloc;
+            "whole it is {} {}, and byte by byte {} {}",
+            whole.answer, whole.place, bytewise.answer, bytewise.place
+        )?);
+    }
+    Ok(format!(in alloc;
+        "{} {}\t{} ways",
+        bytewise.answer,
+        bytewise.place,
+        ways.saturating_add(1)
+    )?)
+}

@@ -1,0 +1,12 @@
+pub mod LineLaws
+pub mod Numerals
+pub mod HeadLaws
+pub mod EndLaws
+pub mod ChunkLaws
+pub mod SizeLaws
+pub mod Moves
+pub mod BodyMoves
+pub mod States
+pub mod ReadingLaws
+pub mod OneAnswer
+pub mod OneTarget

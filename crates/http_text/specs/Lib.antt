@@ -1,0 +1,6 @@
+pub mod SectionEnds
+pub mod SizeLines
+pub mod ResponseHeads
+pub mod ResponseGrammar
+pub mod ResponseReading
+pub mod RequestText
