@@ -103,9 +103,11 @@ digits-become [] most all = nothing-becomes
 digits-become (b ∷ bs) most all = (
   line_end,
   line_of (b ∷ bs) [] None,
-  (record { digits = (omega arith, most, all); pad = passes-nil is_ows; extension = tt }, 
-  ap (λ x. x ++ line_end) (sym (append-nil (b ∷ bs)) ∙ sym (append-nil ((b ∷ bs) ++ [])))
-      ∙ sym (append-nil ((((b ∷ bs) ++ []) ++ []) ++ line_end))),
+  (
+    record { digits = (omega arith, most, all); pad = passes-nil is_ows; extension = tt },
+    ap (λ x. x ++ line_end) (sym (append-nil (b ∷ bs)) ∙ sym (append-nil ((b ∷ bs) ++ [])))
+        ∙ sym (append-nil ((((b ∷ bs) ++ []) ++ []) ++ line_end)),
+  ),
   omega arith,
 )
 
@@ -114,8 +116,10 @@ unfolding print_chunk_line
 blanks-become digits blanks size all = (
   line_end,
   line_of digits blanks None,
-  (record { digits = size; pad = all; extension = tt }, 
-  ap (λ x. x ++ line_end) (sym (append-nil (digits ++ blanks))) ∙ sym (append-nil (((digits ++ blanks) ++ []) ++ line_end))),
+  (
+    record { digits = size; pad = all; extension = tt },
+    ap (λ x. x ++ line_end) (sym (append-nil (digits ++ blanks))) ∙ sym (append-nil (((digits ++ blanks) ++ []) ++ line_end)),
+  ),
   omega arith,
 )
 
