@@ -109,6 +109,8 @@ class Verdict(InFolder):
             "an empty number": whole.replace("all,11", "all,"), "a number with a sign": whole.replace("all,11", "all,+11"),
             "a field more": whole.replace("all,11", "all,1,11"), "`all` is not the sum": whole.replace("all,11", "all,12"),
             "a label twice": whole.replace("total,read", "total,open"),
+            "a label twice in an interval": whole.replace("row,0,read", "row,0,open"),
+            "a row after the intervals": whole.replace("all,", "row,0,bye,1,0,1,1,1,1\nall,"),
             "an interval left out": whole.replace("interval,0", "interval,1").replace("row,0", "row,1"),
             "an interval after the ends": whole + "interval,1,0,0\n" + self.run_of_example.summary(),
             "a row of another interval": whole.replace("row,0,buy", "row,1,buy"),
@@ -229,6 +231,7 @@ class Recount(InFolder):
             "swapped": (reports, results), "another header": (results.replace("elapsed", "Elapsed"), reports),
             "no number": (results.replace("30,80", "30,8x"), reports), "no truth": (results.replace("true", "True"), reports),
             "a field less": (results.replace(",5,0\n", ",5\n"), reports), "an empty line": (results + "\n", reports),
+            "a stamp of letters": (results.replace("\n0,30", "\nx,30"), reports),
             "an empty code": (results.replace(",503,", ",,"), reports), "a sign": (results.replace("30,80", "30,-80"), reports),
             "bytes": ("\0\udcff\n", reports), "reports of another kind": (results, "refused 7 BadProp /\n"),
         }
@@ -334,6 +337,14 @@ class Watch(InFolder):
         frame = self.frame(ours, r"the run is over.*été")
         for label in ("<script>alert(1)", "two\\nlines", "caf\\xe9 \\xff", "\\u202eabc\\x1b[31m", "return\\rhere"):
             self.assertIn(label, frame)
+        self.assertEqual(watch.wait(60), 0)
+
+    def test_solo(self):
+        watch, ours = self.started(self.folder + "/out.csv")
+        watch.stdin.write(self.run_of_example.summary().encode())
+        watch.stdin.close()
+        frame = self.frame(ours, r"the run is over.*12\.0 +12\b")
+        self.assertEqual(self.rows(frame)["buy"], ["0", "0", "4", "2", "87.5", "95"])
         self.assertEqual(watch.wait(60), 0)
 
     def test_terminal_that_takes_nothing_does_not_slow_the_run(self):
