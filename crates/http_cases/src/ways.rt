@@ -60,7 +60,11 @@ fn refused(
 }
 
 /// What comes of a response in these pieces, and then the end of input.
-pub fn came<'p>(alloc: Global, head_only: bool, pieces: &[&'p [u8]]) -> anyhow::Result<Came> {
+pub fn read_pieces<'p>(
+    alloc: Global,
+    head_only: bool,
+    pieces: &[&'p [u8]],
+) -> anyhow::Result<Came> {
     let mut reader = calls::reader(alloc, head_only)?;
     let mut place = 0usize;
     for piece in pieces {
@@ -87,13 +91,13 @@ pub fn sized(alloc: Global, head_only: bool, text: &[u8], size: usize) -> anyhow
     for piece in text.chunks(size.max(1)) {
         pieces.push(piece)?;
     }
-    came(alloc, head_only, &pieces)
+    read_pieces(alloc, head_only, &pieces)
 }
 
 /// Whether each proper prefix of a response is one that ends early.
 pub fn prefixes(alloc: Global, head_only: bool, text: &[u8]) -> anyhow::Result<String> {
     for cut in 0..text.len() {
-        let way = came(alloc, head_only, &[text.get(..cut).unwrap_or(text)])?;
+        let way = read_pieces(alloc, head_only, &[text.get(..cut).unwrap_or(text)])?;
         if way.answer.as_str() != "EndEarly\tat the end" {
             return Ok(format!(in alloc; "after {cut} bytes it is {}", way.answer)?);
         }
@@ -141,7 +145,7 @@ pub fn all_ways(alloc: Global, head_only: bool, text: &[u8]) -> anyhow::Result<S
     for cut in 0..text.len() + 1 {
         let first = text.get(..cut).unwrap_or(text);
         let second = text.get(cut..).unwrap_or(&[]);
-        let way = came(alloc, head_only, &[first, second])?;
+        let way = read_pieces(alloc, head_only, &[first, second])?;
         if !agrees(&way, &bytewise, cut, text.len()) {
             return Ok(format!(in alloc;
                 "cut at {cut} it is {} {}, and byte by byte {} {}",
@@ -150,7 +154,7 @@ pub fn all_ways(alloc: Global, head_only: bool, text: &[u8]) -> anyhow::Result<S
         }
         ways = ways.saturating_add(1);
     }
-    let whole = came(alloc, head_only, &[text])?;
+    let whole = read_pieces(alloc, head_only, &[text])?;
     if !agrees(&whole, &bytewise, 0, text.len()) {
         return Ok(format!(in alloc;
             "whole it is {} {}, and byte by byte {} {}",
