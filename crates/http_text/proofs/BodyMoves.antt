@@ -8,15 +8,15 @@ use Rattle.httparse.specs.Spans.{IsChunkLineAt}
 use Rattle.jm_base.specs.declared.types.Reply.{Reply}
 use Rattle.jm_base.specs.declared.types.Wire.{Wire}
 use Rattle.jm_base.specs.declared.types.Wire.TheVariants.{BadHead, BadChunk, TooLong, EndEarly}
-use Rattle.http_text.specs.declared.scan.Scan.{Scan}
+use Rattle.http_lines.specs.declared.scan.Scan.{Scan}
 use Rattle.http_text.specs.declared.state.Phase.{Phase}
 use Rattle.http_text.specs.declared.state.Phase.TheVariants as phase
-use Rattle.http_text.specs.SectionEnds.{section_end, scanned, before_trailer}
+use Rattle.http_lines.specs.SectionEnds.{section_end, scanned, before_trailer, EndsPast}
 use Rattle.http_text.specs.ResponseHeads.{IsSection}
 use Rattle.http_text.specs.ResponseGrammar as grammar
-use Rattle.http_text.specs.ResponseGrammar.{Answer, Whole, Refused, Open, Place, Sized, Rest, SizeLine, Chunk, ChunkEnd, Trailer, End, Gives, part_limit, body_limit, EndsPast, with_body, room, place_after_size}
+use Rattle.http_text.specs.ResponseGrammar.{Answer, Whole, Refused, Open, Place, Sized, Rest, SizeLine, Chunk, ChunkEnd, Trailer, End, Gives, part_limit, body_limit, with_body, room, place_after_size}
 use Rattle.http_text.specs.ResponseReading.{Reading, Continues, Stands, Advances}
-use Rattle.http_text.proofs.EndLaws.{end-stable, scanned-append}
+use Rattle.http_lines.proofs.EndLaws.{end-stable, scanned-append}
 use Rattle.http_text.proofs.ChunkLaws.{reads-more, no-line-in, no-line, may-line}
 use Rattle.http_text.specs.declared.sizes.SizeScan.{SizeScan}
 use Rattle.http_text.specs.SizeLines.{before_size, scanned_size, is_known}

@@ -7,14 +7,13 @@ use Rattle.httparse.specs.Grammar.{ReadsResponse, ResponseHead, status_code, rea
 use Rattle.httparse.specs.Spans.{IsResponseAt, span_bytes, header_bytes, name_and_value}
 use Rattle.jm_base.specs.declared.types.Reply.{Reply}
 use Rattle.http_text.specs.declared.fields.Framing.{Framing}
-use Rattle.http_text.specs.declared.scan.Line.TheVariants.{Fresh}
-use Rattle.http_text.specs.SectionEnds.{after_first_line, without_last}
-use Rattle.http_text.specs.ResponseHeads.{Says, framing_after, no_framing, framing_of}
+use Rattle.http_lines.specs.declared.scan.Line.TheVariants.{Fresh}
+use Rattle.http_text.specs.ResponseHeads.{Says, framing_in, framing_of, after_first_line, without_last}
 
 pub says-from : (text : List ℕ) (headers : List HeaderSpan) (spans : ResponseSpans) (h : ResponseHead) (framing : Framing) (message lines body : List ℕ)
     → IsResponseAt text headers spans h → spans.len ≡ length text → spans.headers ≤ length headers → length headers ≡ 128 → 100 ≤ spans.code
     → message ≡ span_bytes text spans.reason → lines ≡ without_last (after_first_line Fresh text) → body ≡ []
-    → Some framing ≡ framing_after no_framing (map (header_bytes text) (take spans.headers headers))
+    → Some framing ≡ framing_in (map (header_bytes text) (take spans.headers headers))
     → Says text (record { code = spans.code; message = message; headers = lines; body = body }) framing
 says-from text headers spans h framing message lines body at whole count room low message_is lines_are empty framing_is = record {
   head = h;
@@ -25,5 +24,5 @@ says-from text headers spans h framing message lines body at whole count room lo
   );
   code = subst (λ n. 100 ≤ n) at.code low;
   reply_is = rw (message_is, lines_are, empty, at.code, at.reason) refl;
-  framing_is = sym (framing_is ∙ ap (framing_after no_framing) at.fields);
+  framing_is = sym (framing_is ∙ ap framing_in at.fields);
 }

@@ -1,7 +1,4 @@
-pub mod LineLaws
-pub mod Numerals
 pub mod HeadLaws
-pub mod EndLaws
 pub mod ChunkLaws
 pub mod SizeLaws
 pub mod Moves

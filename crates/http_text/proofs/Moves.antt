@@ -8,16 +8,16 @@ use Rattle.httparse.specs.Grammar.{ChunkLine, ReadsChunkLine, HasNoChunkLine, Ne
 use Rattle.jm_base.specs.declared.types.Reply.{Reply}
 use Rattle.jm_base.specs.declared.types.Wire.{Wire}
 use Rattle.jm_base.specs.declared.types.Wire.TheVariants.{BadHead, BadChunk, TooLong, EndEarly}
-use Rattle.http_text.specs.declared.scan.Scan.{Scan}
+use Rattle.http_lines.specs.declared.scan.Scan.{Scan}
 use Rattle.http_text.specs.declared.fields.Framing.{Framing}
 use Rattle.http_text.specs.declared.state.Phase.{Phase}
 use Rattle.http_text.specs.declared.state.Phase.TheVariants as phase
-use Rattle.http_text.specs.SectionEnds.{section_end, scanned, before_head, before_trailer}
+use Rattle.http_lines.specs.SectionEnds.{section_end, scanned, before_head, before_trailer, EndsPast}
 use Rattle.http_text.specs.ResponseHeads.{Says, IsBadHead, IsSection, is_interim, is_bodiless}
 use Rattle.http_text.specs.ResponseGrammar as grammar
-use Rattle.http_text.specs.ResponseGrammar.{Answer, Whole, Refused, Open, Place, Heads, Sized, Rest, SizeLine, Chunk, ChunkEnd, Trailer, End, Gives, Response, part_limit, body_limit, EndsPast, with_body, room, place_for, place_after_head, place_after_size}
+use Rattle.http_text.specs.ResponseGrammar.{Answer, Whole, Refused, Open, Place, Heads, Sized, Rest, SizeLine, Chunk, ChunkEnd, Trailer, End, Gives, Response, part_limit, body_limit, with_body, room, place_for, place_after_head, place_after_size}
 use Rattle.http_text.specs.ResponseReading.{Reading, Continues, Stands, Advances, Leads, first_phase, phase_for, next_head}
-use Rattle.http_text.proofs.EndLaws.{chosen, end-append, end-stable, end-within, end-take, scanned-append}
+use Rattle.http_lines.proofs.EndLaws.{chosen, end-append, end-stable, end-within, end-take, scanned-append}
 use Rattle.http_text.specs.SizeLines.{before_size}
 use Rattle.http_text.proofs.ChunkLaws.{reads-more, no-line-in, no-line, may-line}
 use Rattle.http_text.proofs.SizeLaws.{shows-none}

@@ -8,8 +8,9 @@ use Rattle.httparse.specs.Grammar.{ChunkLine, ReadsChunkLine, HasNoChunkLine, Ne
 use Rattle.jm_base.specs.declared.types.Reply.{Reply}
 use Rattle.http_text.specs.declared.fields.Framing.{Framing}
 use Rattle.http_text.specs.ResponseHeads.{Says, IsBadHead, IsSection, is_interim, bare_reply, framing_of}
+use Rattle.http_lines.specs.SectionEnds.{EndsPast}
 use Rattle.http_text.specs.ResponseGrammar as grammar
-use Rattle.http_text.specs.ResponseGrammar.{Answer, Place, Heads, ChunkEnd, SizeLine, End, Gives, part_limit, EndsPast, with_body, place_after_head, place_after_size}
+use Rattle.http_text.specs.ResponseGrammar.{Answer, Place, Heads, ChunkEnd, SizeLine, End, Gives, part_limit, with_body, place_after_head, place_after_size}
 
 none-some : (o : Option ℕ) (n : ℕ) → o ≡ None → o ≡ Some n → ⊥
 none-some o n a b = cc

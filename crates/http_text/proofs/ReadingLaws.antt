@@ -10,7 +10,7 @@ use Rattle.http_text.specs.declared.state.Phase.{Phase}
 use Rattle.http_text.specs.declared.state.Phase.TheVariants as phase
 use Rattle.http_text.specs.declared.answers.Fed.TheVariants as fed
 use Rattle.http_text.specs.declared.error.WireError.TheVariants as error
-use Rattle.http_text.specs.SectionEnds.{section_end, before_head, before_trailer}
+use Rattle.http_lines.specs.SectionEnds.{section_end, before_head, before_trailer}
 use Rattle.http_text.specs.ResponseGrammar as grammar
 use Rattle.http_text.specs.ResponseGrammar.{Answer, Whole, Refused, Open, Heads, Gives, Response, ended, with_body}
 use Rattle.http_text.specs.ResponseReading.{Reading, Continues, Stands, Read, Advances, IsReading, IsDone, HasAnswered, HasFinished, answer_of, finish_of}

@@ -1,4 +1,3 @@
-pub mod SectionEnds
 pub mod SizeLines
 pub mod ResponseHeads
 pub mod ResponseGrammar

@@ -12,7 +12,7 @@ use Rattle.url.specs.Host.{host_text}
 use Rattle.url.specs.declared.error.ParseError.{ParseError}
 use Rattle.jm_base.specs.declared.types.Method.{Method}
 use Rattle.jm_base.specs.declared.types.Method.TheVariants.{Get, Post, Put, Delete, Head}
-use Rattle.http_text.specs.ResponseHeads.{length_value}
+use Rattle.http_lines.specs.HeaderFields.{length_value}
 use Rattle.http_text.specs.declared.request.NamedText.{NamedText}
 use Rattle.http_text.specs.declared.request.HttpSettings.{HttpSettings}
 use Rattle.http_text.specs.declared.request.Target.{Target}
@@ -59,12 +59,13 @@ form_of s = extend_pairs [] (map pair_of s.params)
 abbrev pub has_params : HttpSettings → Bool
 has_params s = nat_lt 0 (length s.params)
 
--- the path that is asked for, with the parameters after `?`, or `&` where the path has a `?`, unless they are the body
+-- what parts a path and the parameters after it: `?`, or `&` where the path has a `?`
+abbrev pub query_mark : List ℕ → List ℕ
+query_mark path = if list_any (λ b. b == 63) path then codes "&" else codes "?"
+
+-- the path that is asked for, with the parameters after it unless they are the body
 abbrev pub asked_path : HttpSettings → List ℕ
-asked_path s =
-    if has_params s && not (sends_form s.method)
-    then slashed s.path ++ (if list_any (λ b. b == 63) (slashed s.path) then codes "&" else codes "?") ++ form_of s
-    else slashed s.path
+asked_path s = if has_params s && not (sends_form s.method) then slashed s.path ++ query_mark s.path ++ form_of s else slashed s.path
 
 -- http://HOST:PORT and the path
 abbrev pub url_text : List ℕ → ℕ → List ℕ → List ℕ

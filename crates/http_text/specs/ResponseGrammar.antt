@@ -1,11 +1,11 @@
 -- The grammar of a response, after RFC 9112: what the bytes from a place on come to.
-use Rattle.std.specs.Prelude.{◌≡◌, ℕ, ◌+◌, ◌-◌, ◌<◌, ◌≤◌, ◌==◌, Bool, true, false, nat_lt, nat_le, List, [], ◌∷◌, ◌++◌, length, take, drop, Option, Some, None, IfSome, if◌then◌else◌, codes}
+use Rattle.std.specs.Prelude.{◌≡◌, ℕ, ◌+◌, ◌-◌, ◌<◌, ◌≤◌, ◌==◌, Bool, true, false, nat_lt, nat_le, List, [], ◌∷◌, ◌++◌, length, take, drop, Option, Some, None, if◌then◌else◌}
 use Rattle.httparse.specs.Grammar.{ChunkLine, ReadsChunkLine, print_chunk_line, chunk_size, HasNoChunkLine, NeverHasChunkLine, MayBecomeChunkLine}
 use Rattle.jm_base.specs.declared.types.Reply.{Reply}
 use Rattle.jm_base.specs.declared.types.Wire.{Wire}
 use Rattle.jm_base.specs.declared.types.Wire.TheVariants.{BadHead, BadChunk, TooLong, EndEarly}
 use Rattle.http_text.specs.declared.fields.Framing.{Framing}
-use Rattle.http_text.specs.SectionEnds.{section_end, before_head, before_trailer}
+use Rattle.http_lines.specs.SectionEnds.{section_end, before_head, before_trailer, EndsPast}
 use Rattle.http_text.specs.ResponseHeads.{IsSection, Says, IsBadHead, is_interim, is_bodiless}
 
 -- what bytes come to
@@ -51,10 +51,6 @@ with_body reply bytes = record reply { body = reply.body ++ bytes }
 -- how many more bytes the body may have
 abbrev pub room : Reply → ℕ
 room reply = body_limit - length reply.body
-
--- the bytes up to a section's end pass the room, or would
-abbrev pub EndsPast : ℕ → Option ℕ → Type 0
-EndsPast most end = IfSome end (λ n. most < n)
 
 -- the place before a body of this length, or of none that is known
 abbrev pub place_for : Reply → Option ℕ → Place

@@ -1,16 +1,15 @@
 -- What a whole head says of its response (RFC 9112, sections 4 to 6).
-use Rattle.std.specs.Prelude.{◌≡◌, ◌≤◌, ◌<◌, ℕ, ◌+◌, ◌==◌, ◌^◌, Bool, true, false, ◌&&◌, ◌||◌, not, nat_lt, nat_le, List, [], ◌∷◌, length, map, Option, Some, None, if◌then◌else◌, codes}
-use Rattle.std.specs.List.{list_all}
-use Rattle.std.specs.Char.{is_ascii_digit}
-use Rattle.std.specs.Option.{option_and_then}
+use Rattle.std.specs.Prelude.{◌≡◌, ◌≤◌, ℕ, ◌-◌, ◌==◌, Bool, true, false, ◌&&◌, ◌||◌, nat_lt, nat_le, List, [], ◌∷◌, length, map, take, slice_index, Option, Some, None, if◌then◌else◌, codes}
+use Rattle.std.specs.Option.{option_and_then, option_map}
 use Rattle.std.specs.Str.{str_eq_ignore_ascii_case}
-use Rattle.std.specs.Str.Parse.{digits_value}
 use Rattle.httparse.specs.Grammar.{ReadsResponse, ResponseHead, status_code, reason_phrase, ReadsSection, Field, LineEnd}
 use Rattle.httparse.specs.Spans.{name_and_value}
 use Rattle.jm_base.specs.declared.types.Reply.{Reply}
 use Rattle.http_text.specs.declared.fields.Framing.{Framing}
-use Rattle.http_text.specs.declared.scan.Line.TheVariants.{Fresh}
-use Rattle.http_text.specs.SectionEnds.{after_first_line, without_last}
+use Rattle.http_lines.specs.declared.scan.Line.{Line}
+use Rattle.http_lines.specs.declared.scan.Line.TheVariants.{Fresh}
+use Rattle.http_lines.specs.SectionEnds.{next_line, is_filled}
+use Rattle.http_lines.specs.HeaderFields.{is_named, length_after}
 
 -- the bytes are the head to their last byte, with at most 128 header fields
 abbrev pub IsHead : List ℕ → ResponseHead → Type 0
@@ -20,39 +19,40 @@ IsHead text h = ReadsResponse text h [] × (length h.fields ≤ 128)
 abbrev pub IsSection : List ℕ → Type 0
 IsSection text = (fields : List Field) × (last : LineEnd) × ReadsSection text fields last [] × (length fields ≤ 128)
 
--- Content-Length = 1*DIGIT, of a value below 2^63
-abbrev pub length_value : List ℕ → Option ℕ
-length_value value =
-    if nat_lt 0 (length value) && (list_all is_ascii_digit value && nat_lt (digits_value 10 value) (2 ^ 63))
-    then Some (digits_value 10 value) else None
+-- what one more field says of chunks: each coding must be `chunked`
+abbrev pub next_coding : List ℕ × List ℕ → Bool → Option Bool
+next_coding field chunked =
+    if is_named (codes "transfer-encoding") field
+    then (if str_eq_ignore_ascii_case field.1 (codes "chunked") then Some true else None)
+    else Some chunked
 
--- a length counts where it is the first, or the same again
-abbrev pub with_length : Framing → ℕ → Option Framing
-with_length f n = agree f.size where
-  agree : Option ℕ → Option Framing
-  agree None = Some (record f { size = Some n })
-  agree (Some m) = if m == n then Some f else None
+-- whether the fields say that the body comes in chunks, one after the other
+abbrev pub chunked_after : Bool → List (List ℕ × List ℕ) → Option Bool
+chunked_after chunked [] = Some chunked
+chunked_after chunked (field ∷ fields) = option_and_then (λ c. chunked_after c fields) (next_coding field chunked)
 
--- what one field adds: a coding must be `chunked`, and lengths must agree
-abbrev pub with_field : List ℕ × List ℕ → Framing → Option Framing
-with_field field f =
-    if str_eq_ignore_ascii_case field.0 (codes "transfer-encoding")
-    then (if str_eq_ignore_ascii_case field.1 (codes "chunked") then Some (record f { chunked = true }) else None)
-    else if str_eq_ignore_ascii_case field.0 (codes "content-length")
-    then option_and_then (with_length f) (length_value field.1)
-    else Some f
-
--- what all fields together say, one after the other
-abbrev pub framing_after : Framing → List (List ℕ × List ℕ) → Option Framing
-framing_after f [] = Some f
-framing_after f (field ∷ fields) = option_and_then (λ g. framing_after g fields) (with_field field f)
-
-abbrev pub no_framing : Framing
-no_framing = record { chunked = false; size = None }
+-- how fields frame a body: by chunks, and by a length
+abbrev pub framing_in : List (List ℕ × List ℕ) → Option Framing
+framing_in fields =
+    option_and_then (λ chunked. option_map (λ size. record { chunked = chunked; size = size }) (length_after None fields)) (chunked_after false fields)
 
 -- how the fields of a head frame its body, where they are right
 abbrev pub framing_of : ResponseHead → Option Framing
-framing_of h = framing_after no_framing (map name_and_value h.fields)
+framing_of h = framing_in (map name_and_value h.fields)
+
+-- the bytes after the first line that is not empty
+abbrev pub after_first_line : Line → List ℕ → List ℕ
+after_first_line line [] = []
+after_first_line line (b ∷ bs) =
+    if b == 10 then (if is_filled line then bs else after_first_line Fresh bs) else after_first_line (next_line line b) bs
+
+-- how many bytes the empty line at the end has: LF, or CR LF
+abbrev pub last_line : List ℕ → ℕ
+last_line bytes = if nat_le 2 (length bytes) && (slice_index bytes (length bytes - 2) == 13) then 2 else 1
+
+-- without the empty line at the end
+abbrev pub without_last : List ℕ → List ℕ
+without_last bytes = take (length bytes - last_line bytes) bytes
 
 -- the reply of a head, before its body
 abbrev pub bare_reply : List ℕ → ResponseHead → Reply

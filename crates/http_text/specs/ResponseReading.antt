@@ -4,7 +4,7 @@ use Rattle.httparse.specs.Grammar.{HasNoChunkLine, MayBecomeChunkLine}
 use Rattle.jm_base.specs.declared.types.Reply.{Reply}
 use Rattle.jm_base.specs.declared.types.Wire.{Wire}
 use Rattle.jm_base.specs.declared.types.Wire.TheVariants.{EndEarly, TooLong}
-use Rattle.http_text.specs.declared.scan.Scan.{Scan}
+use Rattle.http_lines.specs.declared.scan.Scan.{Scan}
 use Rattle.http_text.specs.declared.fields.Framing.{Framing}
 use Rattle.http_text.specs.declared.state.State.{State}
 use Rattle.http_text.specs.declared.state.Growth.{Growth}
@@ -15,9 +15,9 @@ use Rattle.http_text.specs.declared.answers.Fed.{Fed}
 use Rattle.http_text.specs.declared.answers.Fed.TheVariants as fed
 use Rattle.http_text.specs.declared.error.WireError.{WireError}
 use Rattle.http_text.specs.declared.error.WireError.TheVariants as error
-use Rattle.http_text.specs.SectionEnds.{section_end, scanned, before_head, before_trailer}
+use Rattle.http_lines.specs.SectionEnds.{section_end, scanned, before_head, before_trailer, EndsPast}
 use Rattle.http_text.specs.SizeLines.{before_size, Shows}
-use Rattle.http_text.specs.ResponseGrammar.{Answer, Whole, Refused, Open, Heads, Sized, Rest, SizeLine, Chunk, ChunkEnd, Trailer, End, Place, Gives, Response, ended, part_limit, body_limit, EndsPast}
+use Rattle.http_text.specs.ResponseGrammar.{Answer, Whole, Refused, Open, Heads, Sized, Rest, SizeLine, Chunk, ChunkEnd, Trailer, End, Place, Gives, Response, ended, part_limit, body_limit}
 
 -- how a reader stands: whether no body comes, where it is, the bytes of the part that is being read, and the reply so far
 pub record Reading : Type 0 where

@@ -1,12 +1,11 @@
 // What a whole head says.
 
 ghost use Rattle.std.specs.Prelude.{◌≡◌, ◌≤◌, ◌<◌, length, IfOk, IfSome, IfNone, MatchOption, IsTrue, ◌↔◌};
-ghost use Rattle.http_text.specs.ResponseHeads.{Says, IsBadHead, IsSection};
-ghost use Rattle.http_text.specs.SectionEnds.{after_first_line, without_last};
-ghost use Rattle.http_text.specs.declared.scan.Line.TheVariants.{Fresh};
+ghost use Rattle.http_text.specs.ResponseHeads.{Says, IsBadHead, IsSection, after_first_line, without_last};
+ghost use Rattle.http_lines.specs.declared.scan.Line.TheVariants.{Fresh};
 
 use crate::fields::{Framing, framing_of};
-use crate::scan::{Line, after_byte};
+use http_lines::{Line, after_byte};
 use httparse::Status;
 use httparse::spans::{EMPTY_HEADER_SPAN, parse_headers, parse_response};
 use jm_base::{M, Reply, Text};

@@ -8,7 +8,6 @@ mod head;
 mod laws;
 mod reader;
 mod request;
-mod scan;
 mod sizes;
 mod state;
 

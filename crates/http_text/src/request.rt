@@ -1,6 +1,6 @@
 // The bytes of an HTTP request, and where they go.
 
-ghost use Rattle.std.specs.Prelude.{◌≡◌, ◌==◌, ◌++◌, length, ◌<◌, ◌≤◌, [], map, filter, IfOk, OnOk, IsErrOf, MatchOption, Ok, Some, None, not, decimal};
+ghost use Rattle.std.specs.Prelude.{◌≡◌, ◌==◌, ◌++◌, length, ◌<◌, ◌≤◌, [], map, filter, IfOk, OnOk, IsErrOf, MatchOption, Ok, Some, None, not};
 ghost use Rattle.std.specs.List.{flat_map, list_all, list_any};
 ghost use Rattle.form_urlencoded.specs.Form.{extend_pairs, byte_serialize};
 ghost use Rattle.form_urlencoded.specs.Form as form;
@@ -8,18 +8,26 @@ ghost use Rattle.httparse.specs.Grammar.{is_token, is_token_byte};
 ghost use Rattle.url.specs.Parser.{parse_url};
 ghost use Rattle.url.specs.Parts.{host_or_empty};
 ghost use Rattle.url.specs.Host.{host_text};
-ghost use Rattle.http_text.specs.RequestText.{HasUrl, HasNoUrl, HasNoTargetAt, IsTargetAt, IsTarget, IsBadTarget, port_of, port_in, slashed, asked_path, url_text, body_of, form_of, is_form, is_left_out, is_valid_field, has_type, has_params, breaks_line, header_line, method_text, sends_form, pair_of, query_text, port_text, type_line, length_line, request_text, start_line, target_text, host_line, header_lines, head_end};
+ghost use Rattle.http_text.specs.RequestText.{HasUrl, HasNoUrl, HasNoTargetAt, IsTargetAt, IsTarget, IsBadTarget, port_of, port_in, slashed, query_mark, asked_path, url_text, body_of, form_of, is_form, is_left_out, is_valid_field, has_type, has_params, breaks_line, header_line, method_text, sends_form, pair_of, query_text, port_text, type_line, length_line, request_text, start_line, target_text, host_line, header_lines, head_end};
 
 use crate::error::TargetError;
-use crate::fields::length_value;
 use form_urlencoded::byte_serialize;
-use itoa::Buffer;
+use http_lines::{add, add_decimal, length_value};
 use jm_base::{Items, M, Method, NoMemory, Text};
 use std::alloc::Global;
 use url::{ParseError, Url};
 
 /// The most bytes of a request.
 const REQUEST_LIMIT: usize = 1_048_576;
+
+/// How many bytes stand around a pair of texts, at most: those of a header field. A parameter has two.
+const PAIR_ROOM: usize = 4;
+
+/// How many bytes the text of a URL has beside its host, its path and its parameters, at most.
+const URL_ROOM: usize = 16;
+
+/// How many bytes the head of a request has beside its URL and its header fields, at most.
+const HEAD_ROOM: usize = 160;
 
 /// A parameter or a header field of a request.
 #[derive(Drop)]
@@ -174,14 +182,6 @@ fn has_type(settings: &HttpSettings) -> bool
         .eq_ignore_ascii_case(b"content-type"))
 }
 
-/// Adds bytes.
-fn add(out: &mut Vec<u8>, bytes: &[u8]) -> M<()>
-    ensures { OnOk result (out.new.items ≡ out.old.items ++ bytes.now) }
-{
-    out.extend_from_slice(bytes)?;
-    Ok(())
-}
-
 /// Adds a name or a value of a parameter, as a form writes it.
 fn add_serialized(out: &mut Vec<u8>, bytes: &[u8]) -> M<()>
     ensures { OnOk result (out.new.items ≡ out.old.items ++ byte_serialize bytes.now) }
@@ -204,11 +204,25 @@ fn append_pair(out: &mut Vec<u8>, field: &NamedText) -> M<()>
     add_serialized(out, field.value.bytes())
 }
 
+/// How many bytes pairs of texts have as header fields, and as parameters at most where none is escaped.
+fn room_of(fields: &[NamedText]) -> usize {
+    let mut room: usize = 0;
+    for field in fields {
+        let texts = field
+            .name
+            .bytes()
+            .len()
+            .saturating_add(field.value.bytes().len());
+        room = room.saturating_add(texts).saturating_add(PAIR_ROOM);
+    }
+    room
+}
+
 /// The parameters as a form writes them.
 fn form_of(alloc: Global, settings: &HttpSettings) -> M<Vec<u8>>
     ensures { IfOk result (λ v. v.items ≡ form_of settings.now) }
 {
-    let mut out = Vec::new(alloc);
+    let mut out = Vec::with_capacity(alloc, room_of(settings.params.as_slice()))?;
     for field in settings.params.as_slice() {
         append_pair(&mut out, field)?;
     }
@@ -222,55 +236,70 @@ fn is_form(settings: &HttpSettings) -> bool
     !settings.params.as_slice().is_empty() && sends_form(settings.method)
 }
 
-/// The path with a slash before it.
-fn slashed(alloc: Global, path: &[u8]) -> M<Vec<u8>>
-    ensures { IfOk result (λ v. v.items ≡ slashed path.now) }
+/// Adds the path, with a slash before it where it does not begin with one.
+fn add_slashed(out: &mut Vec<u8>, path: &[u8]) -> M<()>
+    ensures { OnOk result (out.new.items ≡ out.old.items ++ slashed path.now) }
 {
-    let mut out = Vec::new(alloc);
-    if !matches!(path, [b'/', ..]) {
-        add(&mut out, b"/")?;
+    if matches!(path, [b'/', ..]) {
+        return add(out, path);
     }
-    add(&mut out, path)?;
-    Ok(out)
+    add(out, b"/")?;
+    add(out, path)
 }
 
-/// The path, and the parameters where they are not the body.
-fn asked_path(alloc: Global, settings: &HttpSettings) -> M<Vec<u8>>
-    ensures { IfOk result (λ v. v.items ≡ asked_path settings.now) }
+/// What parts a path and the parameters after it.
+fn mark_of(path: &[u8]) -> &'static [u8]
+    ensures { result.now ≡ query_mark path.now }
 {
-    let mut out = slashed(alloc, settings.path.bytes())?;
-    if settings.params.as_slice().is_empty() || sends_form(settings.method) {
-        return Ok(out);
-    }
+    if holds(path, b'?') { b"&" } else { b"?" }
+}
+
+/// Adds what parts the path and the parameters, and the parameters.
+fn add_params(alloc: Global, out: &mut Vec<u8>, settings: &HttpSettings) -> M<()>
+    ensures { OnOk result (out.new.items ≡ out.old.items ++ query_mark settings.now.path ++ form_of settings.now) }
+{
     let form = form_of(alloc, settings)?;
-    if holds(&out, b'?') {
-        add(&mut out, b"&")?;
-    } else {
-        add(&mut out, b"?")?;
-    }
-    add(&mut out, &form)?;
-    Ok(out)
+    add(out, mark_of(settings.path.bytes()))?;
+    add(out, &form)
 }
 
-/// Adds a number.
-fn add_decimal(out: &mut Vec<u8>, number: usize) -> M<()>
-    ensures { OnOk result (out.new.items ≡ out.old.items ++ decimal number) }
+/// Adds the path, and the parameters where they are not the body.
+fn add_asked_path(alloc: Global, out: &mut Vec<u8>, settings: &HttpSettings) -> M<()>
+    ensures { OnOk result (out.new.items ≡ out.old.items ++ asked_path settings.now) }
 {
-    let mut digits = Buffer::new();
-    add(out, digits.format(number).as_bytes())
+    add_slashed(out, settings.path.bytes())?;
+    if settings.params.as_slice().is_empty() || sends_form(settings.method) {
+        return Ok(());
+    }
+    add_params(alloc, out, settings)
+}
+
+/// How many bytes the text of a URL has at most, where no byte of a parameter is escaped.
+fn url_room(settings: &HttpSettings) -> usize {
+    let query = if sends_form(settings.method) {
+        0
+    } else {
+        room_of(settings.params.as_slice())
+    };
+    settings
+        .host
+        .bytes()
+        .len()
+        .saturating_add(settings.path.bytes().len())
+        .saturating_add(query)
+        .saturating_add(URL_ROOM)
 }
 
 /// The text of the URL that is asked for.
 fn url_text(alloc: Global, settings: &HttpSettings, port: u16) -> M<Vec<u8>>
     ensures { IfOk result (λ v. v.items ≡ url_text settings.now.host port (asked_path settings.now)) }
 {
-    let mut out = Vec::new(alloc);
+    let mut out = Vec::with_capacity(alloc, url_room(settings))?;
     add(&mut out, b"http://")?;
     add(&mut out, settings.host.bytes())?;
     add(&mut out, b":")?;
     add_decimal(&mut out, usize::from(port))?;
-    let path = asked_path(alloc, settings)?;
-    add(&mut out, &path)?;
+    add_asked_path(alloc, &mut out, settings)?;
     Ok(out)
 }
 
@@ -385,12 +414,21 @@ fn add_end(out: &mut Vec<u8>, settings: &HttpSettings, body: &[u8]) -> M<()>
     add(out, body)
 }
 
+/// How many bytes a request has, at most.
+fn request_room(settings: &HttpSettings, url: &Url, body: &[u8]) -> usize {
+    url.as_str()
+        .len()
+        .saturating_add(room_of(settings.headers.as_slice()))
+        .saturating_add(body.len())
+        .saturating_add(HEAD_ROOM)
+}
+
 /// The bytes of the request.
 fn request_text(alloc: Global, settings: &HttpSettings, port: u16, url: &Url) -> M<Vec<u8>>
     ensures { IfOk result (λ v. v.items ≡ request_text settings.now port url.now) }
 {
     let body = body_of(alloc, settings)?;
-    let mut out = Vec::new(alloc);
+    let mut out = Vec::with_capacity(alloc, request_room(settings, url, &body))?;
     add_start(&mut out, settings.method, url)?;
     add_host(&mut out, port, url)?;
     add(&mut out, b"Connection: close\r\n")?;

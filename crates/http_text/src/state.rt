@@ -5,15 +5,15 @@ ghost use Rattle.jm_base.specs.declared.types.Reply.{Reply};
 ghost use Rattle.httparse.specs.Grammar.{HasNoChunkLine, NeverHasChunkLine, MayBecomeChunkLine};
 ghost use Rattle.http_text.specs.ResponseGrammar.{part_limit, body_limit, Heads, room};
 ghost use Rattle.http_text.specs.ResponseReading.{reading_of, Advances, Stands, IsReading, Grows, GrowsBody, first_phase, next_head, Leads, answer_of, finish_of};
-ghost use Rattle.http_text.specs.SectionEnds.{section_end, before_head, before_trailer};
+ghost use Rattle.http_lines.specs.SectionEnds.{section_end, before_head, before_trailer};
 ghost use Rattle.http_text.specs.SizeLines.{before_size, is_known, scanned_size};
 
 use crate::answers::Fed;
 use crate::error::WireError;
 use crate::fields::Framing;
 use crate::head::{is_section, read_head};
-use crate::scan::{HEAD, Scan, TRAILER};
 use crate::sizes::{SIZE, SizeScan};
+use http_lines::{HEAD, Scan, TRAILER};
 use httparse::{Status, parse_chunk_size};
 use jm_base::{M, NoMemory, Reply, Text, Wire};
 use std::alloc::Global;

@@ -1,5 +1,5 @@
 use Rattle.std.proofs.Common.{◌≡◌, sym, ◌∙◌, refl, arith, ap}
-use Rattle.http_text.specs.SectionEnds.{without_last}
+use Rattle.http_text.specs.ResponseHeads.{without_last}
 use Rattle.http_text.proofs.HeadLaws.{says-from}
 use Rattle.http_text.proofs.head.read_head.Goals as goal
 

@@ -3,8 +3,7 @@ use Rattle.std.proofs.lemmas.List.{take_all}
 use Rattle.jm_base.specs.declared.types.Wire.TheVariants.{TooLong}
 use Rattle.http_text.specs.declared.state.State.{State}
 use Rattle.http_text.specs.declared.state.Phase.TheVariants as phase
-use Rattle.http_text.specs.SectionEnds.{section_end}
-use Rattle.http_text.specs.ResponseGrammar.{EndsPast}
+use Rattle.http_lines.specs.SectionEnds.{section_end, EndsPast}
 use Rattle.http_text.specs.ResponseReading.{reading_of, Advances}
 use Rattle.http_text.proofs.Moves.{move-at, from-at, head-open, head-long, head-ends}
 use Rattle.http_text.proofs.state.State.take_head.Goals as goal

@@ -6,7 +6,7 @@ use Rattle.httparse.specs.Spans.{IsChunkLineAt}
 use Rattle.jm_base.specs.declared.types.Wire.TheVariants.{BadChunk}
 use Rattle.http_text.specs.declared.state.State.{State}
 use Rattle.http_text.specs.declared.state.Phase.TheVariants as phase
-use Rattle.http_text.specs.SectionEnds.{before_trailer}
+use Rattle.http_lines.specs.SectionEnds.{before_trailer}
 use Rattle.http_text.specs.ResponseReading.{reading_of}
 use Rattle.http_text.proofs.Moves.{move-at, stands-at}
 use Rattle.http_text.specs.SizeLines.{is_known}

@@ -3,9 +3,8 @@ use Rattle.std.proofs.lemmas.List.{take_all}
 use Rattle.jm_base.specs.declared.types.Wire.TheVariants.{TooLong, BadChunk}
 use Rattle.http_text.specs.declared.state.State.{State}
 use Rattle.http_text.specs.declared.state.Phase.TheVariants as phase
-use Rattle.http_text.specs.SectionEnds.{section_end}
+use Rattle.http_lines.specs.SectionEnds.{section_end, EndsPast}
 use Rattle.http_text.specs.ResponseHeads.{IsSection}
-use Rattle.http_text.specs.ResponseGrammar.{EndsPast}
 use Rattle.http_text.specs.ResponseReading.{reading_of}
 use Rattle.http_text.proofs.Moves.{move-at}
 use Rattle.http_text.proofs.BodyMoves.{trailer-open, trailer-long, trailer-good, trailer-bad}

@@ -1,0 +1,2 @@
+pub mod SectionEnds
+pub mod HeaderFields

@@ -1,0 +1,4 @@
+pub mod HeadLaws
+pub mod ReadingLaws
+pub mod MirrorLaws
+pub mod OneAnswer

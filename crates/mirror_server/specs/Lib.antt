@@ -1,0 +1,3 @@
+pub mod RequestGrammar
+pub mod RequestReading
+pub mod Mirroring
