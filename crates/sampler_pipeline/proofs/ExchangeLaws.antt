@@ -1,6 +1,6 @@
 -- One request between two readings makes its run.
-use Rattle.std.proofs.Common.{◌≡◌, ℕ, ◌-◌, [], refl}
-use Rattle.std.specs.Prelude.{Result, Ok, Err, OnErr}
+use Rattle.std.proofs.Common.{◌≡◌, ℕ, ◌-◌, [], Some, refl}
+use Rattle.std.specs.Prelude.{Result, Ok, Err, OnErr, codes}
 use Rattle.jm_base.specs.declared.types.Request.{Request}
 use Rattle.jm_base.specs.declared.types.Outcome.{Outcome}
 use Rattle.jm_base.specs.Run.{over, ◌>>=◌, reading, outcome_of}
@@ -8,7 +8,7 @@ use Rattle.jm_base.specs.Outside.{Account, Goes, TellsNothing}
 use Rattle.jm_base.proofs.RunLaws.{goes-append, goes-bind, goes-nothing, goes-tells_nothing}
 use Rattle.var_functions.specs.Came.{LeftOf}
 use Rattle.sampler_pipeline.specs.declared.exchange.Exchange.{Exchange}
-use Rattle.sampler_pipeline.specs.Exchanges.{capped, reply_of, answered, exchange}
+use Rattle.sampler_pipeline.specs.Exchanges.{capped, reply_of, fault_reply, answered, exchange, unasked}
 
 abbrev pub exchanged : ℕ → ℕ → Outcome → Exchange
 exchanged first second outcome = record { stamp = first; answer = answered (capped (second - first)) (reply_of outcome) }
@@ -54,3 +54,25 @@ after_outcome a b c d n t q o first asked same =
 pub after_second : (a b c d : Account) (n t u : ℕ) (q : Request) (o : Outcome) → Goes a reading [] (over t) b → Goes b (outcome_of n q) [] (over o) c → Goes c reading [] (over u) d
     → LeftOf a (exchange n q) d
 after_second a b c d n t u q o first asked second = (_, exchange_goes n t u q o first asked second (exchanged t u o) refl)
+
+-- ---- two readings alone
+
+abbrev pub left_unasked : ℕ → ℕ → Exchange
+left_unasked first second = record { stamp = first; answer = answered (capped (second - first)) (Some (fault_reply (codes "bad target"))) }
+
+pub unasked_goes : {a b c : Account} (t u : ℕ) → Goes a reading [] (over t) b → Goes b reading [] (over u) c → (x : Exchange) → x ≡ left_unasked t u → Goes a unasked [] (over x) c
+unfolding unasked
+unasked_goes {a} {b} {c} t u first second x is =
+    let on : Goes b (reading >>= λ second. over (left_unasked t second)) [] (over (left_unasked t u)) c = goes-bind _ second in
+    let all : Goes a unasked [] (over (left_unasked t u)) c = goes-append (goes-bind _ first) on in
+    rw is all
+
+pub none_read : (a b : Account) → TellsNothing a b → LeftOf a unasked b
+none_read a b still = (unasked, goes-tells_nothing (goes-nothing a unasked) still)
+
+pub one_read : (a b c : Account) (t : ℕ) → Goes a reading [] (over t) b → TellsNothing b c → LeftOf a unasked c
+unfolding unasked
+one_read a b c t first still = (_, goes-tells_nothing (goes-bind (λ first. reading >>= λ second. over (left_unasked first second)) first) still)
+
+pub both_read : (a b c : Account) (t u : ℕ) → Goes a reading [] (over t) b → Goes b reading [] (over u) c → LeftOf a unasked c
+both_read a b c t u first second = (_, unasked_goes t u first second (left_unasked t u) refl)

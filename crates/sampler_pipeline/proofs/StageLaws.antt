@@ -1,10 +1,11 @@
 -- The stages of a sampler, one after another.
-use Rattle.std.proofs.Common.{◌≡◌, ℕ, zero, suc, ◌≤◌, List, [], Some, None, false, refl, sym, ap, arith, length}
+use Rattle.std.proofs.Common.{◌≡◌, ℕ, zero, suc, ◌≤◌, List, [], Option, Some, None, false, refl, sym, ap, arith, length}
 use Rattle.std.specs.Prelude.{ℤ, pos, negsuc, Result, Err, slice_get, unwrap_or, nat_lt}
 use Rattle.std.specs.Option.{option_map}
 use Rattle.jm_base.specs.Run.{over, wait}
 use Rattle.jm_base.specs.Outside.{Account, Goes}
 use Rattle.jm_base.specs.declared.types.Reply.{Reply}
+use Rattle.jm_base.specs.declared.types.Method.{Method}
 use Rattle.jm_base.specs.declared.types.ScriptReply.{ScriptReply}
 use Rattle.jm_base.proofs.RunLaws.{goes-bind, goes-nothing}
 use Rattle.template_text.specs.Pieces.{Pieces}
@@ -20,6 +21,7 @@ use Rattle.element_tree.specs.declared.kinds.Kind.TheVariants as kinds
 use Rattle.element_tree.specs.declared.kinds.JsonExtractor.{JsonExtractor}
 use Rattle.element_tree.specs.FormedPlan.{HasForms}
 use Rattle.trials.specs.Tried.{giving, fine}
+use Rattle.element_tree.specs.Scope.{Scope}
 use Rattle.sampler_pipeline.specs.SamplerPipeline.{by_kind, pausing, prepares, requests, picking, extracts}
 
 -- what is made of an element that is there, and of none
@@ -46,9 +48,12 @@ pub no-preparation : (k : Kind) → ((vars : List Pair) → k ≡ kinds.UserPara
 no-preparation (kinds.UserParameters vars) other = absurd (other vars refl)
 no-preparation k other = refl
 
-pub no-request : (k : Kind) → ((replies : List ScriptReply) (request : Pieces) → k ≡ kinds.Script replies request → ⊥) → requests k ≡ giving None
-no-request (kinds.Script replies request) other = absurd (other replies request refl)
-no-request k other = refl
+pub no-request : (elements : List Element) (scope : Scope) (n : ℕ) (k : Kind) → ((replies : List ScriptReply) (request : Pieces) → k ≡ kinds.Script replies request → ⊥)
+    → ((body host : Pieces) (method : Method) (params : List Pair) (path port : Pieces) (replies : Option (List ScriptReply)) → k ≡ kinds.Http body host method params path port replies → ⊥)
+    → requests elements scope n k ≡ giving None
+no-request elements scope n (kinds.Script replies request) a b = absurd (a replies request refl)
+no-request elements scope n (kinds.Http body host method params path port replies) a b = absurd (b body host method params path port replies refl)
+no-request elements scope n k a b = refl
 
 pub no-extraction : (reply : Reply) (k : Kind) → ((x : RegexExtractor) → k ≡ kinds.RegexExtractor x → ⊥) → ((x : JsonExtractor) → k ≡ kinds.JsonExtractor x → ⊥) → ((x : BoundaryExtractor) → k ≡ kinds.BoundaryExtractor x → ⊥)
     → extracts reply k ≡ giving tt

@@ -22,12 +22,16 @@ fault_text BadChunk = codes "bad chunk"
 fault_text TooLong = codes "too long"
 fault_text EndEarly = codes "end early"
 
+-- the reply that stands for a fault
+abbrev pub fault_reply : List ℕ → Reply
+fault_reply message = record { code = 0; message = message; headers = []; body = [] }
+
 -- a reply that stands for what came, where something did
 abbrev pub reply_of : Outcome → Option Reply
 reply_of (Replied r) = Some r
 reply_of Null = None
-reply_of Fault = Some (record { code = 0; message = codes "fault"; headers = []; body = [] })
-reply_of (Broken w) = Some (record { code = 0; message = fault_text w; headers = []; body = [] })
+reply_of Fault = Some (fault_reply (codes "fault"))
+reply_of (Broken w) = Some (fault_reply (fault_text w))
 
 abbrev pub answered : ℕ → Option Reply → Option Answer
 answered elapsed None = None
@@ -40,6 +44,18 @@ exchange number request = do
   outcome ← outcome_of number request
   second ← reading
   over (record { stamp = first; answer = answered (capped (second - first)) (reply_of outcome) })
+
+-- two readings, between which nothing is asked, since the request has no target
+unfoldable pub unasked : Run Exchange
+unasked = do
+  first ← reading
+  second ← reading
+  over (record { stamp = first; answer = answered (capped (second - first)) (Some (fault_reply (codes "bad target"))) })
+
+-- what comes of a request, if there is any
+abbrev pub exchange_if : ℕ → Option Request → Run Exchange
+exchange_if number None = unasked
+exchange_if number (Some request) = exchange number request
 
 -- the sample of an answer, under this label
 abbrev pub sample_of : ℕ → ℕ → Answer → Verdict → ℕ → Sample

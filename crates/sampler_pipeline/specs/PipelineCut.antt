@@ -14,7 +14,7 @@ use Rattle.extractors.specs.Matches.{extracted_regex, extracted_json, extracted_
 use Rattle.assertions.specs.declared.judging.Answer.{Answer}
 use Rattle.config_elements.specs.TimerDelay.{delay}
 use Rattle.sampler_pipeline.specs.declared.exchange.Exchange.{Exchange}
-use Rattle.sampler_pipeline.specs.SamplerPipeline.{by_kind, prepares, pre_process, pausing, requests, exchanging, picking, extracts, post_process, pipeline}
+use Rattle.sampler_pipeline.specs.SamplerPipeline.{by_kind, prepares, pre_process, pausing, requests_at, exchanging, picking, extracts, post_process, pipeline}
 
 -- in the element of this number; one that isn't there is never cut
 abbrev pub cut_at : (Kind → Cut) → Option Element → Cut
@@ -50,13 +50,12 @@ abbrev pub cut_sampling : List Element → Scope → Option Answer → Cut
 cut_sampling elements scope None = λ before old after new. ⊥
 cut_sampling elements scope (Some answer) = cut_answering elements scope answer
 
-abbrev pub cut_following : List Element → Scope → Option Exchange → Cut
-cut_following elements scope None = λ before old after new. ⊥
-cut_following elements scope (Some x) = cut_sampling elements scope x.answer
+abbrev pub cut_following : List Element → Scope → Exchange → Cut
+cut_following elements scope x = cut_sampling elements scope x.answer
 
 abbrev pub cut_asking : List Element → Scope → ℕ → Cut
 cut_asking elements scope number =
-    cut_on_way (by_kind (giving None) requests elements number) λ request.
+    cut_on_way (requests_at elements scope number) λ request.
     cut_on_way (exchanging number request) λ exchange.
     cut_following elements scope exchange
 

@@ -10,7 +10,7 @@ use Rattle.element_tree.specs.Names.{label_of}
 use Rattle.element_tree.specs.Scope.{Scope}
 use Rattle.element_tree.specs.declared.kinds.Element.{Element}
 use Rattle.element_tree.specs.declared.kinds.Kind.{Kind}
-use Rattle.element_tree.specs.declared.kinds.Kind.TheVariants.{Script, UserParameters, RegexExtractor, JsonExtractor, BoundaryExtractor, ResponseAssertion, DurationAssertion, SizeAssertion}
+use Rattle.element_tree.specs.declared.kinds.Kind.TheVariants.{Script, Http, UserParameters, RegexExtractor, JsonExtractor, BoundaryExtractor, ResponseAssertion, DurationAssertion, SizeAssertion}
 use Rattle.element_tree.specs.declared.kinds.Assertion.{Assertion}
 use Rattle.element_tree.specs.declared.kinds.Assertion.TheVariants.{Response, Duration, Size}
 use Rattle.trials.specs.Tried.{Try, fine, giving, ◌>=>◌, each_of, text}
@@ -21,10 +21,12 @@ use Rattle.extractors.specs.Matches.{extracted_regex, extracted_json, extracted_
 use Rattle.assertions.specs.declared.judging.Answer.{Answer}
 use Rattle.assertions.specs.Judging.{holds}
 use Rattle.config_elements.specs.TimerDelay.{delay, drawing}
+use Rattle.http_settings.specs.RequestSettings.{settings}
+use Rattle.http_settings.specs.Targets.{target_of, http_request}
 use Rattle.sampler_pipeline.specs.declared.exchange.Exchange.{Exchange}
 use Rattle.sampler_pipeline.specs.declared.verdict.Verdict.{Verdict}
 use Rattle.sampler_pipeline.specs.declared.run.Done.{Done}
-use Rattle.sampler_pipeline.specs.Exchanges.{exchange, is_success, sample_of}
+use Rattle.sampler_pipeline.specs.Exchanges.{exchange_if, is_success, sample_of}
 
 -- what is made of the element of this number; nothing where it isn't there
 abbrev pub by_kind : {A : Type 0} → A → (Kind → A) → List Element → ℕ → A
@@ -47,15 +49,19 @@ pausing (suc ms) user = wait (suc ms) (over (fine tt user))
 
 -- ---- the request
 
--- what a sampler asks for
-abbrev pub requests : Kind → Try (Option Request)
-requests (Script replies request) = text request >=> λ t. giving (Some (ScriptRequest t))
-requests kind = giving None
+-- what a sampler asks for: an HTTP sampler for the request of its settings, if they have a target
+abbrev pub requests : List Element → Scope → ℕ → Kind → Try (Option Request)
+requests elements scope number (Script replies request) = text request >=> λ t. giving (Some (ScriptRequest t))
+requests elements scope number (Http body host method params path port replies) =
+    settings elements scope.config number >=> λ s. giving (option_map http_request (target_of s))
+requests elements scope number kind = giving None
 
--- one request between two readings; an element that asks for nothing gives nothing
-abbrev pub exchanging : ℕ → Option Request → Try (Option Exchange)
-exchanging number None user = over (fine None user)
-exchanging number (Some request) user = exchange number request >>= λ x. over (fine (Some x) user)
+abbrev pub requests_at : List Element → Scope → ℕ → Try (Option Request)
+requests_at elements scope number = by_kind (giving None) (requests elements scope number) elements number
+
+-- what comes of a request between two readings
+abbrev pub exchanging : ℕ → Option Request → Try Exchange
+exchanging number request user = exchange_if number request >>= λ x. over (fine x user)
 
 -- ---- after the reply
 
@@ -149,16 +155,15 @@ abbrev pub sampling_of : List Element → Scope → ℕ → ℕ → Option Answe
 sampling_of elements scope number stamp None = giving None
 sampling_of elements scope number stamp (Some answer) = answering elements scope number stamp answer >=> λ sample. giving (Some sample)
 
-abbrev pub following : List Element → Scope → ℕ → Option Exchange → Try (Option Sample)
-following elements scope number None = giving None
-following elements scope number (Some x) = sampling_of elements scope number x.stamp x.answer
+abbrev pub following : List Element → Scope → ℕ → Exchange → Try (Option Sample)
+following elements scope number x = sampling_of elements scope number x.stamp x.answer
 
 -- ---- the whole
 
 -- the request, and what follows from its reply
 abbrev pub asking : List Element → Scope → ℕ → Try (Option Sample)
 asking elements scope number =
-    by_kind (giving None) requests elements number >=> λ request. exchanging number request >=> following elements scope number
+    requests_at elements scope number >=> λ request. exchanging number request >=> following elements scope number
 
 -- A sampler with its package: pre-processors, the pause of its timers, the request, post-processors, assertions.
 unfoldable pub pipeline : List Element → Scope → ℕ → Try Done

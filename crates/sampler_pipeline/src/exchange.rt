@@ -4,7 +4,7 @@ ghost use Rattle.std.specs.Prelude.{◌≡◌, [], IfOk, OnErr};
 ghost use Rattle.jm_base.specs.Run.{over};
 ghost use Rattle.jm_base.specs.Outside.{Goes};
 ghost use Rattle.var_functions.specs.Came.{LeftOf};
-ghost use Rattle.sampler_pipeline.specs.Exchanges.{exchange, answered, reply_of};
+ghost use Rattle.sampler_pipeline.specs.Exchanges.{exchange, unasked, exchange_if, answered, reply_of, fault_reply};
 
 use assertions::Answer;
 use config_elements::capped;
@@ -20,8 +20,8 @@ pub struct Exchange {
     pub answer: Option<Answer>,
 }
 
-/// Makes a request for the sampler of this number between two readings of the clock.
-pub(crate) fn hold_exchange<O: Outside>(
+// Makes a request for the sampler of this number between two readings of the clock.
+fn hold_exchange<O: Outside>(
     alloc: Global,
     number: u16,
     request: &Request,
@@ -38,6 +38,36 @@ pub(crate) fn hold_exchange<O: Outside>(
         stamp: first,
         answer: answered(capped(second.saturating_sub(first)), reply),
     })
+}
+
+// Makes the two readings alone, for a request without a target.
+fn leave_unasked<O: Outside>(alloc: Global, outside: &mut O) -> M<Exchange>
+    ensures done { IfOk result (λ x. Goes (O.account outside.old) unasked [] (over x) (O.account outside.new)) }
+    ensures cut { OnErr result (LeftOf (O.account outside.old) unasked (O.account outside.new)) }
+{
+    let earlier = outside.now()?;
+    let later = outside.now()?;
+    let reply = fault_reply(alloc, b"bad target")?;
+    Ok(Exchange {
+        stamp: earlier,
+        answer: answered(capped(later.saturating_sub(earlier)), Some(reply)),
+    })
+}
+
+/// Makes a request, if there is any, for the sampler of this number between two readings of the clock.
+pub(crate) fn exchange_if<O: Outside>(
+    alloc: Global,
+    number: u16,
+    request: Option<Request>,
+    outside: &mut O,
+) -> M<Exchange>
+    ensures done { IfOk result (λ x. Goes (O.account outside.old) (exchange_if number request) [] (over x) (O.account outside.new)) }
+    ensures cut { OnErr result (LeftOf (O.account outside.old) (exchange_if number request) (O.account outside.new)) }
+{
+    match request {
+        Some(request) => hold_exchange(alloc, number, &request, outside),
+        None => leave_unasked(alloc, outside),
+    }
 }
 
 fn answered(elapsed: u32, reply: Option<Reply>) -> Option<Answer>
@@ -70,7 +100,7 @@ fn fault_text(wire: Wire) -> &'static [u8]
 }
 
 fn fault_reply(alloc: Global, message: &[u8]) -> M<Reply>
-    ensures { IfOk result (λ r. r ≡ record { code = 0; message = message.now; headers = []; body = [] }) }
+    ensures { IfOk result (λ r. r ≡ fault_reply message.now) }
 {
     Ok(Reply {
         code: 0,

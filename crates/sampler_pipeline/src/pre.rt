@@ -1,14 +1,19 @@
 // What a sampler does before its request.
 
-ghost use Rattle.std.specs.Prelude.{◌≡◌, None, Err, slice_get};
+ghost use Rattle.std.specs.Prelude.{◌≡◌, Err, slice_get};
+ghost use Rattle.std.specs.Option.{option_map};
 ghost use Rattle.jm_base.specs.Run.{over};
 ghost use Rattle.var_functions.specs.Came.{CameTo};
 ghost use Rattle.var_functions.specs.FunctionState.{IsLater};
-ghost use Rattle.trials.specs.Tried.{giving, fine, past_limit};
-ghost use Rattle.sampler_pipeline.specs.SamplerPipeline.{by_kind, prepares, pre_process, pausing, requests};
+ghost use Rattle.trials.specs.Tried.{giving, fine, past_limit, ◌>=>◌};
+ghost use Rattle.http_settings.specs.RequestSettings.{settings};
+ghost use Rattle.http_settings.specs.Targets.{target_of, http_request};
+ghost use Rattle.sampler_pipeline.specs.SamplerPipeline.{by_kind, prepares, pre_process, pausing, requests, requests_at};
 ghost use Rattle.sampler_pipeline.specs.PipelineCut.{cut_at, cut_preparing, cut_pre};
 
-use element_tree::{Kind, Plan};
+use config_elements::settings;
+use element_tree::{Kind, Package, Plan};
+use http_settings::request_of;
 use jm_base::{Outside, Request};
 use std::alloc::Global;
 use trials::set_pairs;
@@ -87,14 +92,41 @@ pub(crate) fn pause<O: Outside>(ms: u32, state: &UserState, outside: &mut O) -> 
     }
 }
 
-// What a sampler of this kind asks for; another element asks for nothing.
+// What an HTTP sampler of this number asks for, if its settings have a target.
+fn target_request<O: Outside>(
+    alloc: Global,
+    plan: &Plan,
+    scope: &Package,
+    sampler: u16,
+    state: &mut UserState,
+    outside: &mut O,
+) -> Result<Option<Request>, VarError>
+    ensures came { CameTo (O.account outside.old)
+        ((settings plan.now.elements scope.now.config sampler >=> λ s. giving (option_map http_request (target_of s))) state.old)
+        (O.account outside.new) (λ request. over (fine request state.new)) (over (past_limit state.new)) result }
+    ensures later { IsLater state.old.fns state.new.fns }
+    ensures vars { state.new.vars ≡ state.old.vars }
+{
+    match settings(alloc, plan, scope, sampler, state, outside) {
+        Ok(found) => match request_of(alloc, &found) {
+            Ok(request) => Ok(request),
+            Err(_) => Err(VarError::NoMemory),
+        },
+        Err(error) => Err(error),
+    }
+}
+
+// What a sampler of this kind and number asks for.
 fn request_by<O: Outside>(
     alloc: Global,
+    plan: &Plan,
+    scope: &Package,
+    sampler: u16,
     kind: &Kind,
     state: &mut UserState,
     outside: &mut O,
 ) -> Result<Option<Request>, VarError>
-    ensures came { CameTo (O.account outside.old) (requests kind.now state.old) (O.account outside.new)
+    ensures came { CameTo (O.account outside.old) (requests plan.now.elements scope.now sampler kind.now state.old) (O.account outside.new)
         (λ request. over (fine request state.new)) (over (past_limit state.new)) result }
     ensures later { IsLater state.old.fns state.new.fns }
     ensures vars { state.new.vars ≡ state.old.vars }
@@ -104,25 +136,27 @@ fn request_by<O: Outside>(
             Ok(text) => Ok(Some(Request::Script(text))),
             Err(error) => Err(error),
         },
+        Kind::Http { .. } => target_request(alloc, plan, scope, sampler, state, outside),
         _ => Ok(None),
     }
 }
 
-/// What the element of this number asks for.
+/// What the sampler of this number, which has this package, asks for: nothing where its request has no target.
 pub(crate) fn request<O: Outside>(
     alloc: Global,
     plan: &Plan,
-    number: u16,
+    scope: &Package,
+    sampler: u16,
     state: &mut UserState,
     outside: &mut O,
 ) -> Result<Option<Request>, VarError>
-    ensures came { CameTo (O.account outside.old) (by_kind (giving None) requests plan.now.elements number state.old) (O.account outside.new)
+    ensures came { CameTo (O.account outside.old) (requests_at plan.now.elements scope.now sampler state.old) (O.account outside.new)
         (λ request. over (fine request state.new)) (over (past_limit state.new)) result }
     ensures later { IsLater state.old.fns state.new.fns }
     ensures vars { state.new.vars ≡ state.old.vars }
 {
-    match plan.element(number) {
-        Some(element) => request_by(alloc, &element.kind, state, outside),
+    match plan.element(sampler) {
+        Some(element) => request_by(alloc, plan, scope, sampler, &element.kind, state, outside),
         None => Ok(None),
     }
 }

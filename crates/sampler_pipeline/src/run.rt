@@ -10,7 +10,7 @@ ghost use Rattle.sampler_pipeline.specs.Exchanges.{sample_of};
 ghost use Rattle.sampler_pipeline.specs.SamplerPipeline.{label_at, listeners_of, assert_all, noting, truth_text, exchanging, answering, sampling_of, following, asking, pipeline, order_of};
 ghost use Rattle.sampler_pipeline.specs.PipelineCut.{cut_answering, cut_sampling, cut_following, cut_asking, cut_pipeline, cut_sampler};
 
-use crate::exchange::{Exchange, hold_exchange};
+use crate::exchange::{Exchange, exchange_if};
 use crate::post::post_process;
 use crate::pre::{pause, pre_process, request};
 use crate::verdict::{Verdict, judge};
@@ -176,13 +176,13 @@ fn sample(
     }
 }
 
-// What follows from an exchange, if there was any.
+// What follows from an exchange.
 fn follow(
     alloc: Global,
     plan: &Plan,
     scope: &Package,
     sampler: u16,
-    exchange: Option<Exchange>,
+    exchange: Exchange,
     state: &mut UserState,
 ) -> Result<Option<Sample>, VarError>
     ensures came { (a : Account) → CameTo a (following plan.now.elements scope.now sampler exchange state.old) a
@@ -191,32 +191,24 @@ fn follow(
     ensures later { IsLater state.old.fns state.new.fns }
     ensures cut { (a : Account) → result ≡ Err VarError.NoMemory → cut_following plan.now.elements scope.now exchange a state.old a state.new }
 {
-    match exchange {
-        Some(exchange) => {
-            let Exchange { stamp, answer } = exchange;
-            sample(alloc, plan, scope, sampler, stamp, answer, state)
-        }
-        None => Ok(None),
-    }
+    let Exchange { stamp, answer } = exchange;
+    sample(alloc, plan, scope, sampler, stamp, answer, state)
 }
 
-// One request between two readings, if there is any.
+// What comes of a request between two readings.
 fn exchange_for<O: Outside>(
     alloc: Global,
     sampler: u16,
     request: Option<Request>,
     state: &UserState,
     outside: &mut O,
-) -> Result<Option<Exchange>, VarError>
+) -> Result<Exchange, VarError>
     ensures came { CameTo (O.account outside.old) (exchanging sampler request state.now) (O.account outside.new)
         (λ x. over (fine x state.now)) (over (past_limit state.now)) result }
 {
-    match request {
-        Some(request) => match hold_exchange(alloc, sampler, &request, outside) {
-            Ok(exchange) => Ok(Some(exchange)),
-            Err(_) => Err(VarError::NoMemory),
-        },
-        None => Ok(None),
+    match exchange_if(alloc, sampler, request, outside) {
+        Ok(exchange) => Ok(exchange),
+        Err(_) => Err(VarError::NoMemory),
     }
 }
 
@@ -236,7 +228,7 @@ fn ask<O: Outside>(
     ensures cut { result ≡ Err VarError.NoMemory
         → cut_asking plan.now.elements scope.now sampler (O.account outside.old) state.old (O.account outside.new) state.new }
 {
-    match request(alloc, plan, sampler, state, outside) {
+    match request(alloc, plan, scope, sampler, state, outside) {
         Ok(request) => match exchange_for(alloc, sampler, request, state, outside) {
             Ok(exchange) => follow(alloc, plan, scope, sampler, exchange, state),
             Err(error) => Err(error),
@@ -295,7 +287,8 @@ fn order_of(alloc: Global, scope: &Package, sampler: u16, sample: &Option<Sample
 
 /// Runs one sampler with its package, in the order of the manual's "Execution order": pre-processors; the pause of its
 /// timers, if it is any; its request between two readings of the clock; and where there is a reply, post-processors,
-/// assertions and listeners. After post-processors and assertions `JMeterThread.last_sample_ok` is set to whether the sample
+/// assertions and listeners. An HTTP sampler asks for the request of its settings. Where they have no target nothing is asked
+/// between the readings, and the reply has code 0, the message `bad target`, no headers and no body. After post-processors and assertions `JMeterThread.last_sample_ok` is set to whether the sample
 /// succeeded; without a sample it stays. `order` becomes the elements that took part; after a refusal it is as before.
 ///
 /// `ValueLimit` comes where a text or a value would have more than 65,536 bytes, or all names and values of variables more

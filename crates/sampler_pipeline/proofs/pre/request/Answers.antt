@@ -7,10 +7,12 @@ use Rattle.var_functions.proofs.LaterLaws.{later_same}
 use Rattle.sampler_pipeline.proofs.pre.request.Goals as goal
 
 pub returns-in-Some-clause-came : goal.returns-in-Some-clause-came
-returns-in-Some-clause-came g c = rw (kind-there (giving None) requests c.args.plan.now.elements c.args.number c.in-Some.element.now c.in-Some.ensures) c.request_by.ensures.came
+returns-in-Some-clause-came g c =
+    rw (kind-there (giving None) (requests c.args.plan.now.elements c.args.scope.now c.args.sampler) c.args.plan.now.elements c.args.sampler c.in-Some.element.now c.in-Some.ensures) c.request_by.ensures.came
 
 pub returns-in-None-clause-came : goal.returns-in-None-clause-came
-returns-in-None-clause-came g c = rw (kind-none (giving None) requests c.args.plan.now.elements c.args.number c.in-None.ensures) (goes-nothing _ _)
+returns-in-None-clause-came g c =
+    rw (kind-none (giving None) (requests c.args.plan.now.elements c.args.scope.now c.args.sampler) c.args.plan.now.elements c.args.sampler c.in-None.ensures) (goes-nothing _ _)
 
 pub returns-in-None-clause-later : goal.returns-in-None-clause-later
 returns-in-None-clause-later g c = later_same _

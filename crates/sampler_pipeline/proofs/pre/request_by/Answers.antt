@@ -19,7 +19,10 @@ returns-in-Err-clause-came g c = rw c.in-Script.is (then-refused _ _ (text c.in-
     (text-came _ _ c.in-Script.request c.args.state.now c.expand.new.state (Err c.in-Err.error) c.in-Err.ensures.came c.in-Err.ensures.vars))
 
 pub returns-in_default-clause-came : goal.returns-in_default-clause-came
-returns-in_default-clause-came g c = rw (no-request c.args.kind.now c.in_default.not-Script) (goes-nothing _ _)
+returns-in_default-clause-came g c = rw (no-request c.args.plan.now.elements c.args.scope.now c.args.sampler c.args.kind.now c.in_default.not-Script c.in_default.not-Http) (goes-nothing _ _)
+
+pub returns-in-Http-clause-came : goal.returns-in-Http-clause-came
+returns-in-Http-clause-came g c = rw c.in-Http.is c.target_request.ensures.came
 
 pub returns-in_default-clause-later : goal.returns-in_default-clause-later
 returns-in_default-clause-later g c = later_same _

@@ -1,0 +1,5 @@
+pub mod GiverLaws
+pub mod FieldLaws
+pub mod TextLaws
+pub mod SettingsStages
+pub mod TargetLaws

@@ -1,0 +1,23 @@
+use Rattle.std.proofs.Common.{List, ap, ◌∙◌, subst}
+use Rattle.jm_base.specs.Run.{over}
+use Rattle.jm_base.proofs.RunLaws.{goes-nothing}
+use Rattle.element_props.specs.declared.prop.Pair.{Pair}
+use Rattle.http_text.specs.declared.request.NamedText.{NamedText}
+use Rattle.var_functions.specs.Came.{CameTo, by_memory}
+use Rattle.trials.specs.Tried.{fine, past_limit}
+use Rattle.http_settings.specs.RequestSettings.{texts_of, pairs_seen}
+use Rattle.http_settings.proofs.TextLaws.{stands-same}
+use Rattle.http_settings.proofs.request.param_texts.Goals as goal
+
+pub returns-in-Ok-clause-came : goal.returns-in-Ok-clause-came
+returns-in-Ok-clause-came g c =
+    let new = c.texts_of.new.state in
+    subst (λ (ps : List Pair). CameTo (g.O.Outside.account c.args.outside.now) (texts_of ps c.args.state.now) (g.O.Outside.account c.texts_of.new.outside)
+    (λ (texts : List NamedText). over (fine texts new)) (over (past_limit new)) c.texts_of.result)
+    (ap pairs_seen c.as_slice.ensures.value ∙ c.in-Ok.ensures ∙ c.params_at.ensures) c.texts_of.ensures.came
+
+pub returns-in-Err-clause-came : goal.returns-in-Err-clause-came
+returns-in-Err-clause-came g c = by_memory (_, goes-nothing _ _)
+
+pub returns-in-Err-clause-stands : goal.returns-in-Err-clause-stands
+returns-in-Err-clause-stands g c = stands-same _

@@ -1,0 +1,2 @@
+pub mod RequestSettings
+pub mod Targets
