@@ -10,7 +10,7 @@ use Rattle.jm_meaning.specs.Children.{children_of}
 use Rattle.control_machine.specs.Entering.{here_with, entered, EnteredFits}
 use Rattle.control_machine.proofs.CameSteps.{same_element}
 use Rattle.control_machine.proofs.OpenLaws.{kind_is, kind_came, other_kind, script_means, goes_as}
-use Rattle.control_machine.proofs.enter.enter.Goals as goal
+use Rattle.control_machine.proofs.enter.enter_other.Goals as goal
 
 pub enter_each-requires : goal.enter_each-requires
 enter_each-requires g c =
@@ -116,7 +116,7 @@ returns-in_default-kind g c =
           goes_as _ _ _ (subst (λ x. kind_meaning (here_with c.args.plan.now failure) below c.args.child e x.kind round (state_of c.args.state.now (at_places own c.args.places.now)) ≡ over (normal (state_of c.args.state.now (at_places own c.args.places.now))))
           (same_element c.args.plan.now.elements c.args.child c.in-Some.element.now e (sym c.in-Some.ensures) there)
           (other_kind (here_with c.args.plan.now failure) below c.args.child e c.in-Some.element.now.kind round (state_of c.args.state.now (at_places own c.args.places.now))
-          d.not-Script d.not-Simple d.not-OnceOnly d.not-Loop d.not-If d.not-While d.not-ForEach d.not-Interleave d.not-Random d.not-RandomOrder d.not-Switch d.not-Transaction));
+          d.not-Script d.not-Simple d.not-OnceOnly d.not-Loop d.not-If d.not-While d.not-ForEach d.not-Interleave d.not-Random d.not-RandomOrder d.not-Switch d.not-Transaction (c.requires.other c.in-Some.element.now (sym c.in-Some.ensures))));
       fits = λ e there. tt;
       stands = stands_same c.args.state.now;
     }
