@@ -9,6 +9,7 @@ pub mod Sharing
 pub mod Whole
 pub mod Steps
 pub mod Every
+pub mod Keeping
 pub mod Ends
 pub mod Plains
 pub mod Coherence

@@ -20,7 +20,8 @@ use Rattle.phaser_core.specs.declared.view.Joined.{Joined}
 use Rattle.phaser_core.specs.Views.{Pair}
 use Rattle.phaser_core.specs.CoreMoves.{Move, first_words}
 use Rattle.phaser_core.specs.Plain.{Parts, look_answer, is_idle}
-use Rattle.phaser_core.specs.Step.{CoreState, port_of, move_at, core_step}
+use Rattle.phaser_core.specs.Step.{CoreState, port_of, move_at, core_step, next_state, FitsEvent}
+use Rattle.phaser_core.specs.Invariant.{RecorderInvariant}
 
 -- the words, and of the views all but the lists and the marks
 pub record Shape : Type 0 where
@@ -75,6 +76,15 @@ Answered before e found (Some s) a after = (a ≡ answer_of e before.reporter.cl
 -- An event applied to a core is the step of every state that the core may stand for.
 abbrev pub Applies : Shape → Event → Applied → Shape → Type 0
 Applies before e a after = (views : List View) → Shows before views → Answered before e (found_of before.numbers before.words views e) (core_step before.numbers before.words views e) a after
+
+-- the core may stand for the state, which meets the recorder invariant
+abbrev pub Holds : Shape → CoreState → Type 0
+Holds core state = Shows core state.1 × RecorderInvariant core.numbers core.words state.1
+
+-- An event keeps the recorder invariant: of views that the core may stand for and that meet it, the core after the event may
+-- stand for the views after it, and they meet it too. The event's entry has numbers of 32 bits.
+abbrev pub KeepsInvariant : Shape → Event → Shape → Type 0
+KeepsInvariant before e after = (views : List View) → Holds before (before.words, views) → FitsEvent e → Holds after (next_state before.numbers (before.words, views) e)
 
 -- a core as it is made
 abbrev pub first_shape : Numbers → Shape

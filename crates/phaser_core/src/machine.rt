@@ -12,7 +12,7 @@ ghost use Rattle.phaser_core.specs.CoreMoves.{first_cells, first_words};
 ghost use Rattle.phaser_core.specs.Invariant.{RecorderInvariant};
 ghost use Rattle.phaser_core.specs.Step.{first_state, after_all, AllFit};
 ghost use Rattle.phaser_core.specs.Plain.{writer_step, writer_at, step_answer, words_after, writers_after, closing_step, closing_if, with_closing, look_result, look_parts, take_result, take_words, take_parts, split_result, split_writers, can_join, join_result, join_writers};
-ghost use Rattle.phaser_core.specs.CoreShape.{Shows, Applies, first_shape, all_gone, IsDone, open_report, joined_lists};
+ghost use Rattle.phaser_core.specs.CoreShape.{Shows, Applies, KeepsInvariant, first_shape, all_gone, IsDone, open_report, joined_lists};
 
 use crate::applied::Applied;
 use crate::parts::{join_writer, split_first, step_writer};
@@ -79,25 +79,18 @@ impl Core {
     /// One step of one actor on one word: the table of the steps. Out of memory leaves the core as it was.
     pub fn apply(&mut self, alloc: Global, event: Event) -> M<Applied>
         ensures step { IfOk result (λ a. Applies self.old event a self.new) }
+        // Where the recorder invariant held it holds after the event.
+        ensures keeps { OnOk result (KeepsInvariant self.old event self.new) }
         ensures err { OnErr result (self.new ≡ self.old) }
     {
-        match event {
-            Event::Enter(writer)
-            | Event::Load(writer, _)
-            | Event::Add(writer)
-            | Event::Lower(writer)
-            | Event::Raise(writer)
-            | Event::Exit(writer)
-            | Event::LookStop(writer)
-            | Event::RaiseStop(writer) => Ok(self.step_writer(writer, &event)),
-            Event::SwapActive | Event::ClearEnd | Event::Flip | Event::ReporterStop => {
-                Ok(self.step_reporter(&event))
-            }
-            Event::Look => self.look(alloc),
-            Event::Take => self.take(alloc),
-            Event::Split => self.split(),
-            Event::Join(writer) => Ok(self.join(writer)),
-        }
+        self.step_actor(alloc, event)
+    }
+
+    /// How far the reporter is with closing an interval.
+    pub fn closing(&self) -> ReporterStage
+        ensures { result ≡ self.now.reporter.closing }
+    {
+        self.reporter.closing
     }
 
     /// The number in a word, `None` where there is no such word.
@@ -139,6 +132,30 @@ impl Core {
         } = self;
         let reports = reporter.finish(alloc, numbers.labels, words.as_slice())?;
         Ok(reports)
+    }
+
+    // a step of the actor whose event it is
+    fn step_actor(&mut self, alloc: Global, event: Event) -> M<Applied>
+        ensures step { IfOk result (λ a. Applies self.old event a self.new) }
+        ensures err { OnErr result (self.new ≡ self.old) }
+    {
+        match event {
+            Event::Enter(writer)
+            | Event::Load(writer, _)
+            | Event::Add(writer)
+            | Event::Lower(writer)
+            | Event::Raise(writer)
+            | Event::Exit(writer)
+            | Event::LookStop(writer)
+            | Event::RaiseStop(writer) => Ok(self.step_writer(writer, &event)),
+            Event::SwapActive | Event::ClearEnd | Event::Flip | Event::ReporterStop => {
+                Ok(self.step_reporter(&event))
+            }
+            Event::Look => self.look(alloc),
+            Event::Take => self.take(alloc),
+            Event::Split => self.split(),
+            Event::Join(writer) => Ok(self.join(writer)),
+        }
     }
 
     // a step of a writer
