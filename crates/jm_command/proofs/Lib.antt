@@ -5,3 +5,4 @@ pub mod UnbuiltLaws
 pub mod CountLaws
 pub mod WordLaws
 pub mod StartLaws
+pub mod StatusLaws

@@ -270,3 +270,15 @@ status_for (Some Check) bytes = status_of_bytes Check bytes
 status_for (Some (Make m)) bytes = 0
 status_for (Some (Solo s)) bytes = status_of_bytes (Solo s) bytes
 status_for (Some (Run r)) bytes = status_of_bytes (Run r) bytes
+
+-- What the exit status of a plain command says, by its number. With no fault and no pattern too large the words and the bytes
+-- alone decide it, unless memory runs out.
+pub record PlainEnds (words : Option Command) (old new : Edges) (number : ℕ) : Type 0 where
+  pub status : IsStatus number
+  pub done : number ≡ 0 → (command : Command) × (words ≡ Some command) × IsDone command old new
+  pub usage : number ≡ 2 → (words ≡ None) × IsUsage old new
+  pub refused : number ≡ 3 → (command : Command) × (words ≡ Some command) × IsRefusal command old new
+  pub unread : number ≡ 4 → (command : Command) × (words ≡ Some command) × IsUnread command old new
+  pub unwritten : number ≡ 5 → IsUnwritten words old new
+  pub cut_short : number ≡ 7 → IsCutShort words old new
+  pub exact : (bytes : List ℕ) → old.left ≡ Some bytes → NoRise old new → (number ≡ status_for words bytes) ⊎ (number ≡ 7)

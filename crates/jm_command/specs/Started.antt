@@ -31,7 +31,7 @@ use Rattle.jm_command.specs.declared.status.Status.{Status}
 use Rattle.jm_command.specs.declared.status.Status.TheVariants as statuses
 use Rattle.jm_command.specs.Printed.{end_is_whole}
 use Rattle.jm_command.specs.Parts.{Sinks, sinks, NoResults}
-use Rattle.jm_command.specs.Command.{Edges, Accepts, IsRefusal, IsUnread, NothingPrinted, RefusalUnwritten, Says}
+use Rattle.jm_command.specs.Command.{Edges, Accepts, IsRefusal, IsUnread, NothingPrinted, RefusalUnwritten, Says, IsStatus, NoRise, status_for}
 
 -- ---- what is printed of a run
 
@@ -197,3 +197,15 @@ StartSays (Some Check) ticks after old new status = Says (Some Check) old new st
 StartSays (Some (Make m)) ticks after old new status = Says (Some (Make m)) old new status
 StartSays (Some (Solo s)) ticks after old new status = Says (Some (Solo s)) old new status
 StartSays (Some (Run r)) ticks after old new status = RunStarts r ticks after old new status
+
+-- What the exit status of a start says, by its number. With no fault and no pattern too large the words and the bytes alone
+-- decide it, unless memory runs out.
+pub record StartEnds (words : Option Command) (ticks : Option Ticks) (after : Around) (old new : Edges) (number : ℕ) : Type 0 where
+  pub status : IsStatus number
+  pub done : number ≡ 0 → StartSays words ticks after old new statuses.Done
+  pub usage : number ≡ 2 → StartSays words ticks after old new statuses.Usage
+  pub refused : number ≡ 3 → StartSays words ticks after old new statuses.Refused
+  pub unread : number ≡ 4 → StartSays words ticks after old new statuses.ReadFault
+  pub unwritten : number ≡ 5 → StartSays words ticks after old new statuses.WriteFault
+  pub cut_short : number ≡ 7 → StartSays words ticks after old new statuses.Memory
+  pub exact : (bytes : List ℕ) → old.left ≡ Some bytes → NoRise old new → (number ≡ status_for words bytes) ⊎ (number ≡ 7)

@@ -1,10 +1,10 @@
 // The program as a function of its words, its source, its sinks and its maker of patterns.
 
-ghost use Rattle.std.specs.Prelude.{◌≡◌, ◌⊎◌, map, string_bytes, List, ℕ, false, Some, None};
+ghost use Rattle.std.specs.Prelude.{◌≡◌, map, string_bytes, false, Some};
 ghost use Rattle.command_words.specs.declared.command.Command.{Command};
 ghost use Rattle.command_words.specs.declared.command.Command.TheVariants.{Make as MakeCommand};
 ghost use Rattle.command_words.specs.Commands.{command_of, names_run};
-ghost use Rattle.jm_command.specs.Command.{Says, IsStatus, IsDone, IsUsage, IsRefusal, IsUnread, IsUnwritten, IsCutShort, NoRise, status_for, edges};
+ghost use Rattle.jm_command.specs.Command.{Says, PlainEnds, edges};
 ghost use Rattle.plan_maker.specs.Generated.{generated};
 ghost use Rattle.jm_command.specs.Parts.{HasSize, IsInRange, IsPlain, PlanSays, sinks};
 
@@ -34,31 +34,10 @@ pub fn plain_command<S: Source, O: Sink, E: Sink, G: Patterns>(
     patterns: &mut G,
 ) -> u8
     requires { names_run (map string_bytes words.now.items) ≡ false }
-    ensures status { IsStatus result }
-    ensures done { result ≡ 0 → (command : Command) × (command_of (map string_bytes words.now.items) ≡ Some command) × IsDone command
-        (edges (S.left plan.old) (S.faults plan.old) (O.written results.old) (O.faults results.old) (E.written reports.old) (E.faults reports.old) (G.account patterns.old))
-        (edges (S.left plan.new) (S.faults plan.new) (O.written results.new) (O.faults results.new) (E.written reports.new) (E.faults reports.new) (G.account patterns.new)) }
-    ensures usage { result ≡ 2 → (command_of (map string_bytes words.now.items) ≡ None) × IsUsage
-        (edges (S.left plan.old) (S.faults plan.old) (O.written results.old) (O.faults results.old) (E.written reports.old) (E.faults reports.old) (G.account patterns.old))
-        (edges (S.left plan.new) (S.faults plan.new) (O.written results.new) (O.faults results.new) (E.written reports.new) (E.faults reports.new) (G.account patterns.new)) }
-    ensures refused { result ≡ 3 → (command : Command) × (command_of (map string_bytes words.now.items) ≡ Some command) × IsRefusal command
-        (edges (S.left plan.old) (S.faults plan.old) (O.written results.old) (O.faults results.old) (E.written reports.old) (E.faults reports.old) (G.account patterns.old))
-        (edges (S.left plan.new) (S.faults plan.new) (O.written results.new) (O.faults results.new) (E.written reports.new) (E.faults reports.new) (G.account patterns.new)) }
-    ensures unread { result ≡ 4 → (command : Command) × (command_of (map string_bytes words.now.items) ≡ Some command) × IsUnread command
-        (edges (S.left plan.old) (S.faults plan.old) (O.written results.old) (O.faults results.old) (E.written reports.old) (E.faults reports.old) (G.account patterns.old))
-        (edges (S.left plan.new) (S.faults plan.new) (O.written results.new) (O.faults results.new) (E.written reports.new) (E.faults reports.new) (G.account patterns.new)) }
-    ensures unwritten { result ≡ 5 → IsUnwritten (command_of (map string_bytes words.now.items))
-        (edges (S.left plan.old) (S.faults plan.old) (O.written results.old) (O.faults results.old) (E.written reports.old) (E.faults reports.old) (G.account patterns.old))
-        (edges (S.left plan.new) (S.faults plan.new) (O.written results.new) (O.faults results.new) (E.written reports.new) (E.faults reports.new) (G.account patterns.new)) }
-    ensures cut_short { result ≡ 7 → IsCutShort (command_of (map string_bytes words.now.items))
-        (edges (S.left plan.old) (S.faults plan.old) (O.written results.old) (O.faults results.old) (E.written reports.old) (E.faults reports.old) (G.account patterns.old))
-        (edges (S.left plan.new) (S.faults plan.new) (O.written results.new) (O.faults results.new) (E.written reports.new) (E.faults reports.new) (G.account patterns.new)) }
-
-    // With no fault and no pattern too large, the words and the bytes alone decide, unless memory runs out.
-    ensures exact { (bytes : List ℕ) → S.left plan.old ≡ Some bytes → NoRise
+    ensures { PlainEnds (command_of (map string_bytes words.now.items))
         (edges (S.left plan.old) (S.faults plan.old) (O.written results.old) (O.faults results.old) (E.written reports.old) (E.faults reports.old) (G.account patterns.old))
         (edges (S.left plan.new) (S.faults plan.new) (O.written results.new) (O.faults results.new) (E.written reports.new) (E.faults reports.new) (G.account patterns.new))
-        → (result ≡ status_for (command_of (map string_bytes words.now.items)) bytes) ⊎ (result ≡ 7) }
+        result }
 {
     run_words(alloc, words, plan, results, reports, patterns).number()
 }

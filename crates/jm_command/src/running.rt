@@ -1,17 +1,17 @@
 // The program with threads: every command.
 
-ghost use Rattle.std.specs.Prelude.{◌≡◌, ◌≤◌, ◌*◌, ◌⊎◌, All, length, map, string_bytes, List, ℕ, [], Some};
+ghost use Rattle.std.specs.Prelude.{◌≡◌, ◌≤◌, ◌*◌, All, length, map, string_bytes, ℕ, []};
 ghost use Rattle.command_words.specs.declared.command.Command.TheVariants.{Run as RunCommand};
 ghost use Rattle.command_words.specs.Commands.{command_of};
 ghost use Rattle.element_tree.specs.Tree.{threads_of};
 ghost use Rattle.interval_reporter.specs.Judged.{Keeps};
 ghost use Rattle.run_engine.specs.Served.{AreServed};
-ghost use Rattle.jm_command.specs.Command.{IsStatus, NoRise, status_for, edges};
+ghost use Rattle.jm_command.specs.Command.{edges};
 ghost use Rattle.jm_command.specs.Parts.{sinks, TextsSay, ReportSays};
 ghost use Rattle.element_tree.specs.Names.{labels_of};
 ghost use Rattle.interval_tables.specs.Rows.{IsInBounds};
 ghost use Rattle.thread_machine.specs.Bare.{IsLabelled};
-ghost use Rattle.jm_command.specs.Started.{around, StartSays, RunStarts, RunPrints, run_results, run_tail, all_whole, is_whole_trace};
+ghost use Rattle.jm_command.specs.Started.{around, StartSays, StartEnds, RunStarts, RunPrints, run_results, run_tail, all_whole, is_whole_trace};
 
 use crate::line::say;
 use crate::plan::read_plan;
@@ -62,37 +62,10 @@ pub fn start<
 ) -> u8
     requires opened { W.opened world.old ≡ [] }
     requires kept { Keeps F.Fn hook }
-    ensures status { IsStatus result }
-    ensures done { result ≡ 0 → StartSays (command_of (map string_bytes words.now.items)) (T.ticks ticker.old) (around (W.tells world.old) (W.opened world.new) (W.told world.new) (T.ticks ticker.new))
+    ensures ends { StartEnds (command_of (map string_bytes words.now.items)) (T.ticks ticker.old) (around (W.tells world.old) (W.opened world.new) (W.told world.new) (T.ticks ticker.new))
         (edges (S.left plan.old) (S.faults plan.old) (O.written results.old) (O.faults results.old) (E.written reports.old) (E.faults reports.old) (G.account patterns.old))
         (edges (S.left plan.new) (S.faults plan.new) (O.written results.new) (O.faults results.new) (E.written reports.new) (E.faults reports.new) (G.account patterns.new))
-        Status.Done }
-    ensures usage { result ≡ 2 → StartSays (command_of (map string_bytes words.now.items)) (T.ticks ticker.old) (around (W.tells world.old) (W.opened world.new) (W.told world.new) (T.ticks ticker.new))
-        (edges (S.left plan.old) (S.faults plan.old) (O.written results.old) (O.faults results.old) (E.written reports.old) (E.faults reports.old) (G.account patterns.old))
-        (edges (S.left plan.new) (S.faults plan.new) (O.written results.new) (O.faults results.new) (E.written reports.new) (E.faults reports.new) (G.account patterns.new))
-        Status.Usage }
-    ensures refused { result ≡ 3 → StartSays (command_of (map string_bytes words.now.items)) (T.ticks ticker.old) (around (W.tells world.old) (W.opened world.new) (W.told world.new) (T.ticks ticker.new))
-        (edges (S.left plan.old) (S.faults plan.old) (O.written results.old) (O.faults results.old) (E.written reports.old) (E.faults reports.old) (G.account patterns.old))
-        (edges (S.left plan.new) (S.faults plan.new) (O.written results.new) (O.faults results.new) (E.written reports.new) (E.faults reports.new) (G.account patterns.new))
-        Status.Refused }
-    ensures unread { result ≡ 4 → StartSays (command_of (map string_bytes words.now.items)) (T.ticks ticker.old) (around (W.tells world.old) (W.opened world.new) (W.told world.new) (T.ticks ticker.new))
-        (edges (S.left plan.old) (S.faults plan.old) (O.written results.old) (O.faults results.old) (E.written reports.old) (E.faults reports.old) (G.account patterns.old))
-        (edges (S.left plan.new) (S.faults plan.new) (O.written results.new) (O.faults results.new) (E.written reports.new) (E.faults reports.new) (G.account patterns.new))
-        Status.ReadFault }
-    ensures unwritten { result ≡ 5 → StartSays (command_of (map string_bytes words.now.items)) (T.ticks ticker.old) (around (W.tells world.old) (W.opened world.new) (W.told world.new) (T.ticks ticker.new))
-        (edges (S.left plan.old) (S.faults plan.old) (O.written results.old) (O.faults results.old) (E.written reports.old) (E.faults reports.old) (G.account patterns.old))
-        (edges (S.left plan.new) (S.faults plan.new) (O.written results.new) (O.faults results.new) (E.written reports.new) (E.faults reports.new) (G.account patterns.new))
-        Status.WriteFault }
-    ensures cut_short { result ≡ 7 → StartSays (command_of (map string_bytes words.now.items)) (T.ticks ticker.old) (around (W.tells world.old) (W.opened world.new) (W.told world.new) (T.ticks ticker.new))
-        (edges (S.left plan.old) (S.faults plan.old) (O.written results.old) (O.faults results.old) (E.written reports.old) (E.faults reports.old) (G.account patterns.old))
-        (edges (S.left plan.new) (S.faults plan.new) (O.written results.new) (O.faults results.new) (E.written reports.new) (E.faults reports.new) (G.account patterns.new))
-        Status.Memory }
-
-    // With no fault and no pattern too large, the words and the bytes alone decide, unless memory runs out.
-    ensures exact { (bytes : List ℕ) → S.left plan.old ≡ Some bytes → NoRise
-        (edges (S.left plan.old) (S.faults plan.old) (O.written results.old) (O.faults results.old) (E.written reports.old) (E.faults reports.old) (G.account patterns.old))
-        (edges (S.left plan.new) (S.faults plan.new) (O.written results.new) (O.faults results.new) (E.written reports.new) (E.faults reports.new) (G.account patterns.new))
-        → (result ≡ status_for (command_of (map string_bytes words.now.items)) bytes) ⊎ (result ≡ 7) }
+        result }
 
     // The outsides that were opened are those of the first threads, and each of them was closed.
     ensures served { (n : ℕ) × AreServed n (W.opened world.new) (W.closed world.old) (W.closed world.new) }
