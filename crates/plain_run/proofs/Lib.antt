@@ -10,4 +10,5 @@ mod KindWays
 mod ChoiceWays
 mod TransactionLaws
 mod TransactionWays
+mod SectionWays
 mod WorkedPlans

@@ -1,12 +1,12 @@
 -- How a thread comes through a part of its plan, step by step.
 use Rattle.std.proofs.Common.{◌≡◌, ◌≤◌, [], ◌∷◌, ◌++◌, refl, sym, ap, ◌∙◌, subst, arith}
 use Rattle.jm_base.specs.declared.types.End.TheVariants.{ValueLimit as PastValueLimit}
-use Rattle.jm_base.specs.Run.{over, give, Event}
+use Rattle.jm_base.specs.Run.{Run, over, give, Event, ◌>>=◌}
 use Rattle.jm_base.specs.Outside.{Account, Goes}
 use Rattle.jm_base.proofs.RunLaws.{goes-bind, goes-nothing}
 use Rattle.jm_meaning.specs.declared.signal.Signal.{Signal}
 use Rattle.jm_meaning.specs.declared.signal.Signal.TheVariants.{Normal, NextLoop, Stop}
-use Rattle.jm_meaning.specs.State.{State, Part, state_of, on_normal, and_then, Try, fine, past_limit, tried, on_came, stopped}
+use Rattle.jm_meaning.specs.State.{State, Ending, Part, state_of, on_normal, and_then, Try, fine, past_limit, tried, on_came, stopped}
 use Rattle.jm_meaning.specs.TraceShown.{shown}
 use Rattle.jm_meaning.specs.Transactions.{counting}
 use Rattle.plain_run.specs.declared.progress.Progress.{Progress}
@@ -66,6 +66,16 @@ way-end way plays = record { tells = tells-append way.tells plays.tells; fewer =
 pub way-over : {a b : Account} {p0 p : Progress} {whole rest : Part} (signal : Signal) → OnWay a p0 whole rest p b → rest (state_in p) ≡ over (ended p signal) → Plays a p0 whole signal p b
 way-over {a} {b} {p0} {p} {whole} {rest} signal way e =
     record { tells = subst (λ r. Tells a p0.items.items p0.tally (whole (state_in p0)) r p.items.items p.tally b) e way.tells; fewer = way.fewer; feeds = way.feeds }
+
+-- a part has ended, and what comes after it is left
+pub way-after : {a b c : Account} {p0 p q : Progress} {whole rest : Part} {signal : Signal} (f : Part) (next : Ending → Run Ending) → OnWay a p0 whole rest p b → rest (state_in p) ≡ (f (state_in p) >>= next)
+    → Plays b p f signal q c → OnWay a p0 whole (λ s. next (record { state = s; signal = signal })) q c
+way-after {a} {b} {c} {p0} {p} {q} {whole} {rest} {signal} f next way is plays = record {
+  tells = tells-append way.tells
+      (subst (λ r. Tells b p.items.items p.tally r (next (ended q signal)) q.items.items q.tally c) (sym is) (tells-bind next plays.tells));
+  fewer = omega (arith, way.fewer, plays.fewer);
+  feeds = plays.feeds ∙ way.feeds;
+}
 
 -- an ending that isn't Normal is passed on
 passed_on : (next : Part) (s : State) (signal : Signal) → (signal ≡ Normal → ⊥) → on_normal next (record { state = s; signal = signal }) ≡ over (record { state = s; signal = signal })

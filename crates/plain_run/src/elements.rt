@@ -8,6 +8,7 @@ ghost use Rattle.jm_meaning.specs.Beginning.{max_rounds};
 ghost use Rattle.jm_meaning.specs.Rounds.{rounds, loop_turns, while_turns, each_turns};
 ghost use Rattle.jm_meaning.specs.Children.{children_of, in_order, once_only, if_part, if_once, if_each};
 ghost use Rattle.jm_meaning.specs.Choices.{chosen, interleave, random, random_order, switch};
+ghost use Rattle.jm_meaning.specs.Sections.{section};
 ghost use Rattle.jm_meaning.specs.Transactions.{transaction};
 ghost use Rattle.jm_meaning.specs.Meaning.{meaning, kind_meaning};
 ghost use Rattle.plain_run.specs.Plays.{Plays, here_of, IsLooping};
@@ -18,7 +19,7 @@ use crate::transaction::{give_sum, joined};
 use choice_controllers::{picks, random_place};
 use element_tree::{Element, Kind, Loops, Plan};
 use jm_base::{End, M, Outside, Text};
-use jm_meaning::{Signal, Tally};
+use jm_meaning::{Item, Signal, Tally};
 use logic_controllers::{Span, goes_on, is_true, last_ok, loops_of, round_begins, value_at};
 use template_text::Template;
 
@@ -98,6 +99,16 @@ fn run_kind<O: Outside>(
             at_failure,
             depth,
             plan.label_of(number),
+            children,
+            round,
+            progress,
+            outside,
+        ),
+        Kind::CriticalSection { .. } => run_section(
+            plan,
+            at_failure,
+            depth,
+            plan.lock_of(number),
             children,
             round,
             progress,
@@ -457,6 +468,33 @@ fn run_transaction<O: Outside>(
     let inside = progress.tally;
     progress.tally = joined(around, inside);
     give_sum(progress, label, inside, signal)
+}
+
+// A critical section uses a unit and is entered; its children run, and it is left, whatever they ended with.
+#[cycle(elements)]
+fn run_section<O: Outside>(
+    plan: &Plan,
+    at_failure: Signal,
+    depth: u8,
+    lock: u16,
+    children: &[u16],
+    round: u32,
+    progress: &mut Progress,
+    outside: &mut O,
+) -> M<Signal>
+    requires { progress.old.rounds ≤ max_rounds }
+    ensures { IfOk result (λ signal. Plays (O.account outside.old) progress.old
+        (section lock (in_order (meaning (here_of plan.now at_failure) depth) round children.now))
+        signal progress.new (O.account outside.new)) }
+{
+    if progress.units == 0 {
+        return Ok(Signal::Stop(End::SampleLimit));
+    }
+    progress.units -= 1;
+    progress.items.push(Item::Entered(lock))?;
+    let signal = run_children(plan, at_failure, depth, children, round, progress, outside)?;
+    progress.items.push(Item::Left(lock))?;
+    Ok(signal)
 }
 
 // The rounds of a Loop.

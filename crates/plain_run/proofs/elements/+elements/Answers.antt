@@ -19,6 +19,7 @@ use Rattle.plain_run.proofs.ElementLaws.{plays-as, plays-nothing, if-not, not-ze
 use Rattle.plain_run.proofs.KindWays.{loop-past, is-looping, loop-runs, while-runs, each-runs}
 use Rattle.plain_run.proofs.ChoiceWays.{few-children, chosen-none, chosen-past, interleave-none, interleave-plays, random-plays, order-plays, switch-past, switch-runs}
 use Rattle.plain_run.proofs.TransactionWays.{transaction-plays}
+use Rattle.plain_run.proofs.SectionWays.{no-unit-for-section, section-plays, section-runs}
 use Rattle.plain_run.proofs.elements.+elements.Goals as goal
 
 pub run_children-loop-child-init : goal.run_children-loop-child-init
@@ -246,7 +247,7 @@ run_once-returns-else-round-eq0 g t c = plays-nothing _ _ _ (if-not _ (in_order 
 
 pub run_kind-returns : goal.run_kind-returns
 run_kind-returns g t c = plays-nothing _ _ _ (kind-other (here_of c.args.plan.now c.args.at_failure) (meaning (here_of c.args.plan.now c.args.at_failure) c.args.depth) c.args.number c.args.element.now c.args.round (state_in c.args.progress.now) c.args.element.now.kind
-    c.in_default.not-Simple c.in_default.not-OnceOnly c.in_default.not-If c.in_default.not-Loop c.in_default.not-While c.in_default.not-ForEach c.in_default.not-Script c.in_default.not-Switch c.in_default.not-Interleave c.in_default.not-Random c.in_default.not-RandomOrder c.in_default.not-Transaction)
+    c.in_default.not-Simple c.in_default.not-OnceOnly c.in_default.not-If c.in_default.not-Loop c.in_default.not-While c.in_default.not-ForEach c.in_default.not-Script c.in_default.not-Switch c.in_default.not-Interleave c.in_default.not-Random c.in_default.not-RandomOrder c.in_default.not-Transaction c.in_default.not-CriticalSection)
 
 pub run_looping-returns-in-None : goal.run_looping-returns-in-None
 run_looping-returns-in-None g t c = λ number round. loop-past (here_of c.args.plan.now c.args.at_failure) (meaning (here_of c.args.plan.now c.args.at_failure) c.args.depth) number c.args.element.now round (g.O.Outside.account c.args.outside.now) (g.O.Outside.account c.text.new.outside) c.args.progress.now c.text.new.self c.in-Loop.loops c.in-Loop.is c.in_ok-text-in-Loop.ensures.same (rw c.in-None.is at c.in_ok-text-in-Loop.ensures.came)
@@ -311,3 +312,20 @@ run_kind-run_looping-requires g t c = λ κs outlive.
 
 pub run_kind-returns-in-Loop : goal.run_kind-returns-in-Loop
 run_kind-returns-in-Loop g t c = c.run_looping.ensures c.args.number c.args.round
+
+pub run_section-returns-then-progress-eq0 : goal.run_section-returns-then-progress-eq0
+run_section-returns-then-progress-eq0 g t c =
+    no-unit-for-section (g.O.Outside.account c.args.outside.now) c.args.progress.now c.args.lock (in_order (meaning (here_of c.args.plan.now c.args.at_failure) c.args.depth) c.args.round c.args.children.now) c.if-progress-eq0.true
+
+pub run_section-returns : goal.run_section-returns
+run_section-returns g t c =
+    section-plays (g.O.Outside.account c.args.outside.now) c.args.progress.now c.args.lock (in_order (meaning (here_of c.args.plan.now c.args.at_failure) c.args.depth) c.args.round c.args.children.now)
+    c.if-progress-eq0.false _ _ c.in_ok-signal.signal refl c.in_ok-push.ensures.items refl refl c.in_ok-signal.ensures refl c.in_ok-push-2.ensures.items refl refl
+
+pub run_kind-lock_of-requires : goal.run_kind-lock_of-requires
+run_kind-lock_of-requires g t c = slice_get_within c.args.plan.now.elements c.args.number c.args.element.now c.requires.there
+
+pub run_kind-returns-in-CriticalSection : goal.run_kind-returns-in-CriticalSection
+run_kind-returns-in-CriticalSection g t c = IfOk-weaker c.run_section.result _ _ (λ signal h.
+    section-runs (here_of c.args.plan.now c.args.at_failure) (meaning (here_of c.args.plan.now c.args.at_failure) c.args.depth) c.args.number c.args.element.now c.args.round c.in-CriticalSection.lock c.lock_of.result
+    c.as_slice-children.result.now signal c.requires.there c.in-CriticalSection.is c.lock_of.ensures (c.as_slice-children.ensures.value ∙ c.in_ok-children.ensures) h) c.run_section.ensures

@@ -47,6 +47,9 @@ decreases-run_switch g l = 5 * l.depth + 2
 abbrev pub decreases-run_transaction : goal.decreases-run_transaction
 decreases-run_transaction g l = 5 * l.depth + 2
 
+abbrev pub decreases-run_section : goal.decreases-run_section
+decreases-run_section g l = 5 * l.depth + 2
+
 abbrev pub decreases-run_kind : goal.decreases-run_kind
 decreases-run_kind g l = 5 * l.depth + 4
 
