@@ -90,6 +90,7 @@ impl Cases {
         let mut out = match at(fields, 0) {
             "round" => String::from_str(alloc, scene.round(alloc))?,
             "sampler" => scene.sampler(alloc, at(fields, 1).parse::<u16>()?)?,
+            "asked" => return scene.asked(alloc),
             _ => return scene.told(alloc),
         };
         for name in &self.look {
@@ -161,7 +162,7 @@ impl Cases {
             "bounds" => return self.bounds(alloc, &fields),
             "check" => return checked(alloc, &fields, &self.answer),
             "plan" => self.set_scene(alloc, at(&fields, 1))?,
-            "round" | "sampler" | "told" => return self.thread(alloc, &fields),
+            "round" | "sampler" | "told" | "asked" => return self.thread(alloc, &fields),
             _ => {}
         }
         Ok(String::new(alloc))

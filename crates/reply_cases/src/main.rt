@@ -17,6 +17,7 @@
 //!   message, success, failure text, bytes, listeners), `null`, `limit` or `no memory`, the pause before it, the elements that took
 //!   part so far or last, and the variables of `look`.
 //! - `told`: what the outside of the thread was asked so far.
+//! - `asked`: the requests among that in full: `script` and the text, or `http`, the host, the port and the bytes.
 //!
 //! Any other line is for a reader alone. A value of more than 60 bytes is shown by its length and its first 8 bytes.
 #![tactic(auto)]

@@ -4,7 +4,7 @@ use crate::calls;
 use crate::shown::{ending, shown};
 use config_elements::ConfigState;
 use element_tree::Plan;
-use jm_base::{Heard, Sample};
+use jm_base::{Heard, Request, Sample};
 use outside_world::ScriptOutside;
 use sampler_pipeline::{Done, Packages};
 use std::alloc::Global;
@@ -72,6 +72,31 @@ impl Scene {
             out.push_str(heard_text(alloc, heard)?.as_str())?;
         }
         Ok(out)
+    }
+
+    /// The requests that the outside was asked for so far.
+    pub fn asked(&self, alloc: Global) -> anyhow::Result<String> {
+        let mut out = String::from_str(alloc, "asked")?;
+        for heard in &calls::told(alloc, &self.outside)? {
+            if let Heard::Asked { request, .. } = heard {
+                out.push_str(request_text(alloc, request)?.as_str())?;
+            }
+        }
+        Ok(out)
+    }
+}
+
+fn request_text(alloc: Global, request: &Request) -> anyhow::Result<String> {
+    match request {
+        Request::Script(text) => {
+            let text = text.bytes().escape_ascii();
+            Ok(format!(in alloc; "\tscript {text}")?)
+        }
+        Request::Http { host, port, bytes } => {
+            let host = host.bytes().escape_ascii();
+            let bytes = bytes.bytes().escape_ascii();
+            Ok(format!(in alloc; "\thttp {host} {port} {bytes}")?)
+        }
     }
 }
 
