@@ -8,7 +8,7 @@ use crate::response::{found_together, inside_together, same_together};
 use element_tree::{Assertion, Comparison, TestKind};
 use itoa::Buffer;
 use jm_base::{M, Reply};
-use reply_search::{field_of, text_in};
+use reply_search::{Searches, field_of, text_in};
 use std::alloc::Global;
 
 /// What a sampler was answered.
@@ -31,6 +31,21 @@ pub fn check(alloc: Global, assertion: &Assertion, answer: &Answer) -> M<bool>
     ensures patterns { KeepsPatterns assertion.now → IfOk result (λ held. held ≡ holds_by_patterns assertion.now answer.now) }
     ensures memory { OnErr result (IsTrue (takes_memory assertion.now)) }
 {
+    let mut searches = Searches::new(alloc);
+    check_with(alloc, assertion, answer, &mut searches)
+}
+
+/// The same, by the searches that are kept from answer to answer.
+pub fn check_with<'p>(
+    alloc: Global,
+    assertion: &'p Assertion,
+    answer: &Answer,
+    searches: &mut Searches<'p>,
+) -> M<bool>
+    ensures truth { IfOk result (λ held. held ≡ holds assertion.now answer.now) }
+    ensures patterns { KeepsPatterns assertion.now → IfOk result (λ held. held ≡ holds_by_patterns assertion.now answer.now) }
+    ensures memory { OnErr result (IsTrue (takes_memory assertion.now)) }
+{
     match assertion {
         Assertion::Response {
             field,
@@ -45,13 +60,21 @@ pub fn check(alloc: Global, assertion: &Assertion, answer: &Answer) -> M<bool>
             let mut digits = Buffer::new();
             let text = text_in(field_of(*field, &answer.reply, &mut digits));
             match test {
-                TestKind::Contains => found_together(alloc, regexes.as_slice(), text, *not, *or),
+                TestKind::Contains => found_together(
+                    alloc,
+                    regexes.as_slice(),
+                    text,
+                    *not,
+                    *or,
+                    searches,
+                ),
                 TestKind::Matches => found_together(
                     alloc,
                     whole_regexes.as_slice(),
                     text,
                     *not,
                     *or,
+                    searches,
                 ),
                 TestKind::Equals => Ok(same_together(patterns.as_slice(), text, *not, *or)),
                 TestKind::Substring => Ok(inside_together(patterns.as_slice(), text, *not, *or)),

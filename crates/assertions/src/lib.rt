@@ -5,4 +5,4 @@
 mod judging;
 mod response;
 
-pub use judging::{Answer, check};
+pub use judging::{Answer, check, check_with};

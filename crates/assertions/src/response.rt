@@ -6,7 +6,7 @@ ghost use Rattle.assertions.specs.Judging.{turned, together, meets};
 
 use element_props::Pattern;
 use jm_base::{M, Text};
-use reply_search::{finds, place_in};
+use reply_search::{Searches, place_in};
 use std::alloc::Global;
 
 /// Whether a pattern holds that a text meets or not: `not` turns it.
@@ -24,17 +24,18 @@ fn decides(either: bool, held: bool) -> bool
 }
 
 /// Whether regular expressions hold together of a text.
-pub fn found_together(
+pub fn found_together<'p>(
     alloc: Global,
-    patterns: &[Pattern],
+    patterns: &'p [Pattern],
     text: &str,
     negate: bool,
     either: bool,
+    searches: &mut Searches<'p>,
 ) -> M<bool>
     ensures { IfOk result (λ held. held ≡ together either (λ tried. turned negate (meets Contains text.now tried)) patterns.now) }
 {
     'patterns: for pattern in patterns {
-        let met = finds(alloc, pattern, text)?;
+        let met = searches.finds(alloc, pattern, text)?;
         if decides(either, turned(negate, met)) {
             return Ok(either);
         }

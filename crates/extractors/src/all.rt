@@ -1,9 +1,7 @@
 // All matches that are set.
 
 ghost use Rattle.std.specs.Prelude.{◌≡◌, length, map};
-ghost use Rattle.regex.specs.Patterns.{find_all_str};
-ghost use Rattle.regex.specs.Strings.{regex_names, regex_pattern};
-ghost use Rattle.reply_search.specs.Found.{matches_of, spans_of};
+ghost use Rattle.reply_search.specs.Found.{matches_of};
 ghost use Rattle.var_changes.specs.Changes.{Changes};
 ghost use Rattle.extractors.specs.Matches.{match_by, pattern_matches, plain};
 ghost use Rattle.extractors.specs.Extraction.{sets_matches, begins_all};
@@ -11,10 +9,10 @@ ghost use Rattle.extractors.specs.Extraction.{sets_matches, begins_all};
 use crate::names::{count_name, match_name};
 use crate::removed::{old_count, remove_groups, remove_matches};
 use crate::set::{put_match, put_number, put_text};
+use element_props::Pattern;
 use element_tree::RegexExtractor;
 use jm_base::Text;
-use regex::Regex;
-use reply_search::spans_in;
+use reply_search::Searches;
 use std::alloc::Global;
 use var_functions::{VarError, Vars};
 
@@ -35,49 +33,47 @@ pub(crate) fn begin_all(
     put_number(alloc, own, count as u64, vars)
 }
 
-// Sets the matches of a regular expression in a text under their numbers, by a template. Each is set before the next one is
-// looked for.
-fn put_found(
+// Sets the matches of a pattern in a text under their numbers, by a template. Each is set before the next one is looked for.
+fn put_found<'p>(
     alloc: Global,
     name: &[u8],
     template: &[u8],
-    regex: &Regex,
+    pattern: &'p Pattern,
     text: &str,
     count: usize,
+    searches: &mut Searches<'p>,
     vars: &mut Vars,
 ) -> Result<(), VarError>
-    requires { count ≡ length (find_all_str (regex_pattern regex.now) text.now) }
-    ensures exact { Changes (sets_matches name.now 1 (map (λ m. match_by template.now text.now (spans_of (length (regex_names regex.now)) m))
-        (find_all_str (regex_pattern regex.now) text.now))) vars.old vars.new result }
+    requires { count ≡ length (matches_of pattern.now text.now) }
+    ensures exact { Changes (sets_matches name.now 1 (map (match_by template.now text.now) (matches_of pattern.now text.now))) vars.old vars.new result }
 {
-    let mut matcher = regex.matcher(alloc)?;
-    let mut locations = regex.capture_locations(alloc)?;
-    let _groups = regex.captures_len();
-    let mut all = matcher.captures_iter(text);
+    let mut after = 0;
     'matches: for place in 0..count {
-        let Some(found) = all.next_read(&mut locations) else {
+        let next = searches.next_match(alloc, pattern, text, after)?;
+        let Some(found) = next else {
             return Ok(());
         };
-        let spans = spans_in(alloc, (found.start(), found.end()), &locations)?;
         let own = match_name(alloc, name, place as u64 + 1)?;
         put_match(
             alloc,
             own.bytes(),
             template,
             text.as_bytes(),
-            spans.as_slice(),
+            found.spans.as_slice(),
             vars,
         )?;
+        after = found.after;
     }
     Ok(())
 }
 
 /// Sets the matches of a pattern in a text under their numbers, of which there are this many.
-pub(crate) fn put_matches(
+pub(crate) fn put_matches<'p>(
     alloc: Global,
-    x: &RegexExtractor,
+    x: &'p RegexExtractor,
     text: &str,
     count: usize,
+    searches: &mut Searches<'p>,
     vars: &mut Vars,
 ) -> Result<(), VarError>
     requires { count ≡ length (matches_of x.now.pattern text.now) }
@@ -85,8 +81,9 @@ pub(crate) fn put_matches(
 {
     let name = x.ref_.bytes();
     let template = x.template.bytes();
-    let kept = x.pattern.regex();
-    put_found(alloc, name, template, kept, text, count, vars)
+    put_found(
+        alloc, name, template, &x.pattern, text, count, searches, vars,
+    )
 }
 
 /// Sets texts under their numbers.

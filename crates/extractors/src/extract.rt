@@ -8,7 +8,7 @@ use crate::matches::{bounded_texts, json_texts};
 use crate::taking::{take_matches, take_texts};
 use crate::which::which_of;
 use element_tree::{BoundaryExtractor, JsonExtractor, RegexExtractor};
-use reply_search::text_in;
+use reply_search::{Searches, text_in};
 use std::alloc::Global;
 use var_functions::{VarError, Vars};
 
@@ -27,8 +27,23 @@ pub fn extract_regex(
 ) -> Result<(), VarError>
     ensures exact { Changes (extracted_regex x.now text.now pick vars.old) vars.old vars.new result }
 {
+    let mut searches = Searches::new(alloc);
+    extract_regex_with(alloc, x, text, pick, &mut searches, vars)
+}
+
+/// The same, by the searches that are kept from text to text.
+pub fn extract_regex_with<'p>(
+    alloc: Global,
+    x: &'p RegexExtractor,
+    text: &[u8],
+    pick: u64,
+    searches: &mut Searches<'p>,
+    vars: &mut Vars,
+) -> Result<(), VarError>
+    ensures exact { Changes (extracted_regex x.now text.now pick vars.old) vars.old vars.new result }
+{
     let text = text_in(text);
-    take_matches(alloc, x, text, pick, vars)
+    take_matches(alloc, x, text, pick, searches, vars)
 }
 
 /// Takes values that a JSON path reaches into variables (the manual's "JSON Extractor"). The text is seen up to its longest

@@ -15,4 +15,4 @@ mod taking;
 mod templates;
 mod which;
 
-pub use extract::{extract_bounds, extract_json, extract_regex};
+pub use extract::{extract_bounds, extract_json, extract_regex, extract_regex_with};

@@ -13,7 +13,7 @@ use crate::set::{put_default, put_match};
 use crate::which::{Which, taken, taken_row, which_of};
 use element_tree::RegexExtractor;
 use jm_base::Text;
-use reply_search::{groups_of, match_count};
+use reply_search::{Searches, groups_of};
 use std::alloc::Global;
 use var_changes::put_copy;
 use var_functions::{VarError, Vars};
@@ -45,45 +45,48 @@ fn take_one_row(
 }
 
 // Sets all matches of a pattern in a text. They are counted first.
-fn take_all_matches(
+fn take_all_matches<'p>(
     alloc: Global,
-    x: &RegexExtractor,
+    x: &'p RegexExtractor,
     text: &str,
+    searches: &mut Searches<'p>,
     vars: &mut Vars,
 ) -> Result<(), VarError>
     ensures exact { Changes (takes_all x.now.ref_ x.now.default (Some (groups_of x.now.pattern))
         (pattern_matches x.now.pattern x.now.template text.now) vars.old) vars.old vars.new result }
 {
     let name = x.ref_.bytes();
-    let count = match_count(alloc, &x.pattern, text)?;
+    let count = searches.match_count(alloc, &x.pattern, text)?;
     begin_all(alloc, name, Some(groups_of(&x.pattern)), count, vars)?;
-    put_matches(alloc, x, text, count, vars)?;
+    put_matches(alloc, x, text, count, searches, vars)?;
     put_default(alloc, name, &x.default, vars)
 }
 
 // Sets the one match of a pattern in a text that is taken, or the default.
-fn take_one_match(
+fn take_one_match<'p>(
     alloc: Global,
-    x: &RegexExtractor,
+    x: &'p RegexExtractor,
     text: &str,
     which: Which,
     pick: u64,
+    searches: &mut Searches<'p>,
     vars: &mut Vars,
 ) -> Result<(), VarError>
     ensures exact { Changes (takes_one x.now.ref_ x.now.default (Some (groups_of x.now.pattern))
         (taken which pick (pattern_matches x.now.pattern x.now.template text.now))) vars.old vars.new result }
 {
-    let row = taken_row(alloc, x, text, which, pick)?;
+    let row = taken_row(alloc, x, text, which, pick, searches)?;
     take_one_row(alloc, x, text.as_bytes(), row, vars)
 }
 
 /// What a regular expression's extractor makes of the variables by all matches of its pattern in a text. Where one match is
 /// taken, the others are not kept.
-pub(crate) fn take_matches(
+pub(crate) fn take_matches<'p>(
     alloc: Global,
-    x: &RegexExtractor,
+    x: &'p RegexExtractor,
     text: &str,
     pick: u64,
+    searches: &mut Searches<'p>,
     vars: &mut Vars,
 ) -> Result<(), VarError>
     ensures exact { Changes (extracted x.now.ref_ (which_of x.now.match_) x.now.default (Some (groups_of x.now.pattern))
@@ -91,8 +94,10 @@ pub(crate) fn take_matches(
 {
     let which = which_of(x.match_);
     match which {
-        Which::All => take_all_matches(alloc, x, text, vars),
-        Which::AtRandom | Which::One(_) => take_one_match(alloc, x, text, which, pick, vars),
+        Which::All => take_all_matches(alloc, x, text, searches, vars),
+        Which::AtRandom | Which::One(_) => {
+            take_one_match(alloc, x, text, which, pick, searches, vars)
+        }
     }
 }
 

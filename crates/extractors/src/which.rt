@@ -7,7 +7,7 @@ ghost use Rattle.extractors.specs.Extraction.{which_of, taken};
 
 use element_tree::RegexExtractor;
 use jm_base::M;
-use reply_search::{match_count, nth_match};
+use reply_search::Searches;
 use std::alloc::Global;
 
 /// Which match is taken.
@@ -54,35 +54,37 @@ fn at_random<M>(pick: u64, matches: &[M]) -> Option<&M>
 
 /// The one match of a pattern that is taken, where it is there, by what its groups span. The search ends with it, and no
 /// other match is kept; for one at random all are counted before.
-pub(crate) fn taken_row(
+pub(crate) fn taken_row<'p>(
     alloc: Global,
-    x: &RegexExtractor,
+    x: &'p RegexExtractor,
     text: &str,
     which: Which,
     pick: u64,
+    searches: &mut Searches<'p>,
 ) -> M<Option<Vec<Option<(usize, usize)>>>>
     ensures { IfOk result (λ row. option_map (λ spans. spans.items) row ≡ taken which pick (matches_of x.now.pattern text.now)) }
 {
     match which {
         Which::All => Ok(None),
-        Which::AtRandom => random_row(alloc, x, text, pick),
-        Which::One(place) => nth_match(alloc, &x.pattern, text, place as usize),
+        Which::AtRandom => random_row(alloc, x, text, pick, searches),
+        Which::One(place) => searches.nth_match(alloc, &x.pattern, text, place as usize),
     }
 }
 
-fn random_row(
+fn random_row<'p>(
     alloc: Global,
-    x: &RegexExtractor,
+    x: &'p RegexExtractor,
     text: &str,
     pick: u64,
+    searches: &mut Searches<'p>,
 ) -> M<Option<Vec<Option<(usize, usize)>>>>
     ensures { IfOk result (λ row. option_map (λ spans. spans.items) row
         ≡ taken Which.AtRandom pick (matches_of x.now.pattern text.now)) }
 {
-    let count = match_count(alloc, &x.pattern, text)?;
+    let count = searches.match_count(alloc, &x.pattern, text)?;
     if count == 0 {
         return Ok(None);
     }
-    let row = nth_match(alloc, &x.pattern, text, (pick % count as u64) as usize)?;
+    let row = searches.nth_match(alloc, &x.pattern, text, (pick % count as u64) as usize)?;
     Ok(row)
 }

@@ -2,7 +2,10 @@
 #![tactic(auto)]
 
 mod found;
+mod search;
+mod searches;
 mod seen;
 
-pub use found::{finds, groups_of, match_count, nth_match, place_in, spans_in};
+pub use found::{groups_of, place_in};
+pub use searches::{NextMatch, Searches};
 pub use seen::{field_of, text_in};

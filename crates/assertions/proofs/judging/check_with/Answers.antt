@@ -1,7 +1,7 @@
 use Rattle.std.proofs.Common.{rules, ◌≡◌, IfOk}
 use Rattle.assertions.specs.Judging.{holds}
 use Rattle.assertions.proofs.ByPatternsLaws.{answered_by_patterns}
-use Rattle.assertions.proofs.judging.check.Goals as goal
+use Rattle.assertions.proofs.judging.check_with.Goals as goal
 
 pub returns-in-Matches-clause-patterns : goal.returns-in-Matches-clause-patterns
 returns-in-Matches-clause-patterns c =

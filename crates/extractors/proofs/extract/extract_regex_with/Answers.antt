@@ -3,7 +3,7 @@ use Rattle.var_changes.specs.Changes.{Changes}
 use Rattle.reply_search.specs.Found.{groups_of}
 use Rattle.extractors.specs.Extraction.{which_of, extracted}
 use Rattle.extractors.specs.Matches.{pattern_matches}
-use Rattle.extractors.proofs.extract.extract_regex.Goals as goal
+use Rattle.extractors.proofs.extract.extract_regex_with.Goals as goal
 
 pub returns : goal.returns
 returns c =

@@ -1,5 +1,0 @@
-use Rattle.regex.proofs.ForCallers.{count_of_find_iter}
-use Rattle.reply_search.proofs.found.regex_count.Goals as goal
-
-pub returns : goal.returns
-returns c = count_of_find_iter _ _ _ (rw c.in_ok-matcher.ensures.pattern at c.find_iter.ensures.found) c.count.ensures.ran
