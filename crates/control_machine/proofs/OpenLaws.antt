@@ -1,10 +1,12 @@
 -- What an element that was entered comes to.
 use Rattle.std.proofs.Common.{◌≡◌, ℕ, Bool, List, [], Option, Some, None, refl, sym, ap, ◌∙◌, subst}
 use Rattle.std.specs.Prelude.{Result, slice_get}
+use Rattle.jm_base.specs.declared.types.Method.{Method}
 use Rattle.jm_base.specs.declared.types.ScriptReply.{ScriptReply}
 use Rattle.jm_base.specs.Run.{Run, over}
 use Rattle.jm_base.specs.Outside.{Account, Goes}
 use Rattle.template_text.specs.Pieces.{Pieces}
+use Rattle.element_props.specs.declared.prop.Pair.{Pair}
 use Rattle.element_tree.specs.declared.kinds.Element.{Element}
 use Rattle.element_tree.specs.declared.kinds.Kind.{Kind}
 use Rattle.element_tree.specs.declared.kinds.Kind.TheVariants as kinds
@@ -14,7 +16,7 @@ use Rattle.jm_meaning.specs.State.{State, Ending, normal}
 use Rattle.jm_meaning.specs.Children.{Below}
 use Rattle.jm_meaning.specs.Meaning.{Here, kind_meaning}
 use Rattle.jm_base.proofs.RunLaws.{goes-nothing}
-use Rattle.control_machine.specs.Left.{kind_part, IsScript}
+use Rattle.control_machine.specs.Left.{kind_part, IsSamplerKind}
 use Rattle.control_machine.proofs.CameSteps.{same_element}
 
 -- the kind of the element at this number
@@ -28,33 +30,37 @@ kind_came a b here below n e k k' round s on limit res is came = subst (λ k. Ca
 
 -- an element of a kind that is none of these means nothing
 pub other_kind : (here : Here) (below : Below) (n : ℕ) (e : Element) (k : Kind) (round : ℕ) (s : State)
-    → ((replies : List ScriptReply) (request : Pieces) → k ≡ kinds.Script replies request → ⊥) → (k ≡ kinds.Simple → ⊥) → (k ≡ kinds.OnceOnly → ⊥) → ((loops : Pieces) → k ≡ kinds.Loop loops → ⊥)
+    → ((replies : List ScriptReply) (request : Pieces) → k ≡ kinds.Script replies request → ⊥)
+    → ((body host : Pieces) (method : Method) (params : List Pair) (path port : Pieces) (replies : Option (List ScriptReply)) → k ≡ kinds.Http body host method params path port replies → ⊥) → (k ≡ kinds.Simple → ⊥) → (k ≡ kinds.OnceOnly → ⊥) → ((loops : Pieces) → k ≡ kinds.Loop loops → ⊥)
     → ((all : Bool) (condition : Pieces) → k ≡ kinds.If all condition → ⊥) → ((condition : Pieces) → k ≡ kinds.While condition → ⊥)
     → ((end : ℕ) (input output : List ℕ) (separator : Bool) (start : ℕ) → k ≡ kinds.ForEach end input output separator start → ⊥) → (k ≡ kinds.Interleave → ⊥) → (k ≡ kinds.Random → ⊥) → (k ≡ kinds.RandomOrder → ⊥)
     → ((value : Pieces) → k ≡ kinds.Switch value → ⊥) → (k ≡ kinds.Transaction → ⊥) → ((name : List ℕ) → k ≡ kinds.CriticalSection name → ⊥)
     → kind_meaning here below n e k round s ≡ over (normal s)
-other_kind here below number e (kinds.Script replies request) round s a b c d f g h i j l m n o = absurd (a replies request refl)
-other_kind here below number e kinds.Simple round s a b c d f g h i j l m n o = absurd (b refl)
-other_kind here below number e kinds.OnceOnly round s a b c d f g h i j l m n o = absurd (c refl)
-other_kind here below number e (kinds.Loop loops) round s a b c d f g h i j l m n o = absurd (d loops refl)
-other_kind here below number e (kinds.If all condition) round s a b c d f g h i j l m n o = absurd (f all condition refl)
-other_kind here below number e (kinds.While condition) round s a b c d f g h i j l m n o = absurd (g condition refl)
-other_kind here below number e (kinds.ForEach end input output separator start) round s a b c d f g h i j l m n o = absurd (h end input output separator start refl)
-other_kind here below number e kinds.Interleave round s a b c d f g h i j l m n o = absurd (i refl)
-other_kind here below number e kinds.Random round s a b c d f g h i j l m n o = absurd (j refl)
-other_kind here below number e kinds.RandomOrder round s a b c d f g h i j l m n o = absurd (l refl)
-other_kind here below number e (kinds.Switch value) round s a b c d f g h i j l m n o = absurd (m value refl)
-other_kind here below number e kinds.Transaction round s a b c d f g h i j l m n o = absurd (n refl)
-other_kind here below number e (kinds.CriticalSection name) round s a b c d f g h i j l m n o = absurd (o name refl)
-other_kind here below number e k round s a b c d f g h i j l m n o = refl
+other_kind here below number e (kinds.Script replies request) round s a o b c d f g h i j l m n p = absurd (a replies request refl)
+other_kind here below number e (kinds.Http body host method params path port replies) round s a o b c d f g h i j l m n p = absurd (o body host method params path port replies refl)
+other_kind here below number e kinds.Simple round s a o b c d f g h i j l m n p = absurd (b refl)
+other_kind here below number e kinds.OnceOnly round s a o b c d f g h i j l m n p = absurd (c refl)
+other_kind here below number e (kinds.Loop loops) round s a o b c d f g h i j l m n p = absurd (d loops refl)
+other_kind here below number e (kinds.If all condition) round s a o b c d f g h i j l m n p = absurd (f all condition refl)
+other_kind here below number e (kinds.While condition) round s a o b c d f g h i j l m n p = absurd (g condition refl)
+other_kind here below number e (kinds.ForEach end input output separator start) round s a o b c d f g h i j l m n p = absurd (h end input output separator start refl)
+other_kind here below number e kinds.Interleave round s a o b c d f g h i j l m n p = absurd (i refl)
+other_kind here below number e kinds.Random round s a o b c d f g h i j l m n p = absurd (j refl)
+other_kind here below number e kinds.RandomOrder round s a o b c d f g h i j l m n p = absurd (l refl)
+other_kind here below number e (kinds.Switch value) round s a o b c d f g h i j l m n p = absurd (m value refl)
+other_kind here below number e kinds.Transaction round s a o b c d f g h i j l m n p = absurd (n refl)
+other_kind here below number e (kinds.CriticalSection name) round s a o b c d f g h i j l m n p = absurd (p name refl)
+other_kind here below number e k round s a o b c d f g h i j l m n p = refl
 
--- a Script sampler means that it is run
-pub script_means : (here : Here) (below : Below) (n : ℕ) (e : Element) (k : Kind) (replies : List ScriptReply) (request : Pieces) (round : ℕ) (s : State) → k ≡ kinds.Script replies request
+-- a sampler means that it is run
+sampler_by : (here : Here) (below : Below) (n : ℕ) (e : Element) (k : Kind) (round : ℕ) (s : State) → IsSamplerKind k → kind_meaning here below n e k round s ≡ kind_part here n e k s
+sampler_by here below n e (kinds.Script replies request) round s is = refl
+sampler_by here below n e (kinds.Http body host method params path port replies) round s is = refl
+sampler_by here below n e k round s is = absurd is
+
+pub sampler_means : (here : Here) (below : Below) (n : ℕ) (e : Element) (k sampler : Kind) (round : ℕ) (s : State) → k ≡ sampler → IsSamplerKind sampler
     → kind_meaning here below n e k round s ≡ kind_part here n e k s
-script_means here below n e k replies request round s is = subst (λ k. kind_meaning here below n e k round s ≡ kind_part here n e k s) (sym is) refl
-
-pub is_script : (k : Kind) (replies : List ScriptReply) (request : Pieces) → k ≡ kinds.Script replies request → IsScript k
-is_script k replies request is = subst IsScript (sym is) tt
+sampler_means here below n e k sampler round s is of_kind = sampler_by here below n e k round s (subst IsSamplerKind (sym is) of_kind)
 
 -- at a number is an element, or none
 pub none_some : (o : Option Element) (e : Element) → None ≡ o → o ≡ Some e → ⊥

@@ -11,7 +11,7 @@ use Rattle.jm_meaning.specs.Meaning.{Here, children_in}
 use Rattle.control_machine.specs.declared.enter.Entered.{Entered}
 use Rattle.control_machine.specs.declared.enter.Entered.TheVariants.{Nothing, Sampler, Open}
 use Rattle.control_machine.specs.Cursors.{cursor_left, Shut, Plain, Summing, Leaving, shut_of, begun_of, FitsKind}
-use Rattle.control_machine.specs.Left.{kind_part, label_at, closing, IsScript, KeepsLock}
+use Rattle.control_machine.specs.Left.{kind_part, label_at, closing, IsSamplerKind, KeepsLock}
 
 -- a thread of this plan whose failed samples lead to this signal
 abbrev pub here_with : Tree → Signal → Here
@@ -32,7 +32,7 @@ entered here below n round e s (Open c) =
 -- what stands after it
 abbrev pub EnteredFits : ℕ → ℕ → Kind → Entered → Type 0
 EnteredFits n count k Nothing = Unit {0}
-EnteredFits n count k Sampler = IsScript k
+EnteredFits n count k Sampler = IsSamplerKind k
 EnteredFits n count k (Open c) = FitsKind n count k c × (begun_of c ≡ 0)
 
 -- a section that is entered keeps the lock of its element

@@ -7,7 +7,7 @@ use Rattle.jm_base.specs.declared.types.End.TheVariants.{Completed, StopThread, 
 use Rattle.jm_base.specs.Run.{Run, over, give, Entered as EnteredEvent, Left as LeftEvent}
 use Rattle.element_tree.specs.declared.kinds.Element.{Element}
 use Rattle.element_tree.specs.declared.kinds.Kind.{Kind}
-use Rattle.element_tree.specs.declared.kinds.Kind.TheVariants.{Script, Transaction, CriticalSection}
+use Rattle.element_tree.specs.declared.kinds.Kind.TheVariants.{Script, Http, Transaction, CriticalSection}
 use Rattle.element_tree.specs.Names.{lock_of}
 use Rattle.element_tree.specs.Tree.{Tree, Nests, Apart}
 use Rattle.var_functions.specs.declared.state.UserState.{UserState}
@@ -101,6 +101,7 @@ state_at m beside user = state_of user (own_at m beside)
 -- a sampler by its number
 abbrev pub kind_part : Here → ℕ → Element → Kind → Part
 kind_part here number e (Script replies request) s = with_unit s (sampling here.plan.elements number here.at_failure)
+kind_part here number e (Http body host method params path port replies) s = with_unit s (sampling here.plan.elements number here.at_failure)
 kind_part here number e kind s = over (normal s)
 
 abbrev pub sampler_part : Here → ℕ → Option Element → Part
@@ -132,15 +133,16 @@ IsFinish RoundLimit = Unit {0}
 IsFinish ValueLimit = ⊥
 IsFinish NoMemory = ⊥
 
-abbrev pub IsScript : Kind → Type 0
-IsScript (Script replies request) = Unit {0}
-IsScript kind = ⊥
+abbrev pub IsSamplerKind : Kind → Type 0
+IsSamplerKind (Script replies request) = Unit {0}
+IsSamplerKind (Http body host method params path port replies) = Unit {0}
+IsSamplerKind kind = ⊥
 
--- the number is that of a Script sampler
+-- the number is that of a sampler
 pub record IsSampler (elements : List Element) (number : ℕ) : Type 0 where
   pub element : Element
   pub there : slice_get elements number ≡ Some element
-  pub script : IsScript element.kind
+  pub of_kind : IsSamplerKind element.kind
 
 -- the number is that of a transaction
 pub record IsTransaction (elements : List Element) (number : ℕ) : Type 0 where

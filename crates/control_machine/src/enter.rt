@@ -321,6 +321,7 @@ fn enter_other<O: Outside>(
     };
     match &element.kind {
         Kind::Script { .. } => Ok(Entered::Sampler),
+        Kind::Http { .. } => Ok(Entered::Sampler),
         Kind::Simple => enter_simple(alloc, plan, child, state, outside),
         Kind::OnceOnly => enter_once(alloc, plan, child, state, outside),
         Kind::Loop { .. } => enter_loop(alloc, plan, child, state, outside),

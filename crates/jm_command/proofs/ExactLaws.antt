@@ -80,7 +80,7 @@ module _ (bytes : List ℕ) (within : length bytes ≤ plan_limit) (before after
   not_built_status Check path is = absurd is
   not_built_status (Make m) path is = absurd is
   not_built_status (Run r) path is = at_plan (Run r) bytes within before after is.0 is.1 is.2 ∙ ap (λ o. status_of_fault o (status_of_fault (samples_fault is.1 r.samples) 0)) is.3
-  not_built_status (Solo s) path is = at_plan (Solo s) bytes within before after is.0 is.1 is.2 ∙ ap (λ o. status_of_fault o (status_of_fault (solo_fault is.1 s) 0)) is.3
+  not_built_status (Solo s) path is = at_plan (Solo s) bytes within before after is.0 is.1 is.2 ∙ ap (λ o. status_of_fault o (status_of_fault (solo_fault is.0 is.1 s) 0)) is.3
 
   unfit_status : (command : Command) (e : BuildError) → IsUnfit command bytes before after e → status_of_bytes command bytes ≡ 3
   unfit_status Check e is = absurd is
@@ -88,7 +88,7 @@ module _ (bytes : List ℕ) (within : length bytes ≤ plan_limit) (before after
   unfit_status (Run r) e is = at_plan (Run r) bytes within before after is.0 is.1 is.2
       ∙ ap (λ o. status_of_fault o (status_of_fault (samples_fault is.1 r.samples) 0)) is.3 ∙ ap (λ o. status_of_fault o 0) is.4
   unfit_status (Solo s) e is = at_plan (Solo s) bytes within before after is.0 is.1 is.2
-      ∙ ap (λ o. status_of_fault o (status_of_fault (solo_fault is.1 s) 0)) is.3 ∙ ap (λ o. status_of_fault o 0) is.4
+      ∙ ap (λ o. status_of_fault o (status_of_fault (solo_fault is.0 is.1 s) 0)) is.3 ∙ ap (λ o. status_of_fault o 0) is.4
 
   refused_status : (command : Command) (refusal : Refusal) → IsRefused command bytes before after refusal → status_of_bytes command bytes ≡ 3
   refused_status command refusals.TooLong is = absurd is

@@ -27,7 +27,7 @@ use Rattle.element_props.specs.Reads.{over, Goes}
 use Rattle.element_tree.specs.Walk.{reading}
 use Rattle.jm_command.specs.declared.status.Status.{Status}
 use Rattle.jm_command.specs.declared.status.Status.TheVariants.{Done, Usage, Refused, ReadFault, WriteFault, Memory}
-use Rattle.jm_command.specs.Refusals.{ReadsPlan, IsAccepted, IsRefused, solo_fault, samples_fault, refusal_line}
+use Rattle.jm_command.specs.Refusals.{ReadsPlan, IsAccepted, IsRefused, replies_fault, thread_fault, first_fault, samples_fault, refusal_line}
 use Rattle.jm_command.specs.Printed.{results_for, report_for, MayPrint}
 use Rattle.trace_output.specs.Printing.{TextOut, TextFailed}
 use Rattle.jm_command.specs.Command.{plan_limit, Edges, edges, Accepts, Makes, HasPlan, Refuses, IsDone, IsRefusal, LineUnwritten, RefusalUnwritten, ResultsUnwritten, ReportUnwritten, NothingPrinted, ResultsCut, ReportCut, IsCutShort, SaysUnplanned, Says, NothingRead, usage_line}
@@ -75,7 +75,11 @@ samples_fit plan samples none = by_test (nat_le (length (threads_of plan) * samp
   by_test true is h = grind (arith, nat_tests)
   by_test false is h = absurd (cc)
 
-has_thread : (plan : Tree) (s : SoloOf) → solo_fault plan s ≡ None → HasThread s plan
+no_second : (first second : Option BuildError) → first_fault first second ≡ None → second ≡ None
+no_second None second none = none
+no_second (Some e) second none = absurd (cc)
+
+has_thread : (plan : Tree) (s : SoloOf) → thread_fault plan s ≡ None → HasThread s plan
 has_thread plan s none = by_tests (nat_le (length (threads_of plan)) s.thread) (nat_le (length (threads_of plan) * s.samples) 4194304) refl refl none where
   by_tests : (a b : Bool) → nat_le (length (threads_of plan)) s.thread ≡ a → nat_le (length (threads_of plan) * s.samples) 4194304 ≡ b
       → (if a then Some builds.NoThread else if b then None else Some (builds.TooMany (at []) whats.Samples)) ≡ None → HasThread s plan
@@ -90,7 +94,7 @@ has_thread plan s none = by_tests (nat_le (length (threads_of plan)) s.thread) (
 pub can_run : (command : Command) (bytes : List ℕ) (before after : Asked) (plan : Tree) → IsPlain command → IsAccepted command bytes before after plan → CanRun command plan
 can_run Check bytes before after plan plain is = tt
 can_run (Make m) bytes before after plan plain is = absurd plain
-can_run (Solo s) bytes before after plan plain is = has_thread plan s is.fit.conditions
+can_run (Solo s) bytes before after plan plain is = has_thread plan s (no_second (replies_fault is.tree plan) (thread_fault plan s) is.fit.conditions)
 can_run (Run r) bytes before after plan plain is = absurd plain
 
 pub reads_plan : (command : Command) → IsPlain command → ReadsPlan command

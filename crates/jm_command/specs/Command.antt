@@ -249,7 +249,7 @@ abbrev pub status_of_plan : Command → Raw → Tree → ℕ
 status_of_plan Check tree plan = 0
 status_of_plan (Make m) tree plan = 0
 status_of_plan (Run r) tree plan = status_of_fault (not_built_beside tree plan.elements) (status_of_fault (samples_fault plan r.samples) 0)
-status_of_plan (Solo s) tree plan = status_of_fault (not_built tree plan.elements) (status_of_fault (solo_fault plan s) 0)
+status_of_plan (Solo s) tree plan = status_of_fault (not_built tree plan.elements) (status_of_fault (solo_fault tree plan s) 0)
 
 abbrev pub status_of_outcome : Command → Raw → Result Tree BuildError → ℕ
 status_of_outcome command tree (Ok plan) = status_of_plan command tree plan

@@ -231,5 +231,5 @@ JudgesSolo s tree plan (Unfit TooLong) = ⊥
 JudgesSolo s tree plan (Unfit (Shape e)) = ⊥
 JudgesSolo s tree plan (Unfit (Build e)) = ⊥
 JudgesSolo s tree plan (Unfit (NotBuilt path)) = not_built tree plan.elements ≡ Some path
-JudgesSolo s tree plan (Unfit (Conditions e)) = (not_built tree plan.elements ≡ None) × (solo_fault plan s ≡ Some e)
+JudgesSolo s tree plan (Unfit (Conditions e)) = (not_built tree plan.elements ≡ None) × (solo_fault tree plan s ≡ Some e)
 JudgesSolo s tree plan NoMemory = Unit {0}

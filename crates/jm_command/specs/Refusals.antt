@@ -15,7 +15,7 @@ use Rattle.element_tree.specs.declared.kinds.Element.{Element}
 use Rattle.element_tree.specs.declared.kinds.Kind.{Kind}
 use Rattle.element_tree.specs.declared.kinds.Kind.TheVariants as kinds
 use Rattle.element_tree.specs.declared.kinds.OnError.TheVariants as on_errors
-use Rattle.element_tree.specs.Tree.{Tree, threads_of}
+use Rattle.element_tree.specs.Tree.{Tree, threads_of, asks_a_server}
 use Rattle.element_tree.specs.Walk.{is_enabled, reading}
 use Rattle.jm_meaning.specs.Runs.{runs}
 use Rattle.command_words.specs.declared.command.Command.{Command}
@@ -79,16 +79,29 @@ ReadsPlan (Run r) = Unit {0}
 abbrev pub samples_fault : Tree → ℕ → Option BuildError
 samples_fault plan samples = if nat_le (length (threads_of plan) * samples) 4194304 then None else Some (builds.TooMany (at []) whats.Samples)
 
+-- the first HTTP sampler in tree order without replies of its own, which only a server can answer
+abbrev pub replies_fault : Raw → Tree → Option BuildError
+replies_fault tree plan = option_map (λ n. builds.NoReplies (place_at tree n)) (position asks_a_server plan.elements)
+
 -- a thread that the plan has, and a sample budget that all its threads can have
-abbrev pub solo_fault : Tree → SoloOf → Option BuildError
-solo_fault plan s =
+abbrev pub thread_fault : Tree → SoloOf → Option BuildError
+thread_fault plan s =
     if nat_le (length (threads_of plan)) s.thread then Some builds.NoThread
     else samples_fault plan s.samples
+
+-- the first of two faults, if there is any
+abbrev pub first_fault : Option BuildError → Option BuildError → Option BuildError
+first_fault None fault = fault
+first_fault (Some e) fault = Some e
+
+-- one thread is run without a server
+abbrev pub solo_fault : Raw → Tree → SoloOf → Option BuildError
+solo_fault tree plan s = first_fault (replies_fault tree plan) (thread_fault plan s)
 
 -- the plan can be run by the command: each element runs, and the command's own conditions hold
 pub record RunsAlone (tree : Raw) (plan : Tree) (s : SoloOf) : Type 0 where
   pub built : not_built tree plan.elements ≡ None
-  pub conditions : solo_fault plan s ≡ None
+  pub conditions : solo_fault tree plan s ≡ None
 
 -- all threads of the plan can be run beside one another
 pub record RunsBeside (tree : Raw) (plan : Tree) (r : RunOf) : Type 0 where
@@ -130,7 +143,7 @@ IsUnfit (Make m) bytes before after e = ⊥
 IsUnfit (Run r) bytes before after e =
     (tree : Raw) × (plan : Tree) × IsPlanOf bytes before after tree plan × (not_built_beside tree plan.elements ≡ None) × (samples_fault plan r.samples ≡ Some e)
 IsUnfit (Solo s) bytes before after e =
-    (tree : Raw) × (plan : Tree) × IsPlanOf bytes before after tree plan × (not_built tree plan.elements ≡ None) × (solo_fault plan s ≡ Some e)
+    (tree : Raw) × (plan : Tree) × IsPlanOf bytes before after tree plan × (not_built tree plan.elements ≡ None) × (solo_fault tree plan s ≡ Some e)
 
 -- Why the bytes of a plan are refused to a command. The tree's shape is judged first, then the tree is built, then comes
 -- what does not run yet, and last the command's own conditions.

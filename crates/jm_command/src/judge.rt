@@ -1,15 +1,16 @@
 // Whether the bytes of a plan are fit for a command.
 
-ghost use Rattle.std.specs.Prelude.{◌≡◌};
+ghost use Rattle.std.specs.Prelude.{◌≡◌, IfOk};
 ghost use Rattle.plan_json.specs.TreeSeen.{raw_view};
 ghost use Rattle.jm_command.specs.Parts.{Judges, JudgesSolo, JudgesRun};
-ghost use Rattle.jm_command.specs.Refusals.{ReadsPlan, solo_fault, samples_fault};
+ghost use Rattle.jm_command.specs.Refusals.{ReadsPlan, replies_fault, thread_fault, solo_fault, samples_fault};
 
 use crate::refusal::Refusal;
-use crate::unbuilt::{not_built, not_built_beside};
+use crate::unbuilt::{not_built, not_built_beside, places_at};
 use command_words::{Command, Run, Solo};
 use element_props::{BuildError, Patterns, What};
 use element_tree::{Plan, build};
+use jm_base::M;
 use plan_json::{Path, RawElement, TreeError, read_tree};
 use std::alloc::Global;
 
@@ -62,9 +63,10 @@ fn fit_to_run(alloc: Global, solo: &Solo, tree: &RawElement, plan: Plan) -> Judg
         Ok(Some(path)) => return Judged::Unfit(Refusal::NotBuilt(path)),
         Err(_) => return Judged::NoMemory,
     }
-    match solo_fault(alloc, &plan, solo) {
-        None => Judged::Fit(plan),
-        Some(error) => Judged::Unfit(Refusal::Unfit(error)),
+    match solo_fault(alloc, tree, &plan, solo) {
+        Ok(None) => Judged::Fit(plan),
+        Ok(Some(error)) => Judged::Unfit(Refusal::Unfit(error)),
+        Err(_) => Judged::NoMemory,
     }
 }
 
@@ -83,9 +85,33 @@ fn fit_to_run_beside(alloc: Global, run: &Run, tree: &RawElement, plan: Plan) ->
     }
 }
 
-// What of the plan does not meet the conditions of running one thread.
-fn solo_fault(alloc: Global, plan: &Plan, solo: &Solo) -> Option<BuildError>
-    ensures { result ≡ solo_fault plan.now solo.now }
+// What of the plan does not meet the conditions of running one thread without a server.
+fn solo_fault(alloc: Global, tree: &RawElement, plan: &Plan, solo: &Solo) -> M<Option<BuildError>>
+    ensures { IfOk result (λ fault. fault ≡ solo_fault (raw_view tree.now) plan.now solo.now) }
+{
+    match replies_fault(alloc, tree, plan)? {
+        Some(error) => Ok(Some(error)),
+        None => Ok(thread_fault(alloc, plan, solo)),
+    }
+}
+
+// The refusal of an HTTP sampler that has no replies of its own.
+fn replies_fault(alloc: Global, tree: &RawElement, plan: &Plan) -> M<Option<BuildError>>
+    ensures { IfOk result (λ fault. fault ≡ replies_fault (raw_view tree.now) plan.now) }
+{
+    let Some(number) = plan.without_replies() else {
+        return Ok(None);
+    };
+    let path = Path {
+        places: places_at(alloc, tree, usize::from(number))?,
+        prop: None,
+    };
+    Ok(Some(BuildError::NoReplies { path }))
+}
+
+// The refusal of a thread that the plan does not have, or of a sample budget that not all of its threads can have.
+fn thread_fault(alloc: Global, plan: &Plan, solo: &Solo) -> Option<BuildError>
+    ensures { result ≡ thread_fault plan.now solo.now }
 {
     if solo.thread >= plan.threads() {
         return Some(BuildError::NoThread);

@@ -83,8 +83,8 @@ fn first_unbuilt(elements: &[Element]) -> Option<usize>
     elements.iter().position(|element| !runs(&element.kind))
 }
 
-// The steps from the root to the enabled element of this number.
-fn places_at(alloc: Global, tree: &RawElement, number: usize) -> M<Vec<u64>>
+/// The steps from the root to the enabled element of this number.
+pub(crate) fn places_at(alloc: Global, tree: &RawElement, number: usize) -> M<Vec<u64>>
     ensures { IfOk result (λ places. places.items ≡ unwrap_or (slice_get (places_of [] (raw_view tree.now)) number) []) }
 {
     let mut all = Vec::new(alloc);

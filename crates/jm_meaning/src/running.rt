@@ -26,7 +26,10 @@ pub fn runs(kind: &Kind) -> bool
             | Kind::Transaction
             | Kind::CriticalSection { .. }
             | Kind::Script { .. }
+            | Kind::Http { .. }
             | Kind::UserVariables { .. }
+            | Kind::HttpDefaults { .. }
+            | Kind::HeaderManager { .. }
             | Kind::Counter { .. }
             | Kind::DataSet { .. }
             | Kind::UserParameters { .. }

@@ -6,13 +6,15 @@ use Rattle.std.specs.Prelude.{slice_get, ◌==◌, if◌then◌else◌}
 use Rattle.std.proofs.lemmas.Bool.Decides.{nat_tests}
 use Rattle.std.proofs.lemmas.List.{drop_all}
 use Rattle.jm_base.specs.declared.types.End.TheVariants.{ValueLimit as PastValueLimit}
+use Rattle.jm_base.specs.declared.types.Method.{Method}
 use Rattle.jm_base.specs.declared.types.ScriptReply.{ScriptReply}
 use Rattle.jm_base.specs.Run.{over}
 use Rattle.jm_base.specs.Outside.{Account, Goes}
 use Rattle.template_text.specs.Pieces.{Pieces}
+use Rattle.element_props.specs.declared.prop.Pair.{Pair}
 use Rattle.element_tree.specs.declared.kinds.Element.{Element}
 use Rattle.element_tree.specs.declared.kinds.Kind.{Kind}
-use Rattle.element_tree.specs.declared.kinds.Kind.TheVariants.{Simple, OnceOnly, Loop, If, While, ForEach, Switch, Interleave, Random, RandomOrder, Transaction, CriticalSection, Script}
+use Rattle.element_tree.specs.declared.kinds.Kind.TheVariants.{Simple, OnceOnly, Loop, If, While, ForEach, Switch, Interleave, Random, RandomOrder, Transaction, CriticalSection, Script, Http}
 use Rattle.logic_controllers.specs.IfController.{is_true}
 use Rattle.jm_meaning.specs.declared.signal.Signal.{Signal}
 use Rattle.jm_meaning.specs.declared.signal.Signal.TheVariants.{Normal, Stop}
@@ -56,22 +58,24 @@ meaning-flat here depth number round s is = rw is refl
 pub kind-other : (here : Here) (below : Below) (number : ℕ) (e : Element) (round : ℕ) (s : State) (k : Kind)
     → (k ≡ Simple → ⊥) → (k ≡ OnceOnly → ⊥) → ((all : Bool) (c : Pieces) → k ≡ If all c → ⊥) → ((l : Pieces) → k ≡ Loop l → ⊥) → ((c : Pieces) → k ≡ While c → ⊥)
     → ((end : ℕ) (i o : List ℕ) (sep : Bool) (start : ℕ) → k ≡ ForEach end i o sep start → ⊥) → ((r : List ScriptReply) (q : Pieces) → k ≡ Script r q → ⊥)
+    → ((body host : Pieces) (method : Method) (params : List Pair) (path port : Pieces) (replies : Option (List ScriptReply)) → k ≡ Http body host method params path port replies → ⊥)
     → ((v : Pieces) → k ≡ Switch v → ⊥) → (k ≡ Interleave → ⊥) → (k ≡ Random → ⊥) → (k ≡ RandomOrder → ⊥) → (k ≡ Transaction → ⊥) → ((lock : List ℕ) → k ≡ CriticalSection lock → ⊥)
     → kind_meaning here below number e k round s ≡ over (normal s)
-kind-other here below number e round s Simple a b c d f g h l m n p t u = absurd (a refl)
-kind-other here below number e round s OnceOnly a b c d f g h l m n p t u = absurd (b refl)
-kind-other here below number e round s (If all x) a b c d f g h l m n p t u = absurd (c all x refl)
-kind-other here below number e round s (Loop x) a b c d f g h l m n p t u = absurd (d x refl)
-kind-other here below number e round s (While x) a b c d f g h l m n p t u = absurd (f x refl)
-kind-other here below number e round s (ForEach x i o sep start) a b c d f g h l m n p t u = absurd (g x i o sep start refl)
-kind-other here below number e round s (Script r q) a b c d f g h l m n p t u = absurd (h r q refl)
-kind-other here below number e round s (Switch v) a b c d f g h l m n p t u = absurd (l v refl)
-kind-other here below number e round s Interleave a b c d f g h l m n p t u = absurd (m refl)
-kind-other here below number e round s Random a b c d f g h l m n p t u = absurd (n refl)
-kind-other here below number e round s RandomOrder a b c d f g h l m n p t u = absurd (p refl)
-kind-other here below number e round s Transaction a b c d f g h l m n p t u = absurd (t refl)
-kind-other here below number e round s (CriticalSection lock) a b c d f g h l m n p t u = absurd (u lock refl)
-kind-other here below number e round s k a b c d f g h l m n p t u = refl
+kind-other here below number e round s Simple a b c d f g h j l m n p t u = absurd (a refl)
+kind-other here below number e round s OnceOnly a b c d f g h j l m n p t u = absurd (b refl)
+kind-other here below number e round s (If all x) a b c d f g h j l m n p t u = absurd (c all x refl)
+kind-other here below number e round s (Loop x) a b c d f g h j l m n p t u = absurd (d x refl)
+kind-other here below number e round s (While x) a b c d f g h j l m n p t u = absurd (f x refl)
+kind-other here below number e round s (ForEach x i o sep start) a b c d f g h j l m n p t u = absurd (g x i o sep start refl)
+kind-other here below number e round s (Script r q) a b c d f g h j l m n p t u = absurd (h r q refl)
+kind-other here below number e round s (Http body host method params path port replies) a b c d f g h j l m n p t u = absurd (j body host method params path port replies refl)
+kind-other here below number e round s (Switch v) a b c d f g h j l m n p t u = absurd (l v refl)
+kind-other here below number e round s Interleave a b c d f g h j l m n p t u = absurd (m refl)
+kind-other here below number e round s Random a b c d f g h j l m n p t u = absurd (n refl)
+kind-other here below number e round s RandomOrder a b c d f g h j l m n p t u = absurd (p refl)
+kind-other here below number e round s Transaction a b c d f g h j l m n p t u = absurd (t refl)
+kind-other here below number e round s (CriticalSection lock) a b c d f g h j l m n p t u = absurd (u lock refl)
+kind-other here below number e round s k a b c d f g h j l m n p t u = refl
 
 -- ---- children
 

@@ -115,6 +115,7 @@ fn run_kind<O: Outside>(
             outside,
         ),
         Kind::Script { .. } => progress.sample(plan, number, at_failure, outside),
+        Kind::Http { .. } => progress.sample(plan, number, at_failure, outside),
         _ => Ok(Signal::Normal),
     }
 }

@@ -11,7 +11,7 @@ use Rattle.element_tree.specs.declared.kinds.Kind.{Kind}
 use Rattle.element_tree.specs.declared.kinds.Kind.TheVariants as kinds
 use Rattle.element_tree.specs.declared.types.Class.TheVariants as classes
 use Rattle.element_tree.specs.Types.{class_of}
-use Rattle.control_machine.specs.Left.{IsScript, IsLock}
+use Rattle.control_machine.specs.Left.{IsSamplerKind, IsLock}
 use Rattle.thread_machine.specs.Stepped.{IsKindOf}
 use Rattle.element_tree.specs.Names.{gives_samples, sample_name, lock_of_kind, lock_name, with_text, distinct_after, labels_of, label_of, locks_of, lock_of}
 
@@ -70,10 +70,11 @@ label_within elements n e giver there kind_is =
     let name : sample_name e ≡ Some e.name = ap (λ b. if b then Some e.name else None) (gives_by giver e.kind kind_is) in
     within (same_bytes e.name) _ (some_distinct _ (named sample_name elements n e e.name there name))
 
--- a Script sampler is a sampler
-pub script_class : (k : Kind) → IsScript k → class_of k ≡ classes.Sampler
-script_class (kinds.Script replies request) h = refl
-script_class k h = absurd h
+-- samplers are of the class of samplers
+pub sampler_class : (k : Kind) → IsSamplerKind k → class_of k ≡ classes.Sampler
+sampler_class (kinds.Script replies request) h = refl
+sampler_class (kinds.Http body host method params path port replies) h = refl
+sampler_class k h = absurd h
 
 -- the lock of a section
 pub lock_within : (elements : List Element) (lock : ℕ) → IsLock elements lock → lock < length (locks_of elements)

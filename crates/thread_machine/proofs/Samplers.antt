@@ -13,7 +13,7 @@ use Rattle.var_functions.specs.Came.{CameTo}
 use Rattle.var_functions.proofs.CameLaws.{came-bind}
 use Rattle.element_tree.specs.declared.kinds.Element.{Element}
 use Rattle.element_tree.specs.declared.kinds.Kind.{Kind}
-use Rattle.element_tree.specs.declared.kinds.Kind.TheVariants.{Script}
+use Rattle.element_tree.specs.declared.kinds.Kind.TheVariants.{Script, Http}
 use Rattle.element_tree.specs.Names.{label_of}
 use Rattle.element_tree.specs.Tree.{Tree}
 use Rattle.jm_meaning.specs.declared.signal.Signal.{Signal}
@@ -31,7 +31,7 @@ use Rattle.control_machine.specs.declared.moves.Move.TheVariants.{RunSampler}
 use Rattle.control_machine.specs.Moves.{past}
 use Rattle.control_machine.specs.Opened.{Opened}
 use Rattle.control_machine.specs.Hearing.{told}
-use Rattle.control_machine.specs.Left.{here_in, left_in, left_after, left_of, moved, kind_part, sampler_part, open_lock, IsScript, IsSampler, IsLock, StandsIn}
+use Rattle.control_machine.specs.Left.{here_in, left_in, left_after, left_of, moved, kind_part, sampler_part, open_lock, IsSamplerKind, IsSampler, IsLock, StandsIn}
 use Rattle.thread_machine.specs.declared.trace.TraceItem.TheVariants.{Null as NullItem}
 use Rattle.thread_machine.specs.declared.runner.Runner.{Runner}
 use Rattle.thread_machine.specs.declared.step.Step.{Step}
@@ -43,15 +43,16 @@ use Rattle.thread_machine.specs.Inside.{standing_of}
 use Rattle.thread_machine.specs.Ran.{is_end, IsRefusedAt, EndsBy}
 use Rattle.control_machine.proofs.StackLaws.{left_gives, left_hears, stop_through}
 use Rattle.thread_machine.proofs.StackLaws.{came_left}
-use Rattle.thread_machine.proofs.Labels.{script_class}
+use Rattle.thread_machine.proofs.Labels.{sampler_class}
 use Rattle.thread_machine.proofs.Steps.{rest_on, left_on, same_self, limit_ends, limit_gives}
 
 module _ (here : Here) (number : ℕ) (s : State) (e : Element) where
-  by_kind : (k : Kind) → IsScript k → kind_part here number e k s ≡ with_unit s (sampling here.plan.elements number here.at_failure)
+  by_kind : (k : Kind) → IsSamplerKind k → kind_part here number e k s ≡ with_unit s (sampling here.plan.elements number here.at_failure)
   by_kind (Script replies request) is = refl
+  by_kind (Http body host method params path port replies) is = refl
   by_kind k is = absurd is
 
-  sampler-is : slice_get here.plan.elements number ≡ Some e → IsScript e.kind
+  sampler-is : slice_get here.plan.elements number ≡ Some e → IsSamplerKind e.kind
       → sampler_part here number (slice_get here.plan.elements number) s ≡ with_unit s (sampling here.plan.elements number here.at_failure)
   sampler-is there is = ap (λ o. sampler_part here number o s) there ∙ by_kind e.kind is
 
@@ -108,7 +109,7 @@ module _ (w : Runner) (number : ℕ) (r : IsSampler w.plan.now.elements number) 
       let s : State = state_in (standing_of w false) in
       let here : Here = here_in w.plan.now w.machine in
       let part : sampler_part here number (slice_get w.plan.now.elements number) s ≡ over (stopped SampleLimit s) =
-      sampler-is here number s r.element r.there r.script ∙ no-units s (sampling w.plan.now.elements number w.machine.at_failure) none in
+      sampler-is here number s r.element r.there r.of_kind ∙ no-units s (sampling w.plan.now.elements number w.machine.at_failure) none in
       let all : sampler_run ≡ leaving_open w.section (over (stopped SampleLimit s)) =
       ap (left_in here w.machine.group w.machine.stack.frames) part ∙ stop_through here w.machine.group w.machine.stack.frames SampleLimit s refl stands.apart
       ∙ ap (λ o. leaving_open o (over (stopped SampleLimit s))) (sym lock) in
@@ -129,7 +130,7 @@ module _ (w : Runner) (number : ℕ) (r : IsSampler w.plan.now.elements number) 
     unit_used : sampler_part (here_in w.plan.now w.machine) number (slice_get w.plan.now.elements number) (state_in (standing_of w false))
         ≡ sampling w.plan.now.elements number w.machine.at_failure (state_of w.user own)
     unit_used =
-        sampler-is (here_in w.plan.now w.machine) number (state_in (standing_of w false)) r.element r.there r.script
+        sampler-is (here_in w.plan.now w.machine) number (state_in (standing_of w false)) r.element r.there r.of_kind
         ∙ one-unit (state_in (standing_of w false)) (sampling w.plan.now.elements number w.machine.at_failure) (w.units - 1) some_units
 
     -- and the sampler has run
@@ -167,7 +168,7 @@ module _ (w : Runner) (number : ℕ) (r : IsSampler w.plan.now.elements number) 
     label_is = ap (λ o. unwrap_or (option_map (λ e. label_of w.plan.now.elements e.name) o) 0) r.there
 
     sampler_of : (n : ℕ) → n ≡ label_at w.plan.now.elements number → IsGiver Sampler w.plan.now number n
-    sampler_of n is = record { element = r.element; there = r.there; kind_is = script_class r.element.kind r.script; label_is = is ∙ label_is }
+    sampler_of n is = record { element = r.element; there = r.there; kind_is = sampler_class r.element.kind r.of_kind; label_is = is ∙ label_is }
 
     -- a sample
     pub gave_sample : (done : Done) (sample : Sample) (ran_on : Runner) (t : Recorded) (new : Runner) (step : Step) → w.pause ≡ 0 → w.last ≡ None → w.begun ≡ true → done.sample ≡ Some sample

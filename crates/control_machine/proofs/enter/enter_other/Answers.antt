@@ -9,7 +9,7 @@ use Rattle.control_machine.specs.Moves.{past}
 use Rattle.jm_meaning.specs.Children.{children_of}
 use Rattle.control_machine.specs.Entering.{here_with, entered, EnteredFits}
 use Rattle.control_machine.proofs.CameSteps.{same_element}
-use Rattle.control_machine.proofs.OpenLaws.{kind_is, kind_came, other_kind, script_means, goes_as}
+use Rattle.control_machine.proofs.OpenLaws.{kind_is, kind_came, other_kind, sampler_means, goes_as}
 use Rattle.control_machine.proofs.enter.enter_other.Goals as goal
 
 pub enter_each-requires : goal.enter_each-requires
@@ -19,8 +19,16 @@ enter_each-requires g c =
 
 pub returns-in-Script-clause-came : goal.returns-in-Script-clause-came
 returns-in-Script-clause-came g c = λ e failure below round own there.
-    goes_as _ _ _ (script_means (here_with c.args.plan.now failure) below c.args.child e e.kind c.in-Script.replies c.in-Script.request round (state_of c.args.state.now (at_places own c.args.places.now))
-    (kind_is c.args.plan.now.elements c.args.child c.in-Some.element.now e (kinds.Script c.in-Script.replies c.in-Script.request) c.in-Some.ensures there c.in-Script.is))
+    let k = kinds.Script c.in-Script.replies c.in-Script.request in
+    goes_as _ _ _ (sampler_means (here_with c.args.plan.now failure) below c.args.child e e.kind k round (state_of c.args.state.now (at_places own c.args.places.now))
+    (kind_is c.args.plan.now.elements c.args.child c.in-Some.element.now e k c.in-Some.ensures there c.in-Script.is) tt)
+
+pub returns-in-Http-clause-came : goal.returns-in-Http-clause-came
+returns-in-Http-clause-came g c = λ e failure below round own there.
+    let h = c.in-Http in
+    let k = kinds.Http h.body h.host h.method h.params h.path h.port h.replies in
+    goes_as _ _ _ (sampler_means (here_with c.args.plan.now failure) below c.args.child e e.kind k round (state_of c.args.state.now (at_places own c.args.places.now))
+    (kind_is c.args.plan.now.elements c.args.child c.in-Some.element.now e k c.in-Some.ensures there h.is) tt)
 
 pub returns-in-Simple-clause-came : goal.returns-in-Simple-clause-came
 returns-in-Simple-clause-came g c = λ e failure below round own there.
@@ -116,7 +124,7 @@ returns-in_default-kind g c =
           goes_as _ _ _ (subst (λ x. kind_meaning (here_with c.args.plan.now failure) below c.args.child e x.kind round (state_of c.args.state.now (at_places own c.args.places.now)) ≡ over (normal (state_of c.args.state.now (at_places own c.args.places.now))))
           (same_element c.args.plan.now.elements c.args.child c.in-Some.element.now e (sym c.in-Some.ensures) there)
           (other_kind (here_with c.args.plan.now failure) below c.args.child e c.in-Some.element.now.kind round (state_of c.args.state.now (at_places own c.args.places.now))
-          d.not-Script d.not-Simple d.not-OnceOnly d.not-Loop d.not-If d.not-While d.not-ForEach d.not-Interleave d.not-Random d.not-RandomOrder d.not-Switch d.not-Transaction (c.requires.other c.in-Some.element.now (sym c.in-Some.ensures))));
+          d.not-Script d.not-Http d.not-Simple d.not-OnceOnly d.not-Loop d.not-If d.not-While d.not-ForEach d.not-Interleave d.not-Random d.not-RandomOrder d.not-Switch d.not-Transaction (c.requires.other c.in-Some.element.now (sym c.in-Some.ensures))));
       fits = λ e there. tt;
       stands = stands_same c.args.state.now;
     }
@@ -126,3 +134,6 @@ returns-in_default-clause-stands g c = stands_same c.args.state.now
 
 pub returns-in-Script-clause-stands : goal.returns-in-Script-clause-stands
 returns-in-Script-clause-stands g c = stands_same c.args.state.now
+
+pub returns-in-Http-clause-stands : goal.returns-in-Http-clause-stands
+returns-in-Http-clause-stands g c = stands_same c.args.state.now

@@ -247,7 +247,7 @@ run_once-returns-else-round-eq0 g t c = plays-nothing _ _ _ (if-not _ (in_order 
 
 pub run_kind-returns : goal.run_kind-returns
 run_kind-returns g t c = plays-nothing _ _ _ (kind-other (here_of c.args.plan.now c.args.at_failure) (meaning (here_of c.args.plan.now c.args.at_failure) c.args.depth) c.args.number c.args.element.now c.args.round (state_in c.args.progress.now) c.args.element.now.kind
-    c.in_default.not-Simple c.in_default.not-OnceOnly c.in_default.not-If c.in_default.not-Loop c.in_default.not-While c.in_default.not-ForEach c.in_default.not-Script c.in_default.not-Switch c.in_default.not-Interleave c.in_default.not-Random c.in_default.not-RandomOrder c.in_default.not-Transaction c.in_default.not-CriticalSection)
+    c.in_default.not-Simple c.in_default.not-OnceOnly c.in_default.not-If c.in_default.not-Loop c.in_default.not-While c.in_default.not-ForEach c.in_default.not-Script c.in_default.not-Http c.in_default.not-Switch c.in_default.not-Interleave c.in_default.not-Random c.in_default.not-RandomOrder c.in_default.not-Transaction c.in_default.not-CriticalSection)
 
 pub run_looping-returns-in-None : goal.run_looping-returns-in-None
 run_looping-returns-in-None g t c = λ number round. loop-past (here_of c.args.plan.now c.args.at_failure) (meaning (here_of c.args.plan.now c.args.at_failure) c.args.depth) number c.args.element.now round (g.O.Outside.account c.args.outside.now) (g.O.Outside.account c.text.new.outside) c.args.progress.now c.text.new.self c.in-Loop.loops c.in-Loop.is c.in_ok-text-in-Loop.ensures.same (rw c.in-None.is at c.in_ok-text-in-Loop.ensures.came)
