@@ -4,10 +4,12 @@
 
 mod exchange;
 mod packages;
+mod pipeline;
 mod post;
 mod pre;
 mod run;
 mod verdict;
 
 pub use packages::Packages;
+pub use pipeline::Pipeline;
 pub use run::{Done, run_one};

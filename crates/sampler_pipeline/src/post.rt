@@ -11,10 +11,10 @@ ghost use Rattle.sampler_pipeline.specs.SamplerPipeline.{by_kind, picking, extra
 ghost use Rattle.sampler_pipeline.specs.PipelineCut.{cut_at, cut_extracting, cut_post};
 
 use element_tree::{BoundaryExtractor, JsonExtractor, Kind, Plan, RegexExtractor};
-use extractors::{extract_bounds, extract_json, extract_regex};
+use extractors::{extract_bounds, extract_json, extract_regex_with};
 use itoa::Buffer;
 use jm_base::Reply;
-use reply_search::field_of;
+use reply_search::{Searches, field_of};
 use std::alloc::Global;
 use var_functions::{UserState, VarError};
 
@@ -36,11 +36,12 @@ fn number_of_regex(x: &RegexExtractor) -> i32
     x.match_
 }
 
-fn take_regex(
+fn take_regex<'p>(
     alloc: Global,
-    x: &RegexExtractor,
+    x: &'p RegexExtractor,
     reply: &Reply,
     state: &mut UserState,
+    searches: &mut Searches<'p>,
 ) -> Result<(), VarError>
     ensures came { (a : Account) → CameTo a (extracts reply.now (Kind.RegexExtractor x.now) state.old) a
         (λ u. over (fine u state.new)) (over (past_limit state.new)) result }
@@ -49,11 +50,12 @@ fn take_regex(
 {
     let pick = pick(number_of_regex(x), state);
     let mut digits = Buffer::new();
-    extract_regex(
+    extract_regex_with(
         alloc,
         x,
         field_of(x.field, reply, &mut digits),
         pick,
+        searches,
         &mut state.vars,
     )
 }
@@ -109,7 +111,13 @@ fn take_bounds(
 }
 
 // An extractor; another element does nothing.
-fn extract(alloc: Global, kind: &Kind, reply: &Reply, state: &mut UserState) -> Result<(), VarError>
+fn extract<'p>(
+    alloc: Global,
+    kind: &'p Kind,
+    reply: &Reply,
+    state: &mut UserState,
+    searches: &mut Searches<'p>,
+) -> Result<(), VarError>
     requires forms { HasForms kind.now }
     ensures came { (a : Account) → CameTo a (extracts reply.now kind.now state.old) a
         (λ u. over (fine u state.new)) (over (past_limit state.new)) result }
@@ -117,19 +125,20 @@ fn extract(alloc: Global, kind: &Kind, reply: &Reply, state: &mut UserState) -> 
     ensures cut { (a : Account) → result ≡ Err VarError.NoMemory → cut_extracting reply.now kind.now a state.old a state.new }
 {
     match kind {
-        Kind::RegexExtractor(x) => take_regex(alloc, x, reply, state),
+        Kind::RegexExtractor(x) => take_regex(alloc, x, reply, state, searches),
         Kind::JsonExtractor(x) => take_json(alloc, x, reply, state),
         Kind::BoundaryExtractor(x) => take_bounds(alloc, x, reply, state),
         _ => Ok(()),
     }
 }
 
-fn extract_at(
+fn extract_at<'p>(
     alloc: Global,
-    plan: &Plan,
+    plan: &'p Plan,
     number: u16,
     reply: &Reply,
     state: &mut UserState,
+    searches: &mut Searches<'p>,
 ) -> Result<(), VarError>
     ensures came { (a : Account) → CameTo a (by_kind (giving tt) (extracts reply.now) plan.now.elements number state.old) a
         (λ u. over (fine u state.new)) (over (past_limit state.new)) result }
@@ -138,18 +147,19 @@ fn extract_at(
 {
     let _elements = plan.elements();
     match plan.element(number) {
-        Some(element) => extract(alloc, &element.kind, reply, state),
+        Some(element) => extract(alloc, &element.kind, reply, state, searches),
         None => Ok(()),
     }
 }
 
 /// The post-processors, one after another.
-pub(crate) fn post_process(
+pub(crate) fn post_process<'p>(
     alloc: Global,
-    plan: &Plan,
+    plan: &'p Plan,
     numbers: &[u16],
     reply: &Reply,
     state: &mut UserState,
+    searches: &mut Searches<'p>,
 ) -> Result<(), VarError>
     ensures came { (a : Account) → CameTo a (post_process plan.now.elements reply.now numbers.now state.old) a
         (λ u. over (fine u state.new)) (over (past_limit state.new)) result }
@@ -157,7 +167,7 @@ pub(crate) fn post_process(
     ensures cut { (a : Account) → result ≡ Err VarError.NoMemory → cut_post plan.now.elements reply.now numbers.now a state.old a state.new }
 {
     'numbers: for number in numbers {
-        match extract_at(alloc, plan, *number, reply, state) {
+        match extract_at(alloc, plan, *number, reply, state, searches) {
             Ok(()) => {}
             Err(error) => return Err(error),
         }

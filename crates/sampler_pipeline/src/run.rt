@@ -1,6 +1,6 @@
 // The whole of one sampler.
 
-ghost use Rattle.std.specs.Prelude.{◌≡◌, Err, IfOk, OnErr, IfSome, take};
+ghost use Rattle.std.specs.Prelude.{◌≡◌, Err, IfOk, OnOk, OnErr, IfSome, take};
 ghost use Rattle.jm_base.specs.Run.{over};
 ghost use Rattle.jm_base.specs.Outside.{Account};
 ghost use Rattle.var_functions.specs.Came.{CameTo};
@@ -11,6 +11,7 @@ ghost use Rattle.sampler_pipeline.specs.SamplerPipeline.{label_at, listeners_of,
 ghost use Rattle.sampler_pipeline.specs.PipelineCut.{cut_answering, cut_sampling, cut_following, cut_asking, cut_pipeline, cut_sampler};
 
 use crate::exchange::{Exchange, exchange_if};
+use crate::pipeline::Pipeline;
 use crate::post::post_process;
 use crate::pre::{pause, pre_process, request};
 use crate::verdict::{Verdict, judge};
@@ -18,6 +19,7 @@ use assertions::Answer;
 use config_elements::{capped, delay};
 use element_tree::{Package, Plan};
 use jm_base::{M, Outside, Request, Sample, Text};
+use reply_search::Searches;
 use std::alloc::Global;
 use var_changes::put_copy;
 use var_functions::{UserState, VarError};
@@ -87,17 +89,18 @@ fn sample_of(
 }
 
 // The sample of an answer, after the assertions.
-fn assert_all(
+fn assert_all<'p>(
     alloc: Global,
-    plan: &Plan,
+    plan: &'p Plan,
     scope: &Package,
     sampler: u16,
     stamp: u64,
     answer: &Answer,
+    searches: &mut Searches<'p>,
 ) -> M<Sample>
     ensures { IfOk result (λ s. s ≡ assert_all plan.now.elements scope.now sampler stamp answer.now) }
 {
-    let verdict = judge(alloc, plan, scope.assertions.as_slice(), answer)?;
+    let verdict = judge(alloc, plan, scope.assertions.as_slice(), answer, searches)?;
     sample_of(
         alloc,
         label_at(plan, sampler),
@@ -124,14 +127,15 @@ fn note(alloc: Global, ok: bool, state: &mut UserState) -> Result<(), VarError>
 }
 
 // Post-processors, assertions and listeners after an answer.
-fn sample_answer(
+fn sample_answer<'p>(
     alloc: Global,
-    plan: &Plan,
+    plan: &'p Plan,
     scope: &Package,
     sampler: u16,
     stamp: u64,
     answer: &Answer,
     state: &mut UserState,
+    searches: &mut Searches<'p>,
 ) -> Result<Sample, VarError>
     ensures came { (a : Account) → CameTo a (answering plan.now.elements scope.now sampler stamp answer.now state.old) a
         (λ s. over (fine s state.new)) (over (past_limit state.new)) result }
@@ -139,8 +143,15 @@ fn sample_answer(
     ensures later { IsLater state.old.fns state.new.fns }
     ensures cut { (a : Account) → result ≡ Err VarError.NoMemory → cut_answering plan.now.elements scope.now answer.now a state.old a state.new }
 {
-    match post_process(alloc, plan, scope.post.as_slice(), &answer.reply, state) {
-        Ok(()) => match assert_all(alloc, plan, scope, sampler, stamp, answer) {
+    match post_process(
+        alloc,
+        plan,
+        scope.post.as_slice(),
+        &answer.reply,
+        state,
+        searches,
+    ) {
+        Ok(()) => match assert_all(alloc, plan, scope, sampler, stamp, answer, searches) {
             Ok(sample) => match note(alloc, sample.ok, state) {
                 Ok(()) => Ok(sample),
                 Err(error) => Err(error),
@@ -152,14 +163,15 @@ fn sample_answer(
 }
 
 // What follows from an answer, if there is one.
-fn sample(
+fn sample<'p>(
     alloc: Global,
-    plan: &Plan,
+    plan: &'p Plan,
     scope: &Package,
     sampler: u16,
     stamp: u64,
     answer: Option<Answer>,
     state: &mut UserState,
+    searches: &mut Searches<'p>,
 ) -> Result<Option<Sample>, VarError>
     ensures came { (a : Account) → CameTo a (sampling_of plan.now.elements scope.now sampler stamp answer state.old) a
         (λ s. over (fine s state.new)) (over (past_limit state.new)) result }
@@ -168,7 +180,9 @@ fn sample(
     ensures cut { (a : Account) → result ≡ Err VarError.NoMemory → cut_sampling plan.now.elements scope.now answer a state.old a state.new }
 {
     match answer {
-        Some(answer) => match sample_answer(alloc, plan, scope, sampler, stamp, &answer, state) {
+        Some(answer) => match sample_answer(
+            alloc, plan, scope, sampler, stamp, &answer, state, searches,
+        ) {
             Ok(sample) => Ok(Some(sample)),
             Err(error) => Err(error),
         },
@@ -177,13 +191,14 @@ fn sample(
 }
 
 // What follows from an exchange.
-fn follow(
+fn follow<'p>(
     alloc: Global,
-    plan: &Plan,
+    plan: &'p Plan,
     scope: &Package,
     sampler: u16,
     exchange: Exchange,
     state: &mut UserState,
+    searches: &mut Searches<'p>,
 ) -> Result<Option<Sample>, VarError>
     ensures came { (a : Account) → CameTo a (following plan.now.elements scope.now sampler exchange state.old) a
         (λ s. over (fine s state.new)) (over (past_limit state.new)) result }
@@ -192,7 +207,7 @@ fn follow(
     ensures cut { (a : Account) → result ≡ Err VarError.NoMemory → cut_following plan.now.elements scope.now exchange a state.old a state.new }
 {
     let Exchange { stamp, answer } = exchange;
-    sample(alloc, plan, scope, sampler, stamp, answer, state)
+    sample(alloc, plan, scope, sampler, stamp, answer, state, searches)
 }
 
 // What comes of a request between two readings.
@@ -213,13 +228,14 @@ fn exchange_for<O: Outside>(
 }
 
 // The request, and what follows from its reply.
-fn ask<O: Outside>(
+fn ask<'p, O: Outside>(
     alloc: Global,
-    plan: &Plan,
+    plan: &'p Plan,
     scope: &Package,
     sampler: u16,
     state: &mut UserState,
     outside: &mut O,
+    searches: &mut Searches<'p>,
 ) -> Result<Option<Sample>, VarError>
     ensures came { CameTo (O.account outside.old) (asking plan.now.elements scope.now sampler state.old) (O.account outside.new)
         (λ s. over (fine s state.new)) (over (past_limit state.new)) result }
@@ -230,21 +246,22 @@ fn ask<O: Outside>(
 {
     match request(alloc, plan, scope, sampler, state, outside) {
         Ok(request) => match exchange_for(alloc, sampler, request, state, outside) {
-            Ok(exchange) => follow(alloc, plan, scope, sampler, exchange, state),
+            Ok(exchange) => follow(alloc, plan, scope, sampler, exchange, state, searches),
             Err(error) => Err(error),
         },
         Err(error) => Err(error),
     }
 }
 
-// The whole of a sampler.
-fn run_pipeline<O: Outside>(
+/// The whole of a sampler.
+pub(crate) fn run_pipeline<'p, O: Outside>(
     alloc: Global,
-    plan: &Plan,
+    plan: &'p Plan,
     scope: &Package,
     sampler: u16,
     state: &mut UserState,
     outside: &mut O,
+    searches: &mut Searches<'p>,
 ) -> Result<Done, VarError>
     ensures came { CameTo (O.account outside.old) (pipeline plan.now.elements scope.now sampler state.old) (O.account outside.new)
         (λ done. over (fine done state.new)) (over (past_limit state.new)) result }
@@ -256,7 +273,7 @@ fn run_pipeline<O: Outside>(
     match pre_process(alloc, plan, scope.pre.as_slice(), state, outside) {
         Ok(()) => match delay(alloc, plan, scope, state, outside) {
             Ok(paused) => match pause(paused, state, outside) {
-                Ok(()) => match ask(alloc, plan, scope, sampler, state, outside) {
+                Ok(()) => match ask(alloc, plan, scope, sampler, state, outside, searches) {
                     Ok(sample) => Ok(Done { sample, paused }),
                     Err(error) => Err(error),
                 },
@@ -268,21 +285,26 @@ fn run_pipeline<O: Outside>(
     }
 }
 
-// The elements that took part, in their order.
-fn order_of(alloc: Global, scope: &Package, sampler: u16, sample: &Option<Sample>) -> M<Vec<u16>>
-    ensures { IfOk result (λ order. order.items ≡ order_of scope.now sampler sample.now) }
+/// Lists the elements that took part, in their order, in place of what the list has. Out of memory, it has a part of them.
+pub(crate) fn list_order(
+    list: &mut Vec<u16>,
+    scope: &Package,
+    sampler: u16,
+    sample: &Option<Sample>,
+) -> M<()>
+    ensures { OnOk result (list.new.items ≡ order_of scope.now sampler sample.now) }
 {
-    let mut order = Vec::new(alloc);
-    order.extend_from_slice(scope.config.as_slice())?;
-    order.extend_from_slice(scope.pre.as_slice())?;
-    order.extend_from_slice(scope.timers.as_slice())?;
-    order.push(sampler)?;
+    list.clear();
+    list.extend_from_slice(scope.config.as_slice())?;
+    list.extend_from_slice(scope.pre.as_slice())?;
+    list.extend_from_slice(scope.timers.as_slice())?;
+    list.push(sampler)?;
     if sample.is_some() {
-        order.extend_from_slice(scope.post.as_slice())?;
-        order.extend_from_slice(scope.assertions.as_slice())?;
-        order.extend_from_slice(scope.listeners.as_slice())?;
+        list.extend_from_slice(scope.post.as_slice())?;
+        list.extend_from_slice(scope.assertions.as_slice())?;
+        list.extend_from_slice(scope.listeners.as_slice())?;
     }
-    Ok(order)
+    Ok(())
 }
 
 /// Runs one sampler with its package, in the order of the manual's "Execution order": pre-processors; the pause of its
@@ -313,14 +335,6 @@ pub fn run_one<O: Outside>(
     // After every answer, out of memory included.
     ensures later { IsLater state.old.fns state.new.fns }
 {
-    match run_pipeline(alloc, plan, scope, sampler, state, outside) {
-        Ok(done) => match order_of(alloc, scope, sampler, &done.sample) {
-            Ok(taken) => {
-                *order = taken;
-                Ok(done)
-            }
-            Err(_) => Err(VarError::NoMemory),
-        },
-        Err(error) => Err(error),
-    }
+    let mut samplers = Pipeline::new(alloc);
+    samplers.run(plan, scope, sampler, state, outside, order)
 }

@@ -5,9 +5,10 @@ ghost use Rattle.std.specs.Option.{option_copied};
 ghost use Rattle.sampler_pipeline.specs.Exchanges.{is_success};
 ghost use Rattle.sampler_pipeline.specs.SamplerPipeline.{assertion_in, cleared, failed, failure_text, judged_by, judged_at, judged, at_first};
 
-use assertions::{Answer, check};
+use assertions::{Answer, check_with};
 use element_tree::{Assertion, Kind, Plan};
 use jm_base::{M, Text};
+use reply_search::Searches;
 use std::alloc::Global;
 
 /// Whether a sample has succeeded, and the failure message of its first assertion that failed, which is empty where none did.
@@ -66,16 +67,17 @@ fn failed(alloc: Global, name: &[u8], verdict: Verdict) -> M<Verdict>
     Ok(Verdict { ok: false, failure })
 }
 
-fn judged_by(
+fn judged_by<'p>(
     alloc: Global,
     name: &[u8],
     answer: &Answer,
-    assertion: &Assertion,
+    assertion: &'p Assertion,
     verdict: Verdict,
+    searches: &mut Searches<'p>,
 ) -> M<Verdict>
     ensures { IfOk result (λ v. v ≡ judged_by name.now answer.now assertion.now verdict) }
 {
-    let holds = check(alloc, assertion, answer)?;
+    let holds = check_with(alloc, assertion, answer, searches)?;
     let verdict = cleared(alloc, assertion, verdict)?;
     if holds {
         Ok(verdict)
@@ -84,18 +86,26 @@ fn judged_by(
     }
 }
 
-fn judged_at(
+fn judged_at<'p>(
     alloc: Global,
-    plan: &Plan,
+    plan: &'p Plan,
     number: u16,
     answer: &Answer,
     verdict: Verdict,
+    searches: &mut Searches<'p>,
 ) -> M<Verdict>
     ensures { IfOk result (λ v. v ≡ judged_at (slice_get plan.now.elements number) answer.now verdict) }
 {
     match plan.element(number) {
         Some(element) => match assertion_in(&element.kind) {
-            Some(assertion) => judged_by(alloc, element.name.bytes(), answer, assertion, verdict),
+            Some(assertion) => judged_by(
+                alloc,
+                element.name.bytes(),
+                answer,
+                assertion,
+                verdict,
+                searches,
+            ),
             None => Ok(verdict),
         },
         None => Ok(verdict),
@@ -109,7 +119,13 @@ fn is_success(code: u16) -> bool
 }
 
 /// What these assertions say, one after another, of an answer, which succeeds at first by its code.
-pub(crate) fn judge(alloc: Global, plan: &Plan, numbers: &[u16], answer: &Answer) -> M<Verdict>
+pub(crate) fn judge<'p>(
+    alloc: Global,
+    plan: &'p Plan,
+    numbers: &[u16],
+    answer: &Answer,
+    searches: &mut Searches<'p>,
+) -> M<Verdict>
     ensures { IfOk result (λ v. v ≡ judged plan.now.elements answer.now numbers.now (at_first answer.now)) }
 {
     let mut verdict = Verdict {
@@ -117,7 +133,7 @@ pub(crate) fn judge(alloc: Global, plan: &Plan, numbers: &[u16], answer: &Answer
         failure: Text::new(alloc, &[])?,
     };
     'numbers: for number in numbers {
-        verdict = judged_at(alloc, plan, *number, answer, verdict)?;
+        verdict = judged_at(alloc, plan, *number, answer, verdict, searches)?;
     }
     Ok(verdict)
 }

@@ -1,12 +1,12 @@
 use Rattle.var_functions.specs.Came.{by_memory}
 use Rattle.std.proofs.Common.{refl, inl, inr}
-use Rattle.sampler_pipeline.proofs.run.run_one.Goals as goal
+use Rattle.sampler_pipeline.proofs.pipeline.Pipeline.run.Goals as goal
 
-pub returns-in-Err-order_of-clause-came : goal.returns-in-Err-order_of-clause-came
-returns-in-Err-order_of-clause-came g c = by_memory (_, c.in-Ok.ensures.came)
+pub returns-in-Err-list_order-clause-came : goal.returns-in-Err-list_order-clause-came
+returns-in-Err-list_order-clause-came g c = by_memory (_, c.in-Ok.ensures.came)
 
-pub returns-in-Err-order_of-clause-cut : goal.returns-in-Err-order_of-clause-cut
-returns-in-Err-order_of-clause-cut g c = λ none. inr (record {
+pub returns-in-Err-list_order-clause-cut : goal.returns-in-Err-list_order-clause-cut
+returns-in-Err-list_order-clause-cut g c = λ none. inr (record {
   came = c.in-Ok.done;
   between = c.run_pipeline.new.state;
   moment = _;
