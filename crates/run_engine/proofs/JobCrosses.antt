@@ -7,22 +7,40 @@ use denote.Ref.{NamedLft}
 use denote.Param.Send.{IsSend, view_send, sendable}
 use denote.Param.SendFields.{as_row_send, declared_send}
 use denote.Struct.Field.{row_field}
-use Rattle.std.proofs.Crossing.{crosses}
+use Rattle.std.proofs.Crossing.{crosses, Vec-send, Box-send}
 use Rattle.jm_base.proofs.types.Sample.TheSendSync as sample
 use Rattle.var_functions.proofs.state.UserState.TheSendSync as user
 use Rattle.control_machine.proofs.machine.Machine.TheSendSync as machine
 use Rattle.config_elements.proofs.state.ConfigState.TheSendSync as config
 use Rattle.sampler_pipeline.proofs.packages.Packages.TheSendSync as packages
 use Rattle.thread_machine.proofs.trace.Trace.TheSendSync as trace
+use Rattle.regex.proofs.locations.CaptureLocations.TheSendSync as locations
+use Rattle.reply_search.specs.contracts.search.Search as Search
+use Rattle.reply_search.specs.contracts.search.Search.TheInside as SearchInside
+use Rattle.reply_search.specs.contracts.searches.Searches as Searches
+use Rattle.reply_search.specs.contracts.searches.Searches.TheInside as SearchesInside
+use Rattle.sampler_pipeline.specs.contracts.pipeline.Pipeline as Pipeline
+use Rattle.sampler_pipeline.specs.contracts.pipeline.Pipeline.TheInside as PipelineInside
 use Rattle.recorder_core.proofs.places.WriterSeat.TheSendSync as writer
 use Rattle.thread_machine.specs.contracts.runner.Runner as Runner
 use Rattle.thread_machine.specs.contracts.worker.Worker as Worker
 use Rattle.thread_machine.specs.contracts.worker.Worker.TheInside as WorkerInside
 use Rattle.run_engine.specs.contracts.job.Job as Job
 use Rattle.plan_shares.proofs.PlanShares.{plan}
+use Rattle.plan_shares.proofs.RegexCrosses.{regex_sync}
+use Rattle.plan_shares.proofs.MatcherCrosses.{matcher_send}
+
+pub search_send : (a : NamedLft) → IsSend (Search.the_row a)
+search_send a = view_send (SearchInside.the_row a) _ _ _ _ (declared_send (SearchInside.the_type a) (search (regex_sync, sendable) depth 20, (matcher_send a, (locations.the_field_send, tt))))
+
+pub searches_send : (a : NamedLft) → IsSend (Searches.the_row a)
+searches_send a = view_send (SearchesInside.the_row a) _ _ _ _ (declared_send (SearchesInside.the_type a) (search (search_send a, Box-send, Vec-send, sendable) depth 40, tt))
+
+pub pipeline_send : (a : NamedLft) → IsSend (Pipeline.the_row a)
+pipeline_send a = view_send (PipelineInside.the_row a) _ _ _ _ (declared_send (PipelineInside.the_type a) (search (crosses, sendable) depth 20, (searches_send a, (search (Vec-send, sendable) depth 20, tt))))
 
 pub runner : (a : NamedLft) → IsSend (Runner.the_row a)
-runner a = search (plan, sample.the_send, user.the_field_send, config.the_send, packages.the_send, machine.the_field_send, trace.the_send, crosses, sendable) depth 60
+runner a = search (plan, sample.the_send, user.the_field_send, config.the_send, packages.the_send, pipeline_send a, machine.the_field_send, trace.the_send, crosses, sendable) depth 60
 
 pub worker : (a : NamedLft) → IsSend (Worker.the_row a)
 worker a = view_send (WorkerInside.the_row a) _ _ _ _ (declared_send (WorkerInside.the_type a) (runner a, (search sendable depth 20, tt)))

@@ -30,15 +30,15 @@ use control_machine::{Leave, Machine, Move, Tally};
 use element_tree::Plan;
 use jm_base::{End, M, NoMemory, Outside, Sample};
 use jm_meaning::{Signal, ramp_up_pause, set_first};
-use sampler_pipeline::{Done, Packages, run_one};
+use sampler_pipeline::{Done, Packages, Pipeline};
 use std::alloc::Global;
 use var_functions::{FnState, Props, UserState, VarError, Vars};
 
 /// A thread: its plan and number, the pause before its first variables that is still to come, whether those are set, its
-/// variables and what functions keep, what it keeps of Counters and data sets, the packages of the samplers that have run and
-/// the elements that took part in the last one, the machine of moves, the units left of its sample budget, the sample that is
-/// still to be noted, the lock of the section that is still to be entered and of the one that is open, the end that comes
-/// after a section was left for a limit, and its trace.
+/// variables and what functions keep, what it keeps of Counters and data sets, the packages of the samplers that have run, what
+/// runs them and the elements that took part in the last one, the machine of moves, the units left of its sample budget, the
+/// sample that is still to be noted, the lock of the section that is still to be entered and of the one that is open, the end
+/// that comes after a section was left for a limit, and its trace.
 #[derive(Drop)]
 pub struct Runner<'p> {
     pub plan: &'p Plan,
@@ -48,6 +48,7 @@ pub struct Runner<'p> {
     pub user: UserState,
     pub config: ConfigState,
     pub packages: Packages,
+    pub pipeline: Pipeline<'p>,
     pub order: Vec<u16>,
     pub machine: Machine,
     pub units: u32,
@@ -94,6 +95,7 @@ impl<'p> Runner<'p> {
             section: None,
             last: None,
             trace: Trace::new(alloc)?,
+            pipeline: Pipeline::new(alloc),
             alloc,
         })
     }
@@ -352,8 +354,7 @@ impl<'p> Runner<'p> {
         ensures kept { self.new ≡ record self.old { user = self.new.user; packages = self.new.packages; order = self.new.order } }
     {
         match self.packages.of(self.alloc, self.plan, number) {
-            Ok(scope) => run_one(
-                self.alloc,
+            Ok(scope) => self.pipeline.run(
                 self.plan,
                 scope,
                 number,
