@@ -36,12 +36,46 @@ pub branches_send : (a : NamedLft) → IsSend (branches.the_row a)
 branches_send a = declared_send (branches.the_type a) (search (hir_sync, sendable) depth 20, (search (signs_sync, sendable) depth 20, (search (Vec-send, branch_send a, sendable) depth 20, (search sendable depth 20, (means_send a, (search sendable depth 20, tt))))))
 
 pub apart_send : (a : NamedLft) → IsSend (apart.the_row a)
-apart_send a = declared_send (apart.the_type a) (branches_send a, (room.the_field_send, (choice.the_field_send, tt)))
+apart_send a = declared_send (apart.the_type a) (branches_send a, (room.the_send, (choice.the_send, tt)))
 
 pub searcher_send : (a : NamedLft) → IsSend (searcher.the_row a)
-searcher_send a = declared_send (searcher.the_type a) (search (program_sync, sendable) depth 20, (search (crosses, sendable) depth 20, (forward.the_send, (forward.the_send, (reverse.the_send, (tagged.the_field_send,
-    (search (bits.the_send, sendable) depth 40, (search sendable depth 20, (pikevm.the_field_send, (backtracker.the_field_send, (pace.the_field_send, (gait.the_field_send,
-    (search (head.the_send, Box-send, sendable) depth 40, (search sendable depth 20, (search (apart_send a, Box-send, sendable) depth 40, (search sendable depth 20, tt))))))))))))))))
+searcher_send a = declared_send (searcher.the_type a) (
+  search (program_sync, sendable) depth 20,
+  (
+    search (crosses, sendable) depth 20,
+    (
+      forward.the_send,
+      (
+        forward.the_send,
+        (
+          reverse.the_send,
+          (
+            tagged.the_send,
+            (
+              search (bits.the_send, sendable) depth 40,
+              (
+                search sendable depth 20,
+                (
+                  pikevm.the_send,
+                  (
+                    backtracker.the_send,
+                    (
+                      pace.the_send,
+                      (
+                        gait.the_send,
+                        (search (head.the_send, Box-send, sendable) depth 40, (search sendable depth 20, (search (apart_send, crosses, sendable) depth 60, (search sendable depth 20, tt)))),
+                      ),
+                    ),
+                  ),
+                ),
+              ),
+            ),
+          ),
+        ),
+      ),
+    ),
+  ),
+)
 
 pub engine_send : (a : NamedLft) → IsSend (engine.the_row a)
 engine_send a = declared_send (engine.the_type a) (search (String-sync, sendable, crosses) depth 20, (searcher_send a, (search (Vec-send, sendable) depth 20, tt)))
