@@ -5,7 +5,7 @@ use Rattle.jm_base.specs.declared.types.End.TheVariants.{Completed, StopThread, 
 use Rattle.jm_base.specs.Run.{Run, over, give, wait, ◌>>=◌, Waited, Ended}
 use Rattle.element_tree.specs.declared.kinds.Element.{Element}
 use Rattle.element_tree.specs.declared.kinds.Kind.{Kind}
-use Rattle.element_tree.specs.declared.kinds.Kind.TheVariants.{ThreadGroup, Simple, OnceOnly, Loop, If, While, ForEach, Switch, Interleave, Random, RandomOrder, Transaction, Script}
+use Rattle.element_tree.specs.declared.kinds.Kind.TheVariants.{ThreadGroup, Simple, OnceOnly, Loop, If, While, ForEach, Switch, Interleave, Random, RandomOrder, Transaction, Script, Http}
 use Rattle.element_tree.specs.declared.kinds.Loops.{Loops}
 use Rattle.element_props.specs.declared.choices.OnError.{OnError}
 use Rattle.element_props.specs.declared.choices.OnError.TheVariants as on_error
@@ -61,6 +61,8 @@ kind_meaning here below number e RandomOrder round s = random_order below round 
 kind_meaning here below number e Transaction round s =
     transaction (label_of here.plan.elements e.name) (in_order below round (children_in here e)) s
 kind_meaning here below number e (Script replies request) round s =
+    with_unit s (sampling here.plan.elements number here.at_failure)
+kind_meaning here below number e (Http body host method params path port replies) round s =
     with_unit s (sampling here.plan.elements number here.at_failure)
 kind_meaning here below number e kind round s = over (normal s)
 

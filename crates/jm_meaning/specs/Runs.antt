@@ -1,11 +1,11 @@
 -- What of a plan runs now.
 use Rattle.std.specs.Prelude.{Bool, true, false}
 use Rattle.element_tree.specs.declared.kinds.Kind.{Kind}
-use Rattle.element_tree.specs.declared.kinds.Kind.TheVariants.{TestPlan, ThreadGroup, Simple, OnceOnly, Loop, If, While, ForEach, Switch, Interleave, Random, RandomOrder, Transaction, Script, UserVariables, Counter, DataSet, UserParameters, ConstantTimer, UniformTimer, RegexExtractor, JsonExtractor, BoundaryExtractor, ResponseAssertion, DurationAssertion, SizeAssertion, Listener}
+use Rattle.element_tree.specs.declared.kinds.Kind.TheVariants.{TestPlan, ThreadGroup, Simple, OnceOnly, Loop, If, While, ForEach, Switch, Interleave, Random, RandomOrder, Transaction, Script, Http, UserVariables, HttpDefaults, HeaderManager, Counter, DataSet, UserParameters, ConstantTimer, UniformTimer, RegexExtractor, JsonExtractor, BoundaryExtractor, ResponseAssertion, DurationAssertion, SizeAssertion, Listener}
 
 -- Whether elements of this kind run now: the test plan, thread groups, Simple, Once Only, Loop, If, While, ForEach,
--- Switch, Interleave, Random, Random Order and Transaction Controllers, Script samplers, User Defined Variables, Counters,
--- data sets, User Parameters, timers, extractors, assertions and listeners.
+-- Switch, Interleave, Random, Random Order and Transaction Controllers, Script and HTTP samplers, User Defined Variables, HTTP
+-- Request Defaults, HTTP Header Managers, Counters, data sets, User Parameters, timers, extractors, assertions and listeners.
 abbrev pub runs : Kind → Bool
 runs (TestPlan version) = true
 runs (ThreadGroup loops on_error ramp_ms threads) = true
@@ -21,7 +21,10 @@ runs Random = true
 runs RandomOrder = true
 runs Transaction = true
 runs (Script replies request) = true
+runs (Http body host method params path port replies) = true
 runs (UserVariables vars) = true
+runs (HttpDefaults host path port) = true
+runs (HeaderManager headers) = true
 runs (Counter increment maximum start var) = true
 runs (DataSet at_end names share text) = true
 runs (UserParameters vars) = true

@@ -25,7 +25,10 @@ pub fn runs(kind: &Kind) -> bool
             | Kind::RandomOrder
             | Kind::Transaction
             | Kind::Script { .. }
+            | Kind::Http { .. }
             | Kind::UserVariables { .. }
+            | Kind::HttpDefaults { .. }
+            | Kind::HeaderManager { .. }
             | Kind::Counter { .. }
             | Kind::DataSet { .. }
             | Kind::UserParameters { .. }
