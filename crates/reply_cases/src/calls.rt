@@ -1,13 +1,14 @@
 // The calls of cases. They have no clauses, so that no proof carries along what the calls promise.
 
-use assertions::{Answer, check};
+use assertions::{Answer, check, check_with};
 use config_elements::{ConfigState, begin_round};
 use element_props::RegexPatterns;
 use element_tree::{Assertion, BoundaryExtractor, JsonExtractor, Plan, RegexExtractor, build};
-use extractors::{extract_bounds, extract_json, extract_regex};
+use extractors::{extract_bounds, extract_json, extract_regex, extract_regex_with};
 use jm_base::{Heard, M};
 use outside_world::ScriptOutside;
 use plan_json::read_tree;
+use reply_search::Searches;
 use sampler_pipeline::{Done, Packages, run_one};
 use std::alloc::Global;
 use var_functions::{FnState, Props, UserState, VarError, Vars};
@@ -21,6 +22,18 @@ pub fn regex(
     vars: &mut Vars,
 ) -> Result<(), VarError> {
     extract_regex(alloc, x, text, pick, vars)
+}
+
+/// A call of an extractor, by the searches that are kept from call to call.
+pub fn regex_with<'p>(
+    alloc: Global,
+    x: &'p RegexExtractor,
+    text: &[u8],
+    pick: u64,
+    searches: &mut Searches<'p>,
+    vars: &mut Vars,
+) -> Result<(), VarError> {
+    extract_regex_with(alloc, x, text, pick, searches, vars)
 }
 
 /// A call of an extractor.
@@ -51,6 +64,16 @@ pub fn bounds(
 /// A call of an assertion.
 pub fn holds(alloc: Global, assertion: &Assertion, answer: &Answer) -> M<bool> {
     check(alloc, assertion, answer)
+}
+
+/// A call of an assertion, by the searches that are kept from call to call.
+pub fn holds_with<'p>(
+    alloc: Global,
+    assertion: &'p Assertion,
+    answer: &Answer,
+    searches: &mut Searches<'p>,
+) -> M<bool> {
+    check_with(alloc, assertion, answer, searches)
 }
 
 /// The plan that a text is.

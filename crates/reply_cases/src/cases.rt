@@ -1,15 +1,15 @@
 // The cases, one line each, and what they are run on.
 
 use crate::calls;
-use crate::checks::checked;
+use crate::checks::{checked, checked_each};
 use crate::extractors_read::{bounds_of, json_of, regex_of};
 use crate::samplers::Scene;
 use crate::shown::{add_extracted, add_variable, ending};
-use crate::words::{at, fields_of, text_of};
+use crate::words::{at, bytes_of, fields_of, text_of};
 use assertions::Answer;
 use itoa::Buffer;
 use jm_base::{Reply, Text};
-use reply_search::field_of;
+use reply_search::{Searches, field_of};
 use std::alloc::Global;
 use var_functions::{VarError, Vars};
 
@@ -117,13 +117,34 @@ impl Cases {
     fn regex(&mut self, alloc: Global, fields: &[&str]) -> anyhow::Result<String> {
         let x = regex_of(alloc, fields)?;
         let pick = at(fields, 6).parse::<u64>()?;
+        let mut digits = Buffer::new();
+        let text = field_of(x.field, &self.answer.reply, &mut digits);
         let mut came = Ok(());
-        for _ in 0..self.repeat {
-            let mut digits = Buffer::new();
-            let text = field_of(x.field, &self.answer.reply, &mut digits);
+        if self.repeat == 1 {
             came = calls::regex(alloc, &x, text, pick, &mut self.vars);
+        } else {
+            let mut searches = Searches::new(alloc);
+            for _ in 0..self.repeat {
+                came = calls::regex_with(alloc, &x, text, pick, &mut searches, &mut self.vars);
+            }
         }
         self.after(alloc, came, at(fields, 1))
+    }
+
+    /// What an extraction from each of some texts has made of the variables, by searches that are kept from text to text.
+    fn regexes(&mut self, alloc: Global, fields: &[&str]) -> anyhow::Result<String> {
+        let x = regex_of(alloc, fields.get(..7).unwrap_or(&[]))?;
+        let pick = at(fields, 6).parse::<u64>()?;
+        let mut searches = Searches::new(alloc);
+        let mut out = String::new(alloc);
+        for text in fields.get(7..).unwrap_or(&[]) {
+            let text = bytes_of(alloc, text)?;
+            let came = calls::regex_with(alloc, &x, &text, pick, &mut searches, &mut self.vars);
+            let line = self.after(alloc, came, at(fields, 1))?;
+            out.push_str(if out.is_empty() { "" } else { "\n" })?;
+            out.push_str(line.as_str())?;
+        }
+        Ok(out)
     }
 
     fn json(&mut self, alloc: Global, fields: &[&str]) -> anyhow::Result<String> {
@@ -158,9 +179,11 @@ impl Cases {
             "reply" => self.set_reply(alloc, &fields)?,
             "repeat" => self.repeat = at(&fields, 1).parse::<u32>()?,
             "regex" => return self.regex(alloc, &fields),
+            "regexes" => return self.regexes(alloc, &fields),
             "json" => return self.json(alloc, &fields),
             "bounds" => return self.bounds(alloc, &fields),
             "check" => return checked(alloc, &fields, &self.answer),
+            "checks" => return checked_each(alloc, &fields),
             "plan" => self.set_scene(alloc, at(&fields, 1))?,
             "round" | "sampler" | "told" | "asked" => return self.thread(alloc, &fields),
             _ => {}

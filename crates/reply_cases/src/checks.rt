@@ -1,12 +1,13 @@
 // The assertions of lines.
 
-use crate::calls::holds;
+use crate::calls::{holds, holds_with};
 use crate::extractors_read::field_of;
-use crate::words::{at, bytes_of, pattern_of};
+use crate::words::{at, bytes_of, pattern_of, text_of};
 use assertions::Answer;
 use element_props::{Pattern, choice_of};
 use element_tree::{Assertion, Comparison, TestKind};
-use jm_base::{Items, Text};
+use jm_base::{Items, Reply, Text};
+use reply_search::Searches;
 use std::alloc::Global;
 
 /// The texts of patterns.
@@ -82,4 +83,40 @@ pub fn checked(alloc: Global, fields: &[&str], answer: &Answer) -> anyhow::Resul
         Ok(held) => Ok(format!(in alloc; "{held}")?),
         Err(_) => Ok(format!(in alloc; "no memory")?),
     }
+}
+
+/// `checks TEST FLAGS COUNT PATTERN .. BODY ..`: whether a Response Assertion of that many patterns holds of each body, by searches
+/// that are kept from body to body.
+pub fn checked_each(alloc: Global, fields: &[&str]) -> anyhow::Result<String> {
+    let count = at(fields, 3).parse::<usize>()?;
+    let end = count.saturating_add(4).min(fields.len());
+    let mut words = Vec::new(alloc);
+    words.extend_from_slice(&["check", "response", at(fields, 1), "body", at(fields, 2)])?;
+    words.extend_from_slice(fields.get(4..end).unwrap_or(&[]))?;
+    let assertion = response_of(alloc, &words)?;
+    let mut searches = Searches::new(alloc);
+    let mut out = String::new(alloc);
+    for body in fields.get(end..).unwrap_or(&[]) {
+        let answer = answer_of(alloc, body)?;
+        let held = match holds_with(alloc, &assertion, &answer, &mut searches) {
+            Ok(true) => "true ",
+            Ok(false) => "false ",
+            Err(_) => "no memory ",
+        };
+        out.push_str(held)?;
+    }
+    Ok(String::from_str(alloc, out.as_str().trim_end())?)
+}
+
+/// An answer of this body alone.
+fn answer_of(alloc: Global, body: &str) -> anyhow::Result<Answer> {
+    Ok(Answer {
+        elapsed: 0,
+        reply: Reply {
+            code: 200,
+            message: text_of(alloc, "")?,
+            headers: text_of(alloc, "")?,
+            body: text_of(alloc, body)?,
+        },
+    })
 }

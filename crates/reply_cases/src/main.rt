@@ -10,7 +10,11 @@
 //!   and group 3; and those that the last line `look NAME ..` has.
 //! - `check response TEST FIELD FLAGS PATTERN ..`, `check duration MS`, `check size OP SIZE`: an assertion, with flags `n`, `o`
 //!   and `i` for `not`, `or` and `ignoreStatus`, or `-`. It prints whether it holds.
-//! - `repeat N`: each extractor after it is called N times.
+//! - `regexes REF PATTERN TEMPLATE MATCH FIELD PICK TEXT ..`: an extraction from each of these texts, by searches that are kept from
+//!   one to the next. It prints a line for each as `regex` does.
+//! - `checks TEST FLAGS COUNT PATTERN .. BODY ..`: whether a Response Assertion of that many patterns holds of each body, by kept
+//!   searches too.
+//! - `repeat N`: each extractor after it is called N times, a regular expression's by kept searches.
 //! - `plan JSON`: the first thread of this plan, with the variables of the line `vars` before it, over the plan's own replies.
 //! - `round`: a round of it begins. It prints `true`, `false`, `limit` or `no memory`, and the variables of `look`.
 //! - `sampler N`: the element of this number runs, with its package. It prints the sample (stamp, elapsed time, label, code,
