@@ -31,10 +31,10 @@ use Rattle.plan_shares.proofs.RegexCrosses.{regex_sync}
 use Rattle.plan_shares.proofs.MatcherCrosses.{matcher_send}
 
 pub search_send : (a : NamedLft) → IsSend (Search.the_row a)
-search_send a = view_send (SearchInside.the_row a) _ _ _ _ (declared_send (SearchInside.the_type a) (search (regex_sync, sendable) depth 20, (matcher_send a, (locations.the_field_send, tt))))
+search_send a = view_send (SearchInside.the_row a) _ _ _ _ (declared_send (SearchInside.the_type a) (search (regex_sync, crosses, sendable) depth 20, (matcher_send a, (locations.the_field_send, tt))))
 
 pub searches_send : (a : NamedLft) → IsSend (Searches.the_row a)
-searches_send a = view_send (SearchesInside.the_row a) _ _ _ _ (declared_send (SearchesInside.the_type a) (search (search_send a, Box-send, Vec-send, sendable) depth 40, tt))
+searches_send a = view_send (SearchesInside.the_row a) _ _ _ _ (declared_send (SearchesInside.the_type a) (search (search_send, Box-send, Vec-send, crosses, sendable) depth 60, tt))
 
 pub pipeline_send : (a : NamedLft) → IsSend (Pipeline.the_row a)
 pipeline_send a = view_send (PipelineInside.the_row a) _ _ _ _ (declared_send (PipelineInside.the_type a) (search (crosses, sendable) depth 20, (searches_send a, (search (Vec-send, sendable) depth 20, tt))))
