@@ -9,9 +9,10 @@ use Rattle.outside_world.specs.Scripted.{told_when}
 use Rattle.thread_machine.specs.declared.trace.TraceItem.{TraceItem}
 use Rattle.thread_machine.specs.Follows.{Follows, HasRun}
 use Rattle.recorder_core.specs.declared.places.Recorder.{Recorder}
+use Rattle.critical_section.specs.declared.places.Sections.{Sections}
 use Rattle.run_engine.specs.declared.job.Job.{Job}
 use Rattle.run_engine.specs.Followed.{EndsWith, FollowsWhere}
-use Rattle.run_engine.specs.JobsRan.{SameOutside, RunsToEnd, JobRan, AllRan}
+use Rattle.run_engine.specs.JobsRan.{SameOutside, RunsToEnd, JobRan, AllRan, AllAmong}
 use Rattle.run_engine.specs.Made.{IsFresh, AllFresh}
 use Rattle.run_engine.specs.Joins.{IsDone, AllDone}
 
@@ -53,6 +54,7 @@ module _ {O : Type 0} (account : O → Account) (r : Recorder) (plan : Tree) (op
         plan_is = h.plan ∙ f.plan_is;
         origin = h.outside.origin ∙ f.opened.origin;
         made = h.made ∙ f.new.made;
+        rises = h.rises;
         marked = h.marked;
         whole = record { end = runs.0; ends = ends_so (account before.out) (account after.out) plan i options after.worker.trace runs.0 runs.1; keeps = h.keeps };
         follows = λ told. follows_so (account before.out) (account after.out) plan i options after.worker.trace (f.opened.told ∙ ap (λ (b : Bool). told_when b []) told) h.outside runs.0 runs.1;
@@ -62,3 +64,8 @@ module _ {O : Type 0} (account : O → Account) (r : Recorder) (plan : Tree) (op
   all_done xs ys fresh ran i d low =
       let len = ran.len in
       one_done i (slice_index_or xs i d) (slice_index_or ys i d) (fresh i d (omega arith)) (ran.each i d (omega arith))
+
+-- the locks of each stay
+pub all_among : {O : Type 0} (account : O → Account) (r : Recorder) (s : Sections) (xs ys : List (Job O)) → AllAmong s xs → AllRan account r xs ys → AllAmong s ys
+all_among account r s xs ys among ran i d low =
+    let len = ran.len in (ran.each i d (omega arith)).same_sections ∙ among i d (omega arith)

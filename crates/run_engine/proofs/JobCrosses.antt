@@ -4,7 +4,7 @@ use mir.Syntax.{Sym}
 use denote.RattleType.{RattleType}
 use denote.Struct.Tuple.{TupleAt, type_at}
 use denote.Ref.{NamedLft}
-use denote.Param.Send.{IsSend, view_send, sendable}
+use denote.Param.Send.{IsSend, view_send, sendable, shr_send}
 use denote.Param.SendFields.{as_row_send, declared_send}
 use denote.Struct.Field.{row_field}
 use Rattle.std.proofs.Crossing.{crosses, Vec-send, Box-send}
@@ -22,6 +22,8 @@ use Rattle.reply_search.specs.contracts.searches.Searches.TheInside as SearchesI
 use Rattle.sampler_pipeline.specs.contracts.pipeline.Pipeline as Pipeline
 use Rattle.sampler_pipeline.specs.contracts.pipeline.Pipeline.TheInside as PipelineInside
 use Rattle.recorder_core.proofs.places.WriterSeat.TheSendSync as writer
+use Rattle.critical_section.proofs.places.Sections.TheSendSync as places
+use Rattle.critical_section.proofs.places.SectionSeat.TheSendSync as place
 use Rattle.thread_machine.specs.contracts.runner.Runner as Runner
 use Rattle.thread_machine.specs.contracts.worker.Worker as Worker
 use Rattle.thread_machine.specs.contracts.worker.Worker.TheInside as WorkerInside
@@ -40,13 +42,13 @@ pub pipeline_send : (a : NamedLft) → IsSend (Pipeline.the_row a)
 pipeline_send a = view_send (PipelineInside.the_row a) _ _ _ _ (declared_send (PipelineInside.the_type a) (search (crosses, sendable) depth 20, (searches_send a, (search (Vec-send, sendable) depth 20, tt))))
 
 pub runner : (a : NamedLft) → IsSend (Runner.the_row a)
-runner a = search (plan, sample.the_send, user.the_field_send, config.the_send, packages.the_send, pipeline_send a, machine.the_field_send, trace.the_send, crosses, sendable) depth 60
+runner a = declared_send (Runner.the_type a) (search (plan, sendable) depth 60, (search (crosses, sendable) depth 30, (search (crosses, sendable) depth 30, (search (crosses, sendable) depth 30, (search (plan, sample.the_send, user.the_field_send, config.the_send, packages.the_send, machine.the_field_send, trace.the_send, crosses, sendable) depth 60, (search (plan, sample.the_send, user.the_field_send, config.the_send, packages.the_send, machine.the_field_send, trace.the_send, crosses, sendable) depth 60, (search (plan, sample.the_send, user.the_field_send, config.the_send, packages.the_send, machine.the_field_send, trace.the_send, crosses, sendable) depth 60, (pipeline_send a, (search (crosses, sendable) depth 30, (search (plan, sample.the_send, user.the_field_send, config.the_send, packages.the_send, machine.the_field_send, trace.the_send, crosses, sendable) depth 60, (search (crosses, sendable) depth 30, (search (plan, sample.the_send, user.the_field_send, config.the_send, packages.the_send, machine.the_field_send, trace.the_send, crosses, sendable) depth 60, (search (crosses, sendable) depth 30, (search (crosses, sendable) depth 30, (search (crosses, sendable) depth 30, (search (plan, sample.the_send, user.the_field_send, config.the_send, packages.the_send, machine.the_field_send, trace.the_send, crosses, sendable) depth 60, (search (crosses, sendable) depth 30, tt)))))))))))))))))
 
 pub worker : (a : NamedLft) → IsSend (Worker.the_row a)
 worker a = view_send (WorkerInside.the_row a) _ _ _ _ (declared_send (WorkerInside.the_type a) (runner a, (search sendable depth 20, tt)))
 
-pub job : (a : NamedLft) (O : RattleType) → IsSend O → IsSend (Job.the_row a O)
-job a O s = declared_send (Job.the_type a O) (search sendable depth 20, (worker a, (as_row_send (row_field O) s, (writer.the_send, tt))))
+pub job : (a b : NamedLft) (O : RattleType) → IsSend O → IsSend (Job.the_row a b O)
+job a b O s = declared_send (Job.the_type a b O) (search sendable depth 20, (worker a, (as_row_send (row_field O) s, (writer.the_send, (shr_send _ _ _ places.the_sync, (place.the_send, tt))))))
 
 -- what a closure holds
 pub closure : (ν : Sym) (A B C D : RattleType) → IsSend A → IsSend B → IsSend C → IsSend D → IsSend (TupleAt ν (A ∷ B ∷ C ∷ D ∷ []))

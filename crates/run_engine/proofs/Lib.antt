@@ -7,3 +7,4 @@ pub mod Joining
 pub mod Opening
 pub mod Seqs
 pub mod Traces
+pub mod Placing

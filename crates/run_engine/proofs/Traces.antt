@@ -1,5 +1,5 @@
 -- What a step of a worker leaves of its samples and of its outside.
-use Rattle.std.proofs.Common.{◌≡◌, ◌∙◌, ℕ, zero, suc, ◌+◌, ◌-◌, ◌<◌, ◌≤◌, Bool, false, List, [], ◌∷◌, ◌++◌, length, None, refl, sym, ap, subst, inl, inr, arith, append_assoc}
+use Rattle.std.proofs.Common.{◌≡◌, ◌∙◌, ℕ, zero, suc, ◌+◌, ◌-◌, ◌<◌, ◌≤◌, Bool, false, List, [], ◌∷◌, ◌++◌, length, Option, None, Some, refl, sym, ap, subst, inl, inr, arith, append_assoc}
 use Rattle.std.specs.Option.{option_map}
 use Rattle.std.proofs.lemmas.List.{append-nil}
 use Rattle.jm_base.specs.declared.types.Entry.{Entry}
@@ -12,7 +12,8 @@ use Rattle.element_tree.specs.Names.{labels_of}
 use Rattle.thread_machine.specs.declared.step.Step.{Step}
 use Rattle.thread_machine.specs.declared.step.Step.TheVariants.{Sampled, Null, Enter, Leave, Ended}
 use Rattle.thread_machine.specs.declared.trace.TraceItem.{TraceItem}
-use Rattle.thread_machine.specs.declared.trace.TraceItem.TheVariants.{Paused as PausedItem, Sampled as SampledItem, Null as NullItem, Ended as EndedItem}
+use Rattle.thread_machine.specs.declared.trace.TraceItem.TheVariants.{Paused as PausedItem, Sampled as SampledItem, Null as NullItem, Entered as EnteredItem, Left as LeftItem, Ended as EndedItem}
+use Rattle.thread_machine.specs.SectionOrder.{left_traced}
 use Rattle.thread_machine.specs.Standing.{Standing, rest}
 use Rattle.thread_machine.specs.Stepped.{trace_paused, Begins, Gives, Steps, Ends, IsOver}
 use Rattle.thread_machine.proofs.Ends.{begun_on}
@@ -53,8 +54,8 @@ module _ (a b : Account) (run : Run (Unit {0})) (old new : Standing) where
   same_gives : (step : Step) → Gives a b run old new step → SameOutside a b
   same_gives (Sampled entry) g = same_goes a b _ _ _ g.goes
   same_gives Null g = same_goes a b _ _ _ g.goes
-  same_gives (Enter lock) g = absurd g
-  same_gives (Leave lock) g = absurd g
+  same_gives (Enter lock) g = same_goes a b _ _ _ g.heard
+  same_gives (Leave lock) g = same_goes a b _ _ _ g.heard
   same_gives (Ended end) g = same_ends end g
 
 pub same_steps : (a b : Account) (old new : Standing) (step : Step) → Steps a b old new step → SameOutside a b
@@ -77,6 +78,13 @@ pairs_paused : (t : List TraceItem) (ms : ℕ) → pairs (trace_paused t ms) ≡
 pairs_paused t zero = refl
 pairs_paused t (suc ms) = no_more t (trace_paused t (suc ms)) (PausedItem (suc ms)) refl refl
 
+-- nor is that a section was left, and the end
+pairs_left : (t : List TraceItem) (o : Option ℕ) (end : End) → pairs (t ++ (left_traced o ++ EndedItem end ∷ [])) ≡ pairs t
+pairs_left t None end = no_more t (t ++ EndedItem end ∷ []) (EndedItem end) refl refl
+pairs_left t (Some lock) end =
+    no_more (t ++ LeftItem lock ∷ []) (t ++ (LeftItem lock ∷ EndedItem end ∷ [])) (EndedItem end) (sym (append_assoc t (LeftItem lock ∷ []) (EndedItem end ∷ []))) refl
+    ∙ no_more t (t ++ LeftItem lock ∷ []) (LeftItem lock) refl refl
+
 pairs_begun : (a b : Account) (old new : Standing) → Begins a b old new → pairs new.trace ≡ pairs old.trace
 pairs_begun a b old new h = elim h [
   | inl p ↦ no_more old.trace new.trace (PausedItem old.pause) (ap (λ s. s.trace) p.new_is) refl
@@ -95,7 +103,7 @@ module _ (a b : Account) (run : Run (Unit {0})) (old new : Standing) where
   pairs_ends SampleLimit o = pairs_over SampleLimit o
   pairs_ends RoundLimit o = pairs_over RoundLimit o
   pairs_ends ValueLimit o = pairs_over ValueLimit o
-  pairs_ends NoMemory o = no_more old.trace new.trace (EndedItem NoMemory) (ap (λ s. s.trace) o.new_is) refl
+  pairs_ends NoMemory o = ap (λ s. pairs s.trace) o.new_is ∙ pairs_left old.trace old.section NoMemory
 
 module _ (a b : Account) (run : Run (Unit {0})) (old new : Standing) where
   over_traced : (end : End) → IsOver a b run old new end → EndsWith new.trace end
@@ -109,7 +117,7 @@ module _ (a b : Account) (run : Run (Unit {0})) (old new : Standing) where
   ends_traced SampleLimit o = over_traced SampleLimit o
   ends_traced RoundLimit o = over_traced RoundLimit o
   ends_traced ValueLimit o = over_traced ValueLimit o
-  ends_traced NoMemory o = record { before = old.trace; last = ap (λ s. s.trace) o.new_is }
+  ends_traced NoMemory o = record { before = old.trace ++ left_traced old.section; last = ap (λ s. s.trace) o.new_is ∙ sym (append_assoc old.trace (left_traced old.section) (EndedItem NoMemory ∷ [])) }
 
 module _ (a b : Account) (old new : Standing) where
   pub pairs_ended : (end : End) → Steps a b old new (Ended end) → pairs new.trace ≡ pairs old.trace
@@ -133,6 +141,14 @@ module _ (a b : Account) (old new : Standing) where
   pairs_null s =
       no_more (trace_paused s.between.trace s.gives.paused) new.trace (NullItem s.gives.number) (ap (λ w. w.trace) s.gives.new_is) refl
       ∙ pairs_paused s.between.trace s.gives.paused ∙ pairs_begun a s.begun old s.between s.begins
+
+  -- a section that was entered, and one that was left
+  pub pairs_entered : (lock place : ℕ) (s : Steps a b old new (Enter lock)) (last : Standing) → last ≡ record new { entering = None; section = Some lock; trace = new.trace ++ EnteredItem lock place ∷ [] } → pairs last.trace ≡ pairs old.trace
+  pairs_entered lock place s last is =
+      no_more new.trace last.trace (EnteredItem lock place) (ap (λ w. w.trace) is) refl ∙ ap (λ w. pairs w.trace) s.gives.new_is ∙ pairs_begun a s.begun old s.between s.begins
+
+  pub pairs_leave : (lock : ℕ) → Steps a b old new (Leave lock) → pairs new.trace ≡ pairs old.trace
+  pairs_leave lock s = no_more s.between.trace new.trace (LeftItem lock) (ap (λ w. w.trace) s.gives.new_is) refl ∙ pairs_begun a s.begun old s.between s.begins
 
   -- a sample that is noted is one pair more
   pub pairs_noted : (entry : Entry) (s : Steps a b old new (Sampled entry)) (noted : Standing) (k : ℕ)
@@ -165,6 +181,17 @@ module _ (a b : Account) (old new : Standing) where
       let begun : s.between.units ≡ old.units = (begun_on a s.begun old s.between s.begins).units in
       let used : new.units ≡ s.between.units - 1 = ap (λ w. w.units) s.gives.new_is in
       let some = s.gives.unit in omega arith
+
+-- a section uses a unit
+pub units_entered : (a b : Account) (old new : Standing) (lock : ℕ) → Steps a b old new (Enter lock) → new.units ≤ old.units
+units_entered a b old new lock s =
+    let begun : s.between.units ≡ old.units = (begun_on a s.begun old s.between s.begins).units in
+    let used : new.units ≡ s.between.units - 1 = ap (λ w. w.units) s.gives.new_is in omega arith
+
+pub units_leave : (a b : Account) (old new : Standing) (lock : ℕ) → Steps a b old new (Leave lock) → new.units ≤ old.units
+units_leave a b old new lock s =
+    let begun : s.between.units ≡ old.units = (begun_on a s.begun old s.between s.begins).units in
+    let fewer = s.gives.fewer in omega arith
 
 pub label_fits : (plan first : Tree) (label labels : ℕ) → plan ≡ first → label < length (labels_of plan.elements) → length (labels_of first.elements) ≤ labels → label < labels
 label_fits plan first label labels is low few =

@@ -1,5 +1,5 @@
 -- A worker before its run, and after.
-use Rattle.std.specs.Prelude.{◌≡◌, ℕ, ◌≤◌, ◌<◌, false, List, [], Some, None, length, slice_index_or}
+use Rattle.std.specs.Prelude.{◌≡◌, ℕ, ◌+◌, ◌≤◌, ◌<◌, false, List, [], Some, None, length, slice_index_or}
 use Rattle.jm_base.specs.declared.types.End.{End}
 use Rattle.jm_base.specs.declared.types.Heard.{Heard}
 use Rattle.jm_base.specs.Outside.{Account}
@@ -11,9 +11,11 @@ use Rattle.thread_machine.specs.Standing.{Stands}
 use Rattle.thread_machine.specs.Follows.{HasRun}
 use Rattle.recorder_core.specs.declared.places.Recorder.{Recorder}
 use Rattle.recorder_core.specs.RecorderSeats.{writes, numbers_of, IsWriter}
+use Rattle.critical_section.specs.declared.places.Sections.{Sections}
 use Rattle.run_engine.specs.declared.job.Job.{Job}
 use Rattle.run_engine.specs.Marks.{IsMarked}
 use Rattle.run_engine.specs.Keeps.{KeepsTo}
+use Rattle.run_engine.specs.SectionsRun.{entered_in, Rises}
 
 -- what two moments of an outside have in common: who opened it, and whether it tells
 pub record SameOutside (before after : Account) : Type 0 where
@@ -28,6 +30,10 @@ RunsToEnd start now plan thread options trace = (end : End) × HasRun start now 
 pub record CanRun {O : Type 0} (r : Recorder) (j : Job O) : Type 0 where
   pub seat : IsWriter r j.seat
   pub owes_nothing : j.worker.owed ≡ None
+  pub enters_none : j.worker.entering ≡ None
+  pub none_open : j.worker.section ≡ None
+  pub rises : Rises j.worker.trace
+  pub few : length (entered_in j.worker.trace) + j.worker.units ≤ 4194304
   pub goes_on : j.worker.ended ≡ false
   pub none : (writes j.seat).list ≡ []
   pub unraised : (writes j.seat).raised ≡ false
@@ -38,6 +44,8 @@ pub record CanRun {O : Type 0} (r : Recorder) (j : Job O) : Type 0 where
 -- it has run to its end; the seat, the outside and the plan are those of the start
 pub record JobRan {O : Type 0} (account : O → Account) (r : Recorder) (before after : Job O) : Type 0 where
   pub number : after.number ≡ before.number
+  pub rises : Rises after.worker.trace
+  pub same_sections : after.sections.now ≡ before.sections.now
   pub seat : IsWriter r after.seat
   pub made : (writes after.seat).made ≡ (writes before.seat).made
   pub marked : IsMarked (writes after.seat).raised (writes after.seat).saw after.worker.trace
@@ -51,3 +59,7 @@ pub record JobRan {O : Type 0} (account : O → Account) (r : Recorder) (before 
 pub record AllRan {O : Type 0} (account : O → Account) (r : Recorder) (before after : List (Job O)) : Type 0 where
   pub len : length after ≡ length before
   pub each : (i : ℕ) (d : Job O) → i < length before → JobRan account r (slice_index_or before i d) (slice_index_or after i d)
+
+-- the locks of each are these
+abbrev pub AllAmong : {O : Type 0} → Sections → List (Job O) → Type 0
+AllAmong s jobs = (i : ℕ) (d : Job _) → i < length jobs → (slice_index_or jobs i d).sections.now ≡ s

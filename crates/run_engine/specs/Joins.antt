@@ -14,6 +14,7 @@ use Rattle.run_engine.specs.declared.job.Job.{Job}
 use Rattle.run_engine.specs.Made.{made_at}
 use Rattle.run_engine.specs.Keeps.{KeepsTo}
 use Rattle.run_engine.specs.Marks.{IsMarked}
+use Rattle.run_engine.specs.SectionsRun.{Rises}
 use Rattle.run_engine.specs.Followed.{EndsWith, FollowsWhere}
 use Rattle.jm_base.specs.declared.types.End.{End}
 
@@ -47,6 +48,7 @@ pub record IsDone {O : Type 0} (account : O → Account) (r : Recorder) (plan : 
   pub plan_is : j.worker.plan ≡ plan
   pub origin : (account j.out).origin ≡ Some (identity, i)
   pub made : (writes j.seat).made ≡ made_at count i
+  pub rises : Rises j.worker.trace
   pub marked : IsMarked (writes j.seat).raised (writes j.seat).saw j.worker.trace
   pub whole : IsWholeTrace (numbers_of r).labels (numbers_of r).budget j.worker.trace (writes j.seat).list
   pub follows : tells ≡ true → FollowsWhere plan i options (account j.out).told j.worker.trace

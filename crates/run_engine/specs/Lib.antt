@@ -1,3 +1,4 @@
+pub mod SectionsRun
 pub mod Asked
 pub mod Followed
 pub mod Joins

@@ -29,22 +29,22 @@ use std::thread::{Promise, Threads};
 
 // What the team's thread keeps: each worker has run.
 #[derive(Drop)]
-struct TeamOf<'r, 'p, O> {
+struct TeamOf<'r, 'p, 's, O> {
     recorder: &'r Recorder,
-    before: Snapshot<Vec<Job<'p, O>>>,
+    before: Snapshot<Vec<Job<'p, 's, O>>>,
 }
 
-impl<'r, 'p, O: Outside> Promise<Vec<Job<'p, O>>> for TeamOf<'r, 'p, O> {
+impl<'r, 'p, 's, O: Outside> Promise<Vec<Job<'p, 's, O>>> for TeamOf<'r, 'p, 's, O> {
     ghost kept_by = { λ p r. AllRan O.account p.recorder.now p.before.value.items r.items };
 }
 
 // Runs all workers, and hands them back.
-fn team_thread<'p, R: Threads + Sync, O: Outside + Send>(
+fn team_thread<'p, 's, R: Threads + Wait + Sync, O: Outside + Send>(
     rt: &R,
     recorder: &Recorder,
     ended: &Ended,
-    mut jobs: Vec<Job<'p, O>>,
-) -> Vec<Job<'p, O>>
+    mut jobs: Vec<Job<'p, 's, O>>,
+) -> Vec<Job<'p, 's, O>>
     requires { All (CanRun recorder.now) jobs.items }
     ensures { AllRan O.account recorder.now jobs.entry.items result.items }
 {
@@ -68,8 +68,8 @@ struct Reporting<'t, 'k, T, K> {
 }
 
 // What the workers and the reporter gave.
-struct Gathered<'p, 't, 'k, O, T, K> {
-    jobs: Vec<Job<'p, O>>,
+struct Gathered<'p, 's, 't, 'k, O, T, K> {
+    jobs: Vec<Job<'p, 's, O>>,
     end: Reporting<'t, 'k, T, K>,
 }
 
@@ -125,6 +125,7 @@ fn report_at<'t, 'k, R: Wait, T: Ticker, K: Sink, F: Fn(&Report, u64) -> Verdict
 /// Where no thread can be started, the workers run first.
 pub fn run_beside<
     'p,
+    's,
     R: Threads + Wait + Sync,
     O: Outside + Send + Drop,
     T: Ticker,
@@ -135,12 +136,17 @@ pub fn run_beside<
     alloc: Global,
     recorder: &Recorder,
     rules: &Rules<'_, F>,
-    jobs: Vec<Job<'p, O>>,
+    jobs: Vec<Job<'p, 's, O>>,
     seat: ReporterSeat,
     report: Report,
     ticker: &mut T,
     sink: &mut K,
-) -> (Vec<Job<'p, O>>, ReporterSeat, Result<(), RunError>, Report)
+) -> (
+    Vec<Job<'p, 's, O>>,
+    ReporterSeat,
+    Result<(), RunError>,
+    Report,
+)
     requires jobs { All (CanRun recorder.now) jobs.items }
     requires seat { IsReporter recorder.now seat }
     requires first { ((reports seat).closed ≡ []) × ((reports seat).interval ≡ 0) × ((reports seat).raised ≡ false) }

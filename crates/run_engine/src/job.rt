@@ -3,19 +3,24 @@
 ghost use Rattle.std.specs.Prelude.{◌≡◌};
 ghost use Rattle.recorder_core.specs.RecorderSeats.{writes};
 ghost use Rattle.run_engine.specs.Paired.{pairs};
+ghost use Rattle.run_engine.specs.SectionsRun.{KeepsSections};
 
+use critical_section::{SectionSeat, Sections};
 use recorder_core::WriterSeat;
 use thread_machine::Worker;
 
-/// A worker, its outside and its writer. The writer's number is the thread's, and the writer has recorded just the samples of
-/// the worker's trace.
+/// A worker, its outside, its writer and its seat at the locks. The writer's number is the thread's, the writer has recorded
+/// just the samples of the worker's trace, and the seat has just its sections.
 #[derive(Drop)]
-pub struct Job<'p, O> {
+pub struct Job<'p, 's, O> {
     pub number: u16,
     pub worker: Worker<'p>,
     pub out: O,
     pub seat: WriterSeat,
+    pub sections: &'s Sections,
+    pub section: SectionSeat,
     ghost numbered: { (writes seat).number ≡ number },
     ghost thread: { worker.thread ≡ number },
     ghost listed: { (writes seat).list ≡ pairs worker.trace },
+    ghost entered: { KeepsSections sections.now section worker },
 }

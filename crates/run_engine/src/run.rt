@@ -1,9 +1,10 @@
 // The run of a plan's threads.
 
-ghost use Rattle.std.specs.Prelude.{◌≡◌, ◌<◌, ◌≤◌, ◌*◌, ◌-◌, ◌^◌, [], ℕ, false, true, length, vec_capacity, IfOk, IfErr, OnOk, OnErr};
+ghost use Rattle.std.specs.Prelude.{◌≡◌, ◌<◌, ◌≤◌, ◌+◌, ◌*◌, ◌-◌, ◌^◌, [], ℕ, false, true, length, vec_capacity, IfOk, IfErr, OnOk, OnErr};
 ghost use Rattle.std.specs.Io.KnownBytes.{Appends};
-ghost use Rattle.element_tree.specs.Names.{labels_of};
+ghost use Rattle.element_tree.specs.Names.{labels_of, locks_of};
 ghost use Rattle.element_tree.specs.Tree.{threads_of};
+ghost use Rattle.critical_section.specs.SectionSeats.{locks_of as locks_in, seats_of};
 ghost use Rattle.interval_tables.specs.Rows.{sum_of, IsInBounds};
 ghost use Rattle.output_lines.specs.Reports.{report_text};
 ghost use Rattle.phaser_core.specs.Shares.{Partition};
@@ -20,6 +21,7 @@ ghost use Rattle.run_engine.specs.Joins.{AllEnd, AllLabelled};
 ghost use Rattle.run_engine.specs.Keeps.{all_entries};
 ghost use Rattle.run_engine.specs.Marks.{AllMarked};
 ghost use Rattle.run_engine.specs.Paired.{pairs_of};
+ghost use Rattle.run_engine.specs.SectionsRun.{IsFirstSeat, AreNumbered, AllRise};
 ghost use Rattle.run_engine.specs.Served.{AreServed};
 
 use crate::ask::RunAsk;
@@ -29,7 +31,9 @@ use crate::finish::finish_run;
 use crate::joins::join_all;
 use crate::opens::open_all;
 use crate::seats::split_all;
+use critical_section::{SectionSeat, Sections};
 use edge_io::Sink;
+use element_tree::Plan;
 use interval_reporter::{Reporter, Verdict};
 use interval_tables::Report;
 use jm_base::{Items, M, Outside};
@@ -65,6 +69,20 @@ impl Room {
             traces,
         })
     }
+}
+
+// The locks of a plan, and the first of a seat for each thread and one more, which takes them all in. There is one lock at
+// least.
+fn open_sections(alloc: Global, plan: &Plan, threads: u16) -> M<(Sections, SectionSeat)>
+    requires locks { length (locks_of plan.now.elements) ≤ 256 }
+    requires threads { threads ≤ 64 }
+    ensures first { IfOk result (λ r. IsFirstSeat r.0 0 r.1) }
+    ensures locks { IfOk result (λ r. length (locks_of plan.now.elements) ≤ locks_in r.0) }
+    ensures seats { IfOk result (λ r. seats_of r.0 ≡ threads + 1) }
+{
+    let locks = plan.locks();
+    let locks = if locks == 0 { 1 } else { locks };
+    Sections::new(alloc, locks, threads + 1)
 }
 
 /// Runs all threads of a plan at the same time, each over an outside of the world, in a thread of its own where one can be
@@ -107,6 +125,11 @@ pub fn run_threads<
     ensures marks { IfOk result (λ b. AllMarked (books_of b.books).joined b.traces) }
     ensures labelled { IfOk result (λ b. AllLabelled (length (labels_of ask.now.plan.now.elements)) b.traces) }
 
+    // Of each lock, the places of its sections in all traces are the numbers below how many there are, each once, and they
+    // rise within each trace.
+    ensures places { IfOk result (λ b. AreNumbered (length (locks_of ask.now.plan.now.elements)) b.traces) }
+    ensures rising { IfOk result (λ b. AllRise b.traces) }
+
     // Each sample of each trace counts in exactly one report, which is that of its interval, and in the total.
     ensures books { IfOk result (λ b. lists_of (books_of b.books).joined ≡ pairs_of b.traces) }
     ensures parted { IfOk result (λ b. Partition (length (labels_of ask.now.plan.now.elements)) (pairs_of b.traces) (all_reports_of b.books)) }
@@ -139,7 +162,19 @@ pub fn run_threads<
     let Ok(seats) = split_all(alloc, &recorder, first, threads) else {
         return Err(RunError::NoMemory);
     };
-    let Ok(jobs) = open_all(alloc, &recorder, world, ask, seats, threads) else {
+    let Ok((sections, mut keeper)) = open_sections(alloc, ask.plan, threads) else {
+        return Err(RunError::NoMemory);
+    };
+    let Ok(jobs) = open_all(
+        alloc,
+        &recorder,
+        world,
+        ask,
+        seats,
+        &sections,
+        &mut keeper,
+        threads,
+    ) else {
         return Err(RunError::NoMemory);
     };
     let Room {
@@ -157,7 +192,18 @@ pub fn run_threads<
     let (jobs, mut seat, outcome, report) = run_beside(
         rt, alloc, &recorder, &rules, jobs, seat, report, ticker, reports,
     );
-    join_all(&recorder, ask, &mut seat, world, jobs, &mut traces, threads);
+    join_all(
+        &recorder,
+        ask,
+        &mut seat,
+        &sections,
+        &mut keeper,
+        world,
+        jobs,
+        &mut traces,
+        threads,
+    );
+    let _book = sections.finish(keeper);
     match outcome {
         Ok(()) => finish_run(alloc, recorder, ask, seat, traces, report, total, reports),
         Err(error) => Err(error),

@@ -1,36 +1,50 @@
 // The loop of one worker.
 
-ghost use Rattle.std.specs.Prelude.{◌≡◌, ◌<◌, ◌≤◌, ◌+◌, ◌∷◌, ◌++◌, ℕ, [], length, false, None};
+ghost use Rattle.std.specs.Prelude.{◌≡◌, ◌<◌, ◌≤◌, ◌+◌, ◌∷◌, ◌++◌, ℕ, [], length, false, None, IfSome};
 ghost use Rattle.element_tree.specs.Names.{labels_of};
 ghost use Rattle.jm_base.specs.Outside.{Account};
 ghost use Rattle.jm_meaning.specs.Beginning.{Options};
 ghost use Rattle.thread_machine.specs.Standing.{Stands};
 ghost use Rattle.phaser_core.specs.Views.{at_stage};
 ghost use Rattle.phaser_core.specs.declared.view.Stage.TheVariants.{Out};
+ghost use Rattle.critical_section.specs.Book.{closed};
+ghost use Rattle.critical_section.specs.SectionSeats.{view_of, IsSeatOf, locks_of};
 ghost use Rattle.recorder_core.specs.RecorderSeats.{writes, numbers_of, IsWriter};
 ghost use Rattle.run_engine.specs.Keeps.{KeepsTo};
 ghost use Rattle.run_engine.specs.Paired.{pairs};
 ghost use Rattle.run_engine.specs.Followed.{EndsWith};
 ghost use Rattle.run_engine.specs.Marks.{SameMarks, is_stopped};
 ghost use Rattle.run_engine.specs.JobsRan.{SameOutside, RunsToEnd};
+ghost use Rattle.run_engine.specs.SectionsRun.{entered_in, Rises, KeepsSections, HeldAs};
 
+use critical_section::{SectionSeat, Sections};
 use jm_base::{End, Entry, Outside};
 use recorder_core::{Recorder, Steps, WriterSeat};
+use std::sync::Wait;
 use std::sync::ledger::{Blank, Ledger};
 use thread_machine::{Step, Worker};
 
 /// Runs a worker to its end, and gives that end. Each sample is recorded, and the interval in which it counts is noted in the
-/// trace.
-pub fn run_samples<O: Outside, L: Ledger>(
+/// trace. Each section is entered, where it waits until no other thread has one of its lock open, and left, out of memory
+/// too.
+pub fn run_samples<R: Wait, O: Outside, L: Ledger>(
+    rt: &R,
     recorder: &Recorder,
+    sections: &Sections,
     worker: &mut Worker<'_>,
     out: &mut O,
     seat: &mut WriterSeat,
+    section: &mut SectionSeat,
     blank: Blank,
 ) -> End
     requires named { (blank.name ≡ L.name) × (blank.parts ≡ L.parts) × (0 < blank.parts) }
     requires seat { IsWriter recorder.now seat.old }
     requires owed { worker.old.owed ≡ None }
+    requires entering { worker.old.entering ≡ None }
+    requires closed { worker.old.section ≡ None }
+    requires entered { KeepsSections sections.now section.old worker.old }
+    requires rises { Rises worker.old.trace }
+    requires few { length (entered_in worker.old.trace) + worker.old.units ≤ 4194304 }
     requires going { worker.old.ended ≡ false }
     requires none { (writes seat.old).list ≡ [] }
     requires listed { (writes seat.old).list ≡ pairs worker.old.trace }
@@ -38,6 +52,8 @@ pub fn run_samples<O: Outside, L: Ledger>(
     requires budget { worker.old.units ≤ (numbers_of recorder.now).budget }
     ensures seat { IsWriter recorder.now seat.new }
     ensures listed { (writes seat.new).list ≡ pairs worker.new.trace }
+    ensures entered { KeepsSections sections.now section.new worker.new }
+    ensures rises { Rises worker.new.trace }
     ensures marks { SameMarks (writes seat.old) (writes seat.new) }
     ensures keeps { KeepsTo (numbers_of recorder.now).labels (numbers_of recorder.now).budget (writes seat.new).list }
     ensures plan { (worker.new.plan ≡ worker.old.plan) × (worker.new.thread ≡ worker.old.thread) }
@@ -48,16 +64,41 @@ pub fn run_samples<O: Outside, L: Ledger>(
         → RunsToEnd start (O.account out.new) worker.old.plan worker.old.thread options worker.new.trace }
 {
     let mut steps = Steps::<L>::new(blank);
+    let mut held = None;
     'steps: loop {
         match worker.step(out) {
-            Step::Ended(end) => return end,
+            Step::Ended(end) => {
+                leave_open(sections, section, held);
+                return end;
+            }
             Step::Sampled(entry) => {
                 let interval = record_entry(recorder, seat, entry, &mut steps);
                 worker.noted(interval);
             }
             Step::Null => {}
-            Step::Enter(_) | Step::Leave(_) => unreachable!(),
+            Step::Enter(lock) => {
+                let place = sections.enter(rt, section, lock);
+                worker.entered(place);
+                held = Some(lock);
+            }
+            Step::Leave(lock) => {
+                sections.leave(section, lock);
+                held = None;
+            }
         }
+    }
+}
+
+// Leaves the section that is still open, as where a step found no memory.
+fn leave_open(sections: &Sections, seat: &mut SectionSeat, held: Option<u16>)
+    requires seat { IsSeatOf sections.now seat.old }
+    requires held { HeldAs held (view_of seat.old) }
+    requires lock { IfSome held (λ lock. lock < locks_of sections.now) }
+    ensures seat { IsSeatOf sections.now seat.new }
+    ensures closed { view_of seat.new ≡ closed (view_of seat.old) }
+{
+    if let Some(lock) = held {
+        sections.leave(seat, lock);
     }
 }
 

@@ -11,6 +11,7 @@ use jm_base::{End, Outside};
 use recorder_core::{Recorder, WriterSeat};
 use reporter_loop::Ended;
 use std::marker::Brand;
+use std::sync::Wait;
 use std::sync::ledger::Blank;
 use std::thread;
 use std::thread::Threads;
@@ -41,17 +42,20 @@ fn mark_end(recorder: &Recorder, seat: &mut WriterSeat, end: End)
     }
 }
 
-impl<'p, O: Outside> Job<'p, O> {
+impl<'p, 's, O: Outside> Job<'p, 's, O> {
     /// Runs the worker to its end, raises stop where it ended the test, and counts it among those that have ended.
-    pub fn run(&mut self, recorder: &Recorder, ended: &Ended)
+    pub fn run<R: Wait>(&mut self, rt: &R, recorder: &Recorder, ended: &Ended)
         requires { CanRun recorder.now self.old }
         ensures { JobRan O.account recorder.now self.old self.new }
     {
-        let end = run_samples::<O, Brand>(
+        let end = run_samples::<R, O, Brand>(
+            rt,
             recorder,
+            self.sections,
             &mut self.worker,
             &mut self.out,
             &mut self.seat,
+            &mut self.section,
             Blank::new(1),
         );
         mark_end(recorder, &mut self.seat, end);
@@ -61,14 +65,19 @@ impl<'p, O: Outside> Job<'p, O> {
 
 /// Runs all workers to their ends at the same time. One whose thread can't be started runs on the thread that would have
 /// started it.
-pub fn run_team<'p, R: Threads + Sync, O: Outside + Send>(
+pub fn run_team<'p, 's, R: Threads + Wait + Sync, O: Outside + Send>(
     rt: &R,
     recorder: &Recorder,
     ended: &Ended,
-    jobs: &mut [Job<'p, O>],
+    jobs: &mut [Job<'p, 's, O>],
 )
     requires { All (CanRun recorder.now) jobs.old }
     ensures { (i : ℕ) (d : _) → i < length jobs.old → JobRan O.account recorder.now (slice_index_or jobs.old i d) (slice_index_or jobs.new i d) }
 {
-    thread::for_each_mut(rt, jobs, MOST_THREADS, &|_, job| job.run(recorder, ended));
+    thread::for_each_mut(
+        rt,
+        jobs,
+        MOST_THREADS,
+        &|_, job| job.run(rt, recorder, ended),
+    );
 }

@@ -15,7 +15,23 @@ use Rattle.run_engine.specs.Asked.{options_of}
 use Rattle.run_engine.specs.Followed.{FollowsWhere}
 use Rattle.run_engine.specs.Joins.{joined_of, trace_of, number_of, IsDone}
 use Rattle.run_engine.proofs.Seqs.{more_each, first_each, rest_each, none_left}
+use Rattle.critical_section.specs.SectionSeats.{view_of, IsSeatOf}
+use Rattle.run_engine.specs.SectionsRun.{sections_of_all, Rises, HasTaken}
+use Rattle.run_engine.proofs.Placing.{taken_none, taken_more, makes_still}
 use Rattle.run_engine.proofs.joins.join_each.Goals as goal
+
+pub join_seat-requires-clause-seats : goal.join_seat-requires-clause-seats
+join_seat-requires-clause-seats g c =
+    let inv = c.loop-job.invariant in
+    let is = first_each (λ (_ : ℕ) (j : Job _). j.sections.now ≡ c.args.sections.now) 0 _ _ _ c.in-Some.ensures.steps.0 inv.among in
+    (inv.taken.seat_of, subst (λ s. IsSeatOf s c.in-Some.job.section) is c.in-Some.job.entered.seat_of)
+
+pub join_seat-requires-clause-first : goal.join_seat-requires-clause-first
+join_seat-requires-clause-first g c =
+    makes_still c.args.sections.now (view_of c.args.first.now) (sections_of_all c.loop-job.traces.items) c.loop-job.first c.loop-job.invariant.taken c.requires.first.1
+
+pub join_seat-requires-clause-none_open : goal.join_seat-requires-clause-none_open
+join_seat-requires-clause-none_open g c = c.in-Some.job.entered.none_open
 
 pub loop-job-preserved : goal.loop-job-preserved
 loop-job-preserved g c =
@@ -38,6 +54,9 @@ loop-job-preserved g c =
       seat = c.join_writer.ensures.seat;
       left = subst (λ (k : ℕ). (i : ℕ) (d : Job _) → i < length rest → IsDone account c.args.recorder.now plan options (g.W.World.identity c.args.world.now) tells c.args.count (k + i) (slice_index_or rest i d)) (sym more)
           (rest_each (IsDone account c.args.recorder.now plan options (g.W.World.identity c.args.world.now) tells c.args.count) n _ _ _ step inv.left);
+      among = rest_each (λ (_ : ℕ) (j : Job _). j.sections.now ≡ c.args.sections.now) 0 _ _ _ step inv.among;
+      taken = taken_more c.args.sections.now job.sections.now (view_of c.args.first.now) c.loop-job.traces.items c.push-pushed.new.self.items c.loop-job.first c.join_seat.new.into job.section job.worker inv.taken job.entered c.join_seat.ensures.seat c.join_seat.ensures.taken grown;
+      rising = more_each (λ _ (t : List TraceItem). Rises t) c.loop-job.traces.items _ (trace_of job) n (search rules) grown inv.rising done.rises;
       room = (let room = inv.room in let fewer = ap length step in let wide : vec_capacity c.loop-job.traces ≤ vec_capacity c.push-pushed.new.self = search rules in omega arith);
       only = record {
         interval = ap (λ (r : ReporterView). r.interval) taken ∙ inv.only.interval;
@@ -82,6 +101,9 @@ loop-job-init g c =
       seat = c.requires.seat;
       left = λ i d low. subst (λ (k : ℕ). IsDone account c.args.recorder.now plan options identity tells c.args.count k (slice_index_or (into_iter_items c.into_iter-job-iterator.result) i d))
           (let e : i ≡ length c.args.traces.now.items + i = omega arith in e) (all i d low);
+      among = subst (λ (xs : List (Job _)). (i : ℕ) (d : Job _) → i < length xs → (slice_index_or xs i d).sections.now ≡ c.args.sections.now) (sym items) c.requires.seats;
+      taken = subst (λ ts. HasTaken c.args.sections.now (view_of c.args.first.now) (sections_of_all ts) c.args.first.now) (sym none) (taken_none c.args.sections.now c.args.first.now c.requires.first.0);
+      rising = λ i d low. absurd (omega arith);
       room = (let few = c.requires.room.1 in let same = ap length items in omega arith);
       only = record { interval = refl; closed = refl; raised = refl; ready = refl; labels = refl };
       joined = ap (λ (xs : List (Job _)). (reports c.args.seat.now).joined ++ map joined_of xs) items;

@@ -6,6 +6,8 @@ use Rattle.recorder_core.specs.RecorderSeats.{reports, IsReporter}
 use Rattle.run_engine.specs.Asked.{options_of}
 use Rattle.run_engine.specs.Followed.{AllFollow}
 use Rattle.run_engine.specs.Joins.{joined_of, trace_of, number_of, OnlyJoined, IsDone, AllLabelled}
+use Rattle.critical_section.specs.SectionSeats.{view_of}
+use Rattle.run_engine.specs.SectionsRun.{sections_of_all, AllRise, HasTaken}
 use Rattle.run_engine.proofs.joins.join_each.Given as goal
 
 abbrev pub invariant-loop-job : goal.invariant-loop-job
@@ -15,6 +17,9 @@ invariant-loop-job g l =
     record {
       seat : IsReporter l.recorder l.seat;
       left : (i : _) (d : _) → i < length rest → IsDone account l.recorder l.ask.plan.now (options_of l.ask) (g.W.World.identity l.initial.world) (g.W.World.tells l.initial.world) l.count (length l.traces.items + i) (slice_index_or rest i d);
+      among : (i : _) (d : _) → i < length rest → (slice_index_or rest i d).sections.now ≡ l.sections;
+      taken : HasTaken l.sections (view_of l.initial.first) (sections_of_all l.traces.items) l.first;
+      rising : AllRise l.traces.items;
       room : length l.traces.items + length rest ≤ vec_capacity l.traces;
       only : OnlyJoined (reports l.initial.seat) (reports l.seat);
       joined : (reports l.seat).joined ++ map joined_of rest ≡ (reports l.initial.seat).joined ++ map joined_of l.fn.jobs.items;

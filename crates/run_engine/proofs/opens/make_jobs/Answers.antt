@@ -17,6 +17,13 @@ pub open_job-requires-clause-number : goal.open_job-requires-clause-number
 open_job-requires-clause-number g c κs within =
     let inv = c.loop-seat.invariant in let count = inv.count in let step = ap length c.in-Some.ensures.steps.0 in let all = c.requires.count.0 in omega arith
 
+pub open_job-requires-clause-first : goal.open_job-requires-clause-first
+open_job-requires-clause-first g c κs within = c.loop-seat.invariant.first
+
+pub open_job-requires-clause-room : goal.open_job-requires-clause-room
+open_job-requires-clause-room g c κs within =
+    let inv = c.loop-seat.invariant in let count = inv.count in let step = ap length c.in-Some.ensures.steps.0 in let more = c.requires.more in omega arith
+
 pub open_job-requires-clause-closed : goal.open_job-requires-clause-closed
 open_job-requires-clause-closed g c κs within = not_yet c.loop-seat.number (g.W.World.opened c.loop-seat.world) c.loop-seat.invariant.opened
 
@@ -41,6 +48,8 @@ loop-seat-preserved g c =
       room = (let room = inv.room in omega arith);
       left = rest_each (IsNew r count) n _ _ _ step inv.left;
       made = more_each (λ (i : ℕ) (j : Job _). IsFresh account r plan options (g.W.World.identity c.args.world.now) tells count i j) c.loop-seat.jobs.items _ job n inv.at grown inv.made fresh;
+      first = made.first;
+      among = more_each (λ (_ : ℕ) (j : Job _). j.sections.now ≡ c.args.sections.now) c.loop-seat.jobs.items _ job n inv.at grown inv.among made.among;
       opened = made.opened ∙ ap (λ (l : List ℕ). l ++ n ∷ []) inv.opened ∙ range_more n;
       identity = made.same.0 ∙ inv.identity;
       tells = made.same.1 ∙ inv.tells;

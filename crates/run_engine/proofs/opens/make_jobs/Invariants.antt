@@ -4,6 +4,8 @@ use Rattle.std.specs.Vec.Iter.{into_iter_items}
 use Rattle.std.specs.List.{range_with_len}
 use Rattle.run_engine.specs.Asked.{options_of}
 use Rattle.run_engine.specs.Made.{AllFresh, IsNew}
+use Rattle.run_engine.specs.JobsRan.{AllAmong}
+use Rattle.run_engine.specs.SectionsRun.{IsFirstSeat}
 use Rattle.run_engine.proofs.opens.make_jobs.Given as goal
 
 abbrev pub invariant-loop-seat : goal.invariant-loop-seat
@@ -16,6 +18,8 @@ invariant-loop-seat g l =
       room : l.count ≤ vec_capacity l.jobs;
       left : (i : _) (d : _) → i < length rest → IsNew l.recorder l.count (l.number + i) (slice_index_or rest i d);
       made : AllFresh g.W.Out.Outside.account l.recorder l.ask.plan.now (options_of l.ask) (g.W.World.identity l.initial.world) (g.W.World.tells l.initial.world) l.count l.jobs.items;
+      first : IsFirstSeat l.sections l.number l.first;
+      among : AllAmong l.sections l.jobs.items;
       opened : g.W.World.opened l.world ≡ range_with_len 0 l.number;
       identity : g.W.World.identity l.world ≡ g.W.World.identity l.initial.world;
       tells : g.W.World.tells l.world ≡ g.W.World.tells l.initial.world;

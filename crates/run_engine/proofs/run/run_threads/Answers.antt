@@ -11,6 +11,10 @@ use Rattle.run_engine.specs.Marks.{AllMarked}
 use Rattle.run_engine.specs.Made.{AllFresh}
 use Rattle.run_engine.proofs.Finishing.{all_done}
 use Rattle.run_engine.proofs.Opening.{none_served}
+use Rattle.element_tree.specs.Names.{locks_of}
+use Rattle.run_engine.specs.SectionsRun.{AreNumbered, AllRise}
+use Rattle.run_engine.proofs.Placing.{all_seats, numbered_all}
+use Rattle.run_engine.proofs.Finishing.{all_among}
 use Rattle.run_engine.proofs.run.run_threads.Goals as goal
 
 pub returns-in_default-split_all-clause-closed : goal.returns-in_default-split_all-clause-closed
@@ -26,6 +30,28 @@ join_all-requires-clause-jobs g c κs within =
     let fresh = subst (λ (b : Bool). AllFresh account r plan options (g.W.World.identity c.open_all.new.world) b count jobs) (sym made.same.1)
     (subst (λ (k : ℕ). AllFresh account r plan options k (g.W.World.tells c.args.world.now) count jobs) (sym made.same.0) made.each) in
     all_done account r plan options (g.W.World.identity c.open_all.new.world) (g.W.World.tells c.open_all.new.world) count jobs c.run_beside-jobs.result.0.items fresh c.run_beside-jobs.ensures.jobs
+
+pub returns-in_default-open_sections-clause-closed : goal.returns-in_default-open_sections-clause-closed
+returns-in_default-open_sections-clause-closed g c = none_served _ _ _ c.requires.opened
+
+pub finish-book-requires-clause-joined : goal.finish-book-requires-clause-joined
+finish-book-requires-clause-joined g c =
+    (all_seats c.in-Ok-open_sections.sections _ c.open_all.new.first c.join_all.new.first c.join_all.new.traces.items c.in-Ok-open_all.ensures.first c.join_all.ensures.taken c.join_all.ensures.ends.0).all
+
+pub join_all-requires-clause-seats : goal.join_all-requires-clause-seats
+join_all-requires-clause-seats g c κs within =
+    all_among g.W.Out.Outside.account c.in-Ok-new.recorder c.in-Ok-open_sections.sections c.in-Ok-open_all.jobs.items c.run_beside-jobs.result.0.items c.in-Ok-open_all.ensures.among c.run_beside-jobs.ensures.jobs
+
+pub returns-in-Ok-outcome-clause-places : goal.returns-in-Ok-outcome-clause-places
+returns-in-Ok-outcome-clause-places g c =
+    let seats = all_seats c.in-Ok-open_sections.sections _ c.open_all.new.first c.join_all.new.first c.join_all.new.traces.items c.in-Ok-open_all.ensures.first c.join_all.ensures.taken c.join_all.ensures.ends.0 in
+    if_ok_then c.finish_run.result c.finish_run.ensures.traces (λ b is.
+    subst (AreNumbered (length (locks_of c.args.ask.now.plan.now.elements))) (sym is)
+    (numbered_all c.in-Ok-open_sections.sections (length (locks_of c.args.ask.now.plan.now.elements)) c.join_all.new.first c.join_all.new.traces.items c.finish-book.result seats c.in-Ok-open_sections.ensures.locks c.finish-book.ensures.lists c.finish-book.ensures.numbered))
+
+pub returns-in-Ok-outcome-clause-rising : goal.returns-in-Ok-outcome-clause-rising
+returns-in-Ok-outcome-clause-rising g c =
+    if_ok_then c.finish_run.result c.finish_run.ensures.traces (λ b is. subst AllRise (sym is) c.join_all.ensures.rising)
 
 pub returns-in-Ok-outcome-clause-ends : goal.returns-in-Ok-outcome-clause-ends
 returns-in-Ok-outcome-clause-ends g c =

@@ -1,7 +1,10 @@
-use Rattle.std.proofs.Common.{◌≡◌, ◌∙◌, ◌+◌, ◌++◌, ◌∷◌, [], length, ◌≤◌, sym, ap, subst, arith, length-append}
-use Rattle.thread_machine.proofs.Ends.{begun_on, noted_on, noted_is}
+use Rattle.std.proofs.Common.{◌≡◌, ◌∙◌, refl, ◌+◌, ◌++◌, ◌∷◌, [], length, ◌≤◌, sym, ap, subst, arith, length-append}
+use Rattle.thread_machine.specs.declared.step.Step.TheVariants.{Sampled, Null}
+use Rattle.thread_machine.proofs.Ends.{begun_on, noted_on, noted_is, entered_is}
+use Rattle.thread_machine.proofs.PlaceLaws.{fewer_sampled, fewer_null, fewer_enters, fewer_leaves}
+use Rattle.run_engine.proofs.Placing.{holding_first, holding_same, sections_noted, sections_same, lock_low, none_inside, few_own, holding_entered, known_so, open_so, holding_left, keeps_ended, rises_ended}
 use Rattle.run_engine.proofs.Bounding.{in_range_snoc, small_snoc}
-use Rattle.run_engine.proofs.Traces.{same_then, same_steps, pairs_noted, pairs_null, pairs_ended, ends_with, not_stopped, label_low, label_fits, units_left, units_null}
+use Rattle.run_engine.proofs.Traces.{same_outside, same_then, pairs_entered, pairs_leave, units_entered, units_leave, same_steps, pairs_noted, pairs_null, pairs_ended, ends_with, not_stopped, label_low, label_fits, units_left, units_null}
 use Rattle.phaser_core.specs.Shares.{AllInRange}
 use Rattle.phaser_core.specs.Invariant.{AllSmall}
 use Rattle.recorder_core.specs.RecorderSeats.{writes, numbers_of}
@@ -26,6 +29,9 @@ steps-preserved-in-Sampled g c =
     record {
       seat = r.seat;
       owed = on.owed;
+      entering = on.entering ∙ ap (λ w. w.entering) given.new_is ∙ begun.entering ∙ i.entering;
+      holding = holding_same c.args.sections.now c.steps.held c.steps.section c.steps.worker c.noted.new.self i.holding (on.section ∙ ap (λ w. w.section) given.new_is ∙ begun.section)
+          (sections_noted c.step.new.self c.noted.new.self given.sample k is ∙ sections_same _ _ _ _ (Sampled entry) s) (on.plan ∙ ap (λ w. w.plan) given.new_is ∙ begun.plan) (omega (arith, used, kept));
       going = on.ended ∙ ap (λ w. w.ended) given.new_is ∙ begun.ended ∙ i.going;
       listed = ap (λ w. w.list) r.list ∙ ap (λ l. l ++ (k, entry) ∷ []) i.listed ∙ sym (pairs_noted _ _ _ c.step.new.self entry s c.noted.new.self k is);
       marks = (ap (λ w. w.number) r.list ∙ i.marks.0, ap (λ w. w.made) r.list ∙ i.marks.1, ap (λ w. w.raised) r.list ∙ i.marks.2, ap (λ w. w.saw) r.list ∙ i.marks.3);
@@ -38,8 +44,8 @@ steps-preserved-in-Sampled g c =
       stands = λ start options stands. c.noted.ensures.stands start _ options (c.in-Sampled.ensures.stands start options (i.stands start options stands));
     }
 
-pub steps-preserved : goal.steps-preserved
-steps-preserved g c =
+pub steps-preserved-in-Null : goal.steps-preserved-in-Null
+steps-preserved-in-Null g c =
     let i = c.steps.invariant in
     let s = c.in-Null.ensures.steps in
     let begun = begun_on _ _ _ s.between s.begins in
@@ -49,6 +55,9 @@ steps-preserved g c =
     record {
       seat = i.seat;
       owed = ap (λ w. w.owed) given.new_is ∙ begun.owed ∙ i.owed;
+      entering = ap (λ w. w.entering) given.new_is ∙ begun.entering ∙ i.entering;
+      holding = holding_same c.args.sections.now c.steps.held c.steps.section c.steps.worker c.step.new.self i.holding (ap (λ w. w.section) given.new_is ∙ begun.section)
+          (sections_same _ _ _ _ Null s) (ap (λ w. w.plan) given.new_is ∙ begun.plan) less;
       going = ap (λ w. w.ended) given.new_is ∙ begun.ended ∙ i.going;
       listed = i.listed ∙ sym (pairs_null _ _ _ c.step.new.self s);
       marks = i.marks;
@@ -60,6 +69,127 @@ steps-preserved g c =
       outside = same_then _ _ _ i.outside (same_steps _ _ _ _ _ s);
       stands = λ start options stands. c.in-Null.ensures.stands start options (i.stands start options stands);
     }
+
+pub steps-init : goal.steps-init
+steps-init g c = record {
+  seat = c.requires.seat;
+  owed = c.requires.owed;
+  entering = c.requires.entering;
+  holding = holding_first c.args.sections.now c.args.section.now c.args.worker.now c.requires.entered c.requires.closed c.requires.rises c.requires.few;
+  going = c.requires.going;
+  listed = c.requires.listed;
+  marks = (refl, refl, refl, refl);
+  plan = refl;
+  thread = refl;
+  room = (let none = ap length c.requires.none in let budget = c.requires.budget in omega (arith, none, budget));
+  in_range = subst (AllInRange (numbers_of c.args.recorder.now).labels) (sym c.requires.none) tt;
+  small = subst AllSmall (sym c.requires.none) tt;
+  outside = same_outside _;
+  stands = λ start options stands. stands;
+}
+
+pub enter-place-requires-clause-lock : goal.enter-place-requires-clause-lock
+enter-place-requires-clause-lock g c = lock_low c.args.sections.now c.steps.held c.steps.section _ _ c.steps.worker c.step.new.self c.steps.invariant.holding c.in-Enter.lock c.in-Enter.ensures.steps
+
+pub enter-place-requires-clause-none_open : goal.enter-place-requires-clause-none_open
+enter-place-requires-clause-none_open g c = none_inside c.args.sections.now c.steps.held c.steps.section _ _ c.steps.worker c.step.new.self c.steps.invariant.holding c.in-Enter.lock c.in-Enter.ensures.steps
+
+pub enter-place-requires-clause-few : goal.enter-place-requires-clause-few
+enter-place-requires-clause-few g c = few_own c.args.sections.now c.steps.held c.steps.section _ _ c.steps.worker c.step.new.self c.steps.invariant.holding c.in-Enter.lock c.in-Enter.ensures.steps
+
+pub steps-preserved-in-Enter : goal.steps-preserved-in-Enter
+steps-preserved-in-Enter g c =
+    let i = c.steps.invariant in
+    let s = c.in-Enter.ensures.steps in
+    let lock = c.in-Enter.lock in
+    let place = c.enter-place.result in
+    let begun = begun_on _ _ _ s.between s.begins in
+    let given = s.gives in
+    let is = entered_is place c.step.new.self c.entered.new.self lock (ap (λ w. w.entering) given.new_is) c.entered.ensures.item in
+    let less : c.step.new.self.units ≤ c.steps.worker.units = units_entered _ _ _ _ lock s in
+    let kept : c.entered.new.self.units ≡ c.step.new.self.units = ap (λ w. w.units) is in
+    let room : length (writes c.steps.seat).list + c.steps.worker.units ≤ (numbers_of c.args.recorder.now).budget = i.room in
+    record {
+      seat = i.seat;
+      owed = ap (λ w. w.owed) is ∙ ap (λ w. w.owed) given.new_is ∙ begun.owed ∙ i.owed;
+      entering = ap (λ w. w.entering) is;
+      holding = holding_entered c.args.sections.now c.steps.held c.steps.section _ _ c.steps.worker c.step.new.self i.holding lock s place c.enter-place.new.seat c.entered.new.self is c.enter-place.ensures.seat c.enter-place.ensures.entered;
+      going = ap (λ w. w.ended) is ∙ ap (λ w. w.ended) given.new_is ∙ begun.ended ∙ i.going;
+      listed = i.listed ∙ sym (pairs_entered _ _ _ c.step.new.self lock place s c.entered.new.self is);
+      marks = i.marks;
+      plan = ap (λ w. w.plan) is ∙ ap (λ w. w.plan) given.new_is ∙ begun.plan ∙ i.plan;
+      thread = ap (λ w. w.thread) is ∙ ap (λ w. w.thread) given.new_is ∙ begun.thread ∙ i.thread;
+      room = omega (arith, less, kept, room);
+      in_range = i.in_range;
+      small = i.small;
+      outside = same_then _ _ _ i.outside (same_steps _ _ _ _ _ s);
+      stands = λ start options stands. c.entered.ensures.stands start _ options (c.in-Enter.ensures.stands start options (i.stands start options stands));
+    }
+
+pub leave-requires-clause-lock : goal.leave-requires-clause-lock
+leave-requires-clause-lock g c = known_so c.args.sections.now c.steps.held c.steps.section _ _ c.steps.worker c.step.new.self c.steps.invariant.holding c.in-Leave.lock c.in-Leave.ensures.steps
+
+pub leave-requires-clause-open : goal.leave-requires-clause-open
+leave-requires-clause-open g c = open_so c.args.sections.now c.steps.held c.steps.section _ _ c.steps.worker c.step.new.self c.steps.invariant.holding c.in-Leave.lock c.in-Leave.ensures.steps
+
+pub steps-preserved : goal.steps-preserved
+steps-preserved g c =
+    let i = c.steps.invariant in
+    let s = c.in-Leave.ensures.steps in
+    let lock = c.in-Leave.lock in
+    let begun = begun_on _ _ _ s.between s.begins in
+    let given = s.gives in
+    let less : c.step.new.self.units ≤ c.steps.worker.units = units_leave _ _ _ _ lock s in
+    let room : length (writes c.steps.seat).list + c.steps.worker.units ≤ (numbers_of c.args.recorder.now).budget = i.room in
+    record {
+      seat = i.seat;
+      owed = ap (λ w. w.owed) given.new_is ∙ begun.owed ∙ i.owed;
+      entering = ap (λ w. w.entering) given.new_is ∙ begun.entering ∙ i.entering;
+      holding = holding_left c.args.sections.now c.steps.held c.steps.section _ _ c.steps.worker c.step.new.self i.holding lock s c.leave.new.seat c.leave.ensures.seat c.leave.ensures.closed;
+      going = ap (λ w. w.ended) given.new_is ∙ begun.ended ∙ i.going;
+      listed = i.listed ∙ sym (pairs_leave _ _ _ c.step.new.self lock s);
+      marks = i.marks;
+      plan = ap (λ w. w.plan) given.new_is ∙ begun.plan ∙ i.plan;
+      thread = ap (λ w. w.thread) given.new_is ∙ begun.thread ∙ i.thread;
+      room = omega (arith, less, room);
+      in_range = i.in_range;
+      small = i.small;
+      outside = same_then _ _ _ i.outside (same_steps _ _ _ _ _ s);
+      stands = λ start options stands. c.in-Leave.ensures.stands start options (i.stands start options stands);
+    }
+
+pub steps-smaller-in-Sampled : goal.steps-smaller-in-Sampled
+steps-smaller-in-Sampled g c =
+    let s = c.in-Sampled.ensures.steps in
+    let k = c.record_entry-interval.result in
+    fewer_sampled _ _ _ c.step.new.self c.noted.new.self k s (noted_is k c.step.new.self c.noted.new.self s.gives.sample (ap (λ w. w.owed) s.gives.new_is) c.noted.ensures.item)
+
+pub steps-smaller-in-Null : goal.steps-smaller-in-Null
+steps-smaller-in-Null g c = fewer_null _ _ _ c.step.new.self c.in-Null.ensures.steps
+
+pub steps-smaller-in-Enter : goal.steps-smaller-in-Enter
+steps-smaller-in-Enter g c =
+    let s = c.in-Enter.ensures.steps in
+    fewer_enters _ _ _ c.step.new.self c.entered.new.self c.in-Enter.lock c.enter-place.result s
+    (entered_is c.enter-place.result c.step.new.self c.entered.new.self c.in-Enter.lock (ap (λ w. w.entering) s.gives.new_is) c.entered.ensures.item)
+
+pub steps-smaller : goal.steps-smaller
+steps-smaller g c = fewer_leaves _ _ _ c.step.new.self c.in-Leave.lock c.in-Leave.ensures.steps
+
+pub leave_open-requires-clause-held : goal.leave_open-requires-clause-held
+leave_open-requires-clause-held g c = c.steps.invariant.holding.open_
+
+pub leave_open-requires-clause-lock : goal.leave_open-requires-clause-lock
+leave_open-requires-clause-lock g c = c.steps.invariant.holding.known
+
+pub returns-in-Ended-clause-rises : goal.returns-in-Ended-clause-rises
+returns-in-Ended-clause-rises g c =
+    rises_ended c.args.sections.now c.steps.held c.steps.section _ _ c.steps.worker c.step.new.self c.steps.invariant.holding c.in-Ended.end c.in-Ended.ensures.steps
+
+pub returns-in-Ended-clause-entered : goal.returns-in-Ended-clause-entered
+returns-in-Ended-clause-entered g c =
+    keeps_ended c.args.sections.now c.steps.held c.steps.section _ _ c.steps.worker c.step.new.self c.steps.invariant.holding c.in-Ended.end c.in-Ended.ensures.steps
+    c.leave_open.new.seat c.leave_open.ensures.seat c.leave_open.ensures.closed
 
 pub record_entry-interval-requires-clause-room : goal.record_entry-interval-requires-clause-room
 record_entry-interval-requires-clause-room g c =

@@ -41,10 +41,10 @@ work-jobs-requires-after_bounds g c κs within =
 pub spawn_with-requires-send-T : goal.spawn_with-requires-send-T
 spawn_with-requires-send-T g c κs within =
     let s : IsSend (param 1 g.row.O) = search rules in
-    param_send _ _ (arg_send _ no _ (Vec-send _ (job _ (param 1 g.row.O) s)))
+    param_send _ _ (arg_send _ no _ (Vec-send _ (job _ _ (param 1 g.row.O) s)))
 
 pub spawn_with-requires-send-F : goal.spawn_with-requires-send-F
 spawn_with-requires-send-F g c κs within =
     let s : IsSend (param 1 g.row.O) = search rules in
     let y : IsSync (param 0 g.row.R) = search rules in
-    param_send _ _ (arg_send _ no _ (closure _ _ _ _ _ (shr_send _ _ _ y) (shr_send _ _ _ recorder.the_sync) (shr_send _ _ _ ended.the_sync) (Vec-send _ (job _ (param 1 g.row.O) s))))
+    param_send _ _ (arg_send _ no _ (closure _ _ _ _ _ (shr_send _ _ _ y) (shr_send _ _ _ recorder.the_sync) (shr_send _ _ _ ended.the_sync) (Vec-send _ (job _ _ (param 1 g.row.O) s))))
