@@ -17,13 +17,15 @@ use std::alloc::Global;
 use thread_machine::{FinishedThread, Step, Worker, run_alone};
 use var_functions::{FnState, Props, UserState, VarError, Vars};
 
-// The numbers of a case: `thread`, `seed`, `budget`, and the calls for which the outside finds memory.
+// The numbers of a case: `thread`, `seed`, `budget`, the calls for which the outside finds memory, and the steps after which
+// a worker is stopped.
 #[derive(Clone, Copy)]
 struct Numbers {
     thread: u16,
     seed: u64,
     budget: u32,
     calls: u32,
+    steps: u32,
 }
 
 fn numbers_of(plan: &Plan, rest: &str) -> anyhow::Result<Numbers>
@@ -33,6 +35,7 @@ fn numbers_of(plan: &Plan, rest: &str) -> anyhow::Result<Numbers>
     let seed = number_in(rest, "seed", 0)?;
     let budget = number_in(rest, "budget", 65_536)?;
     let calls = number_in(rest, "calls", u32::MAX)?;
+    let steps = number_in(rest, "steps", u32::MAX)?;
     if thread >= u32::from(plan.threads()) {
         bail!("no such thread");
     }
@@ -41,6 +44,7 @@ fn numbers_of(plan: &Plan, rest: &str) -> anyhow::Result<Numbers>
         seed: u64::from(seed),
         budget,
         calls,
+        steps,
     })
 }
 
@@ -86,24 +90,37 @@ pub fn solo(alloc: Global, settings: &Settings, rest: &str) -> anyhow::Result<St
     solo_text(alloc, &solo)
 }
 
-// Steps until the thread has ended, and counts each sample in the interval of its elapsed time.
+// Steps until the thread has ended, or stops it after that many steps. It counts each sample in the interval of its elapsed
+// time, and each section at place 40.
 fn steps(
     alloc: Global,
     worker: &mut Worker<'_>,
+    most: u32,
     outside: &mut ScriptOutside,
     lines: &mut Lines,
 ) -> anyhow::Result<()>
     requires owed { worker.old.owed ≡ None }
+    requires entering { worker.old.entering ≡ None }
     requires going { worker.old.ended ≡ false }
 {
+    let mut left = most;
     'steps: loop {
+        if left == 0 {
+            worker.stop();
+            return lines.add(alloc, "stopped".to_string(alloc)?);
+        }
+        left -= 1;
         match worker.step(outside) {
             Step::Sampled(entry) => {
                 worker.noted(u64::from(entry.elapsed));
                 lines.add(alloc, format!(in alloc; "step: {entry:?}")?)?;
             }
             Step::Null => lines.add(alloc, "step: null".to_string(alloc)?)?,
-            Step::Enter(_) | Step::Leave(_) => unreachable!(),
+            Step::Enter(lock) => {
+                worker.entered(40);
+                lines.add(alloc, format!(in alloc; "step: enter {lock}")?)?;
+            }
+            Step::Leave(lock) => lines.add(alloc, format!(in alloc; "step: leave {lock}")?)?,
             Step::Ended(end) => {
                 return lines.add(alloc, format!(in alloc; "step: ended {end:?}")?);
             }
@@ -131,7 +148,7 @@ fn worked(
         props,
         numbers.budget,
     )?;
-    steps(alloc, &mut worker, outside, lines)?;
+    steps(alloc, &mut worker, numbers.steps, outside, lines)?;
     trace(alloc, worker.trace(), lines)?;
     Ok(worker.into_trace().len())
 }

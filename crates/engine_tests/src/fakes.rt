@@ -12,6 +12,9 @@ use std::thread;
 /// The most turns that an outside waits, in each of which it yields the thread.
 const TURNS: u32 = 1_000_000;
 
+// How often a thread yields between a request and its reply.
+const MEETING_TURNS: u32 = 20;
+
 /// What is counted while a run goes on.
 #[derive(Drop)]
 pub struct Tally {
@@ -27,6 +30,10 @@ pub struct Tally {
     pub judged: AtomicU64,
     /// The samples in those reports.
     pub seen: AtomicU64,
+    /// The requests that have no reply yet.
+    pub inside: AtomicU64,
+    /// The requests that came while another had no reply yet.
+    pub crowded: AtomicU64,
 }
 
 /// What was counted when a run has ended.
@@ -48,6 +55,8 @@ impl Tally {
             ticks: AtomicU64::new(0),
             judged: AtomicU64::new(0),
             seen: AtomicU64::new(0),
+            inside: AtomicU64::new(0),
+            crowded: AtomicU64::new(0),
         }
     }
 
@@ -59,6 +68,21 @@ impl Tally {
             ticks: self.ticks.load(Ordering::SeqCst),
             judged: self.judged.load(Ordering::SeqCst),
         }
+    }
+
+    // A request has come. Other threads get their turns before its reply.
+    fn come_in(&self) {
+        if self.inside.fetch_add(1, Ordering::SeqCst) > 0 {
+            self.crowded.fetch_add(1, Ordering::SeqCst);
+        }
+        for _turn in 0..MEETING_TURNS {
+            thread::yield_now();
+        }
+    }
+
+    // It has its reply.
+    fn go_out(&self) {
+        self.inside.fetch_sub(1, Ordering::SeqCst);
     }
 
     /// The hook was given a report.
@@ -121,8 +145,11 @@ impl<'a> Outside for HeldOutside<'a> {
     }
 
     fn ask(&mut self, sampler: u16, request: &Request) -> M<Outcome> {
+        self.hold.tally.come_in();
         self.hold.keep(sampler);
-        self.inner.ask(sampler, request)
+        let outcome = self.inner.ask(sampler, request);
+        self.hold.tally.go_out();
+        outcome
     }
 }
 

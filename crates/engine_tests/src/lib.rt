@@ -1,5 +1,5 @@
-//! Tests of a run's threads: what it prints, that workers run at the same time as each other and as the reporter, and what
-//! stands after a write that failed.
+//! Tests of a run's threads: what it prints, that workers run at the same time as each other and as the reporter, that one at a time
+//! is in a section, and what stands after a write that failed.
 #![tactic(auto)]
 
 #[cfg(test)]
@@ -18,3 +18,5 @@ mod printed;
 mod running;
 #[cfg(test)]
 mod runs;
+#[cfg(test)]
+mod sections;

@@ -17,6 +17,10 @@ pub const TWO_SAMPLES: &[u8] =
 pub const TWO_THREADS: &[u8] =
     b"{\"type\":\"TestPlan\",\"children\":[{\"type\":\"ThreadGroup\",\"name\":\"TG\",\"props\":{\"threads\":2},\"children\":[{\"type\":\"Script\",\"name\":\"A\",\"props\":{\"replies\":[{\"ms\":5}]}}]}]}";
 
+/// Eight threads, each of which enters a section ten times, over one sampler in it, which is the element 3.
+pub const SECTION: &[u8] =
+    b"{\"type\":\"TestPlan\",\"children\":[{\"type\":\"ThreadGroup\",\"name\":\"TG\",\"props\":{\"loops\":10,\"threads\":8},\"children\":[{\"type\":\"CriticalSection\",\"props\":{\"lock\":\"l\"},\"children\":[{\"type\":\"Script\",\"name\":\"A\",\"props\":{\"replies\":[{\"ms\":5}]}}]}]}]}";
+
 // A plan of that many threads, each of which makes 100 samples of 5 milliseconds: the text before and after the number.
 const BEFORE: &[u8] =
     b"{\"type\":\"TestPlan\",\"children\":[{\"type\":\"ThreadGroup\",\"name\":\"TG\",\"props\":{\"loops\":100,\"threads\":";

@@ -100,7 +100,29 @@ fn run_held<R: Threads + Wait + Sync>(
     run_threads(rt, alloc, &ask, &mut world, ticker, &reporter, sink)
 }
 
-/// A run of a plan over outsides that hold its replies, with a hook that counts its calls: nothing where a write failed.
+/// The books of a run of a plan over outsides that hold its replies, with a hook that counts its calls: nothing where a write
+/// failed.
+pub fn held_books<R: Threads + Wait + Sync>(
+    rt: &R,
+    alloc: Global,
+    text: &[u8],
+    hold: Hold<'_>,
+    ticker: &mut CountedTicker<'_>,
+    sink: &mut MemSink,
+) -> Result<Option<RunBooks>, Fail> {
+    let plan = plan_of(alloc, text)?;
+    if !plan.samples_fit(BUDGET) {
+        return Err(Fail::from("too many samples"));
+    }
+    let props = Props::read(alloc, b"")?;
+    match run_held(rt, alloc, &plan, &props, hold, ticker, sink) {
+        Ok(books) => Ok(Some(books)),
+        Err(RunError::WriteFault) => Ok(None),
+        Err(RunError::NoMemory) => Err(Fail::from("out of memory")),
+    }
+}
+
+/// What such a run gave: nothing where a write failed.
 pub fn held<R: Threads + Wait + Sync>(
     rt: &R,
     alloc: Global,
@@ -109,14 +131,8 @@ pub fn held<R: Threads + Wait + Sync>(
     ticker: &mut CountedTicker<'_>,
     sink: &mut MemSink,
 ) -> Result<Option<Given>, Fail> {
-    let plan = plan_of(alloc, text)?;
-    if !plan.samples_fit(BUDGET) {
-        return Err(Fail::from("too many samples"));
-    }
-    let props = Props::read(alloc, b"")?;
-    match run_held(rt, alloc, &plan, &props, hold, ticker, sink) {
-        Ok(books) => Ok(Some(Given::of(&books, sink.bytes()))),
-        Err(RunError::WriteFault) => Ok(None),
-        Err(RunError::NoMemory) => Err(Fail::from("out of memory")),
+    match held_books(rt, alloc, text, hold, ticker, sink)? {
+        Some(books) => Ok(Some(Given::of(&books, sink.bytes()))),
+        None => Ok(None),
     }
 }
