@@ -30,7 +30,7 @@ returns-in-Ok-Sampler-clause-came g c = λ beside.
 pub returns-in-Ok-Sampler-clause-given : goal.returns-in-Ok-Sampler-clause-given
 returns-in-Ok-Sampler-clause-given g c =
     let n = nests_at c.args.plan.now.elements c.args.depth c.args.child c.requires.nests in
-    record { element = n.element; there = n.there; script = rw c.in-Ok-Sampler.field-0-is at (c.in-Ok-Sampler.ensures.fits n.element n.there) }
+    record { element = n.element; there = n.there; of_kind = rw c.in-Ok-Sampler.field-0-is at (c.in-Ok-Sampler.ensures.fits n.element n.there) }
 
 pub returns-in-Ok-Open-clause-came : goal.returns-in-Ok-Open-clause-came
 returns-in-Ok-Open-clause-came g c = λ beside.
