@@ -1,7 +1,9 @@
 // The calls of cases. They have no clauses, so that no proof carries along what the calls promise.
 
+use crate::streams::TextStream;
 use http_text::{Fed, HttpSettings, ResponseReader, Target, TargetError, WireError, request_bytes};
 use jm_base::{M, Reply};
+use mirror_server::{MirrorError, serve_one};
 use std::alloc::Global;
 
 /// A new reader.
@@ -22,4 +24,9 @@ pub fn finish(reader: ResponseReader) -> Result<Reply, WireError> {
 /// A request.
 pub fn request(alloc: Global, settings: &HttpSettings) -> Result<Target, TargetError> {
     request_bytes(alloc, settings)
+}
+
+/// A request that is mirrored.
+pub fn serve(alloc: Global, stream: &mut TextStream<'_>) -> Result<u32, MirrorError> {
+    serve_one(alloc, stream)
 }

@@ -1,6 +1,7 @@
 // The cases, one line each.
 
 use crate::calls;
+use crate::mirrors::{mirrored, mirrored_in, mirrored_with_faults};
 use crate::requests::requested;
 use crate::shown::{fed_shown, finish_shown};
 use crate::ways::{all_ways, prefixes, read_through, sized};
@@ -24,6 +25,20 @@ fn in_pieces(alloc: Global, head_only: bool, pieces: &[&str]) -> anyhow::Result<
     }
     out.push_str(finish_shown(alloc, calls::finish(reader))?.as_str())?;
     Ok(out)
+}
+
+/// A request that is mirrored.
+fn mirror_case(alloc: Global, fields: &[&str]) -> anyhow::Result<String> {
+    if at(fields, 0) == "mirror" {
+        let text = bytes_of(alloc, at(fields, 1))?;
+        return mirrored(alloc, &text);
+    }
+    let size = at(fields, 1).parse::<usize>()?;
+    let text = bytes_of(alloc, at(fields, 2))?;
+    if at(fields, 0) == "mirror-faults" {
+        return mirrored_with_faults(alloc, &text, size);
+    }
+    mirrored_in(alloc, &text, size)
 }
 
 impl Cases {
@@ -61,6 +76,7 @@ impl Cases {
             "sized" => return self.in_sizes(alloc, &fields),
             "pieces" => return in_pieces(alloc, head_only, fields.get(2..).unwrap_or(&[])),
             "request" => return requested(alloc, &fields, self.repeat),
+            "mirror" | "mirror-sized" | "mirror-faults" => return mirror_case(alloc, &fields),
             _ => {}
         }
         Ok(String::new(alloc))

@@ -10,6 +10,11 @@
 //! - `pieces FLAGS TEXT ..`: a response in these pieces: what each is, and how the reader finishes.
 //! - `request METHOD HOST PORT PATH BODY FIELD ..`: a request, a field being `p:NAME=VALUE` for a parameter or `h:NAME=VALUE` for a header
 //!   field. Printed are the host, the port and the bytes.
+//! - `mirror TEXT`: a request that is mirrored, received byte by byte and in pieces of each other size. Printed are its length or the refusal,
+//!   what was sent, and how many bytes had come; with pieces of another size that is to be the piece with the same byte.
+//! - `mirror-sized SIZE TEXT`: the same in pieces of a size.
+//! - `mirror-faults SIZE TEXT`: the same in pieces of a size, where each call fails in turn, which is to be a StreamFault: how often nothing was sent
+//!   and how often a part of the answer; and whether with no failed call it is what it was.
 //! - `repeat N`: each call after it is made N times.
 //!
 //! Any other line is for a reader alone. A part of a reply of more than 60 bytes and a request of more than 1,000 are shown by their
@@ -18,8 +23,10 @@
 
 mod calls;
 mod cases;
+mod mirrors;
 mod requests;
 mod shown;
+mod streams;
 mod ways;
 mod words;
 
