@@ -5,8 +5,9 @@ Usage: bench/sums.py [PROGRAM [RUNS]]    (crates/jm_program/out/jm_program and 3
 Each run has a plan of three groups with ramp-up (of one and two groups where it has one and two threads), 1, 2, 8 or 64
 threads in all, and an interval of one millisecond. From the printed result lines it sums the samples of each interval and
 label anew, and holds every line of the reports against that: intervals from 0 with none left out, their rows, the summary,
-the end lines. Each thread's lines must be those of `solo --thread` but for their interval, and intervals never fall within
-a thread. In some run several intervals must have samples, and two threads must have run beside each other.
+the end lines. Each thread's lines must be those of `solo --thread` but for their stamp, their time and their interval, since
+`run` goes by the machine's clock, and intervals never fall within a thread. In some run several intervals must have samples,
+and two threads must have run beside each other.
 
 Then the same with 64 threads for a user whom the system gives no further thread, and one whom it gives a few; a reader of
 the reports that goes away in the middle of a run (status 5, lines of reports numbered from 0, no results); and each output
@@ -49,7 +50,7 @@ def group(number, threads, loops):
     login = sampler("login", {"ms": 3, "body": "hello"}, {"ms": 4}, {"null": True})
     page = sampler(f'page, "{number}"', {"ms": 7}, {"ms": 9, "code": 500, "message": "Bad"}, {"ms": 1, "body": "x" * 40}, {"fault": True})
     visit = {"type": "Transaction", "name": "visit", "children": [page]}
-    props = {"threads": threads, "loops": loops, "rampMs": 100 * number}
+    props = {"threads": threads, "loops": loops, "rampMs": 4 * number}
     return {"type": "ThreadGroup", "name": f"G{number}", "props": props, "children": [login, visit]}
 
 
@@ -124,7 +125,7 @@ def threads_differ(results, alone):
     at = 0
     for lines, end in alone:
         mine, at = results[at:at + len(lines)], at + len(lines)
-        if [row[:INTERVAL] for row in mine] != [row[:INTERVAL] for row in lines]:
+        if [row[LABEL:INTERVAL] for row in mine] != [row[LABEL:INTERVAL] for row in lines]:
             return f"the lines of {end[1]} are not those of solo"
         numbers = [int(row[INTERVAL]) for row in mine]
         if numbers != sorted(numbers):
@@ -245,22 +246,34 @@ def cut_off(plan, results_room, reports_room):
     return run.returncode, *((run.stdout, text) if results_room is None else (text, run.stderr))
 
 
-def differ(have, should):
-    """Which of the status and the two texts is another one, or None."""
-    return next((f"the {what} differ" for what, one, other in zip(("statuses", "results", "reports"), have, should) if one != other), None)
+def without_times(text):
+    """The whole lines of a text, without the fields that go by the clock."""
+    times = {"row": {5, 7, 8}, "total": {4, 6, 7}, "all": {3}, "interval": set(), "end": set()}
+    rows = rows_of(text[:text.rfind(b"\n") + 1].decode())
+    return [[field for at, field in enumerate(row) if at not in times.get(row[0], {0, 1})] for row in rows]
+
+
+def is_cut(text, room, whole):
+    """Whether a text fills that room, and its whole lines are the first of another run's text but for times."""
+    lines = without_times(text)
+    return len(text) == room and lines == without_times(whole)[:len(lines)]
 
 
 def outputs_are_cut(plan):
-    """Each output cut off: the texts are prefixes of those of a whole run, and what comes later was not begun."""
+    """Each output cut off: the texts are prefixes of those of a whole run but for times, and what comes later was not begun."""
     whole = ran(plan, "run", "--every", "3600000")
     results, reports = whole.stdout.encode(), whole.stderr.encode()
-    first = reports.index(b"total,")
-    for room in range(0, len(reports), 1 + len(reports) // 40):
-        should = 5, results if room >= first else b"", reports[:room]
-        yield f"reports cut off after {room} bytes", differ(cut_off(plan, None, room), should)
-    for room in range(0, len(results), 1 + len(results) // 40):
-        should = 5, results[:room], reports[:first]
-        yield f"results cut off after {room} bytes", differ(cut_off(plan, room, None), should)
+    closed = sum(line[0] in ("interval", "row") for line in without_times(reports))
+    for room in range(0, len(reports) - 40, 1 + len(reports) // 40):
+        status, printed, cut = cut_off(plan, None, room)
+        lines = len(without_times(cut))
+        printed_right = [len(printed) == 0] if lines < closed else [without_times(printed) == without_times(results), lines == closed and not printed]
+        right = status == 5 and is_cut(cut, room, reports) and any(printed_right)
+        yield f"reports cut off after {room} bytes", None if right else f"status {status}, {len(printed)} bytes of results, {cut[-80:]!r}"
+    for room in range(0, len(results) - 400, 1 + len(results) // 40):
+        status, cut, printed = cut_off(plan, room, None)
+        right = status == 5 and is_cut(cut, room, results) and without_times(printed) == without_times(reports)[:closed]
+        yield f"results cut off after {room} bytes", None if right else f"status {status}, {cut[-80:]!r}, {printed[-80:]!r}"
 
 
 # All of it.

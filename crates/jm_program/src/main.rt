@@ -3,10 +3,11 @@
 
 use edge_io::{FromRead, IntoWrite};
 use element_tree::RegexPatterns;
+use http_sampler::SocketWorld;
 use interval_reporter::{Reporter, stops_past};
 use jm_base::{M, NoMemory};
 use jm_command::{Status, start};
-use outside_world::{RealTicker, ScriptWorld};
+use outside_world::RealTicker;
 use std::alloc::Global;
 use std::process::ExitCode;
 use std::{env, io};
@@ -33,7 +34,7 @@ fn main(rt: HostRuntime) -> ExitCode {
     let mut plan = FromRead::new(rt.stdin());
     let mut results = IntoWrite::new(rt.stdout());
     let mut reports = IntoWrite::new(rt.stderr());
-    let mut world = ScriptWorld::new(alloc);
+    let mut world = SocketWorld::new(&rt, alloc);
     let mut ticker = RealTicker::new(&rt);
     let mut patterns = RegexPatterns::new(Vec::new(alloc));
     ExitCode::from(start(
