@@ -1,5 +1,5 @@
 -- What the number of a status says.
-use Rattle.std.proofs.Common.{◌≡◌, ℕ, Option, refl, sym, subst, ◌∙◌, inl, inr}
+use Rattle.std.proofs.Common.{◌≡◌, ℕ, Option, refl, sym, subst, ◌∙◌, inl, inr, arith}
 use Rattle.outside_world.specs.Tickers.{Ticks}
 use Rattle.command_words.specs.declared.command.Command.{Command}
 use Rattle.jm_command.specs.declared.status.Status.{Status}
@@ -24,7 +24,7 @@ same_status Refused Refused h = refl
 same_status ReadFault ReadFault h = refl
 same_status WriteFault WriteFault h = refl
 same_status Memory Memory h = refl
-same_status s t h = absurd (omega h)
+same_status s t h = absurd (omega (arith, h))
 
 -- what a status says is said by its number
 module _ (words : Option Command) (old new : Edges) (status : Status) (number : ℕ) (is : number ≡ number_of status) where
