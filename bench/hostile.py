@@ -71,7 +71,7 @@ SCRIPT = '{"type":"Script","props":{"replies":[{}]}}'
 
 def plans():
     """Each plan: what it is, its text, and the refusal lines by `check` and by `solo` and `run`, None where it is accepted and runs."""
-    runs, not_built = (None, None), (None, f"15 NotBuilt {CHILD}")
+    runs, without_replies = (None, None), (None, (None, f"13 NoReplies {CHILD}"))
     refused = lambda line: (line, line)
     bad = lambda prop: refused(f"7 BadProp {CHILD}/props/{prop}")
     long = lambda prop: refused(f"8 TooMany {CHILD}/props/{prop} text")
@@ -81,11 +81,11 @@ def plans():
         pairs = ",".join('["a",""]' for _ in range(count))
         yield f"{count} vars", whole(f'{{"type":"UserVariables","props":{{"vars":[{pairs}]}}}}'), runs
     pairs = ",".join('["a","b"]' for _ in range(130_000))
-    yield "130000 headers", whole(f'{{"type":"HeaderManager","props":{{"headers":[{pairs}]}}}}'), not_built
-    yield "130000 params", whole(f'{{"type":"Http","props":{{"params":[{pairs}]}}}}'), not_built
-    yield "130000 user parameters", whole(f'{{"type":"UserParameters","props":{{"vars":[{pairs}]}}}}'), not_built
+    yield "130000 headers", whole(f'{{"type":"HeaderManager","props":{{"headers":[{pairs}]}}}}'), runs
+    yield "130000 params", whole(f'{{"type":"Http","props":{{"params":[{pairs}]}}}}'), without_replies
+    yield "130000 user parameters", whole(f'{{"type":"UserParameters","props":{{"vars":[{pairs}]}}}}'), runs
     yield "130000 pairs, the last one wrong", whole(f'{{"type":"HeaderManager","props":{{"headers":[{pairs},["a"]]}}}}'), bad("headers")
-    yield "4 MiB of pairs", plan_of("HeaderManager", '"headers"', '["a",1]', ',["a",1]', ""), not_built
+    yield "4 MiB of pairs", plan_of("HeaderManager", '"headers"', '["a",1]', ',["a",1]', ""), runs
     names = ",".join(f'["v{number}","{number}"]' for number in range(130_000))
     yield "130000 variables of different names", whole(f'{{"type":"UserVariables","props":{{"vars":[{names}]}}}}'), runs
 
@@ -95,19 +95,19 @@ def plans():
     yield "4097 replies", whole(f'{{"type":"Script","props":{{"replies":[{replies(4097)}]}}}}'), bad("replies")
     yield "4 MiB of replies", plan_of("Script", '"replies"', "{}", ",{}", ""), bad("replies")
     yield "300 samplers of 4096 replies", whole(",".join([f'{{"type":"Script","name":"A","props":{{"replies":[{replies(4096)}]}}}}'] * 300)), runs
-    yield "32768 rows", whole(element("DataSet", text="a\n" * 32_768, names=["u"], share="thread")), not_built
+    yield "32768 rows", whole(element("DataSet", text="a\n" * 32_768, names=["u"], share="thread")), runs
     yield "rows past a text", whole(element("DataSet", text="a\n" * 32_769, names=["u"], share="thread")), long("text")
-    yield "64 names, a row of 64 fields", whole(element("DataSet", text=",".join(["a"] * 64) + "\n", names=["u"] * 64, share="thread")), not_built
+    yield "64 names, a row of 64 fields", whole(element("DataSet", text=",".join(["a"] * 64) + "\n", names=["u"] * 64, share="thread")), runs
     yield "65 names", whole(element("DataSet", text=",".join(["a"] * 65) + "\n", names=["u"] * 65, share="thread")), bad("names")
-    yield "65536 quotes in a row", whole(element("DataSet", text='"' + '""' * 32_767 + '"', names=["u"], share="thread")), not_built
+    yield "65536 quotes in a row", whole(element("DataSet", text='"' + '""' * 32_767 + '"', names=["u"], share="thread")), runs
     asserts = lambda texts, test="contains": whole(element("ResponseAssertion", test=test, patterns=texts))
-    yield "64 patterns", asserts(["a|b"] * 64, "matches"), not_built
+    yield "64 patterns", asserts(["a|b"] * 64, "matches"), runs
     yield "65 patterns", asserts(["a|b"] * 65), bad("patterns")
-    yield "63 plain texts of 65536 bytes", asserts(["a" * 65_536] * 63, "equals"), not_built
+    yield "63 plain texts of 65536 bytes", asserts(["a" * 65_536] * 63, "equals"), runs
 
     # Patterns: which of these regular expressions are too large or too deep is the crate's business.
     pattern = lambda text: whole(element("RegexExtractor", ref="x", pattern=text))
-    either = ((None, f"11 BadPattern {CHILD}/props/pattern"), (f"15 NotBuilt {CHILD}", f"11 BadPattern {CHILD}/props/pattern"))
+    either = ((None, f"11 BadPattern {CHILD}/props/pattern"), (None, f"11 BadPattern {CHILD}/props/pattern"))
     for name, text in (("4096 letters", "a" * 4096), ("65536 letters", "a" * 65_536), ("32768 alternatives", "|".join("a" * 32_768)), ("200 groups in one another", "(" * 200 + ")" * 200),
                        ("32768 groups in one another", "(" * 32_768 + ")" * 32_768), ("32768 groups", "()" * 32_768), ("65536 opened groups", "(" * 65_536),
                        ("counts in counts", "((((a{50}){50}){50}){50}){50}"), ("32768 classes", "[a]" * 21_845), ("classes in one another", "[" * 32_768 + "a" + "]" * 32_767)):
@@ -139,7 +139,7 @@ def plans():
     # JSON paths.
     path = lambda text: whole(element("JsonExtractor", ref="x", path=text))
     for name, text in (("names", "$" + ".a" * 32_767), ("places", "$" + "[0]" * 21_845), ("stars", "$" + "[*]" * 21_845), ("one name", "$." + "a" * 65_534)):
-        yield f"a JSON path of {name}", path(text), not_built
+        yield f"a JSON path of {name}", path(text), runs
     yield "a JSON path that is open", path("$" + "[0]" * 21_844 + "["), bad("path")
 
     # Depth.
@@ -162,7 +162,7 @@ def plans():
     disabled = '{"type":"a","enabled":false}'
     for count in (10_000, 100_000):
         yield f"{count} disabled children", whole(",".join([disabled] * count)), runs
-    yield "100000 disabled children of a timer", whole(element("Listener", ",".join([disabled] * 100_000))), not_built
+    yield "100000 disabled children of a timer", whole(element("Listener", ",".join([disabled] * 100_000))), runs
     yield "100000 disabled children, then an enabled one, of a timer", whole(element("Listener", ",".join([disabled] * 100_000) + "," + SCRIPT)), \
         refused(f"10 WrongPlace {CHILD}")
     yield "100000 disabled groups", whole(SCRIPT, after="").replace('"children":[{"type":"ThreadGroup"', '"children":[' + (disabled + ",") * 100_000
@@ -180,7 +180,7 @@ def plans():
     yield "256 labels", whole(",".join(named(number) for number in range(256))), runs
     yield "257 labels", whole(",".join(named(number) for number in range(257))), refused("8 TooMany / labels")
     locks = lambda count: whole(",".join(element("CriticalSection", lock=str(number)) for number in range(count)))
-    yield "256 locks", locks(256), not_built
+    yield "256 locks", locks(256), runs
     yield "257 locks", locks(257), refused("8 TooMany / locks")
     yield "100000 equal keys", whole('{"type":"Simple",' + '"name":"a",' * 100_000 + '"name":"b"}'), runs
     yield "100000 equal properties", whole('{"type":"Loop","props":{' + '"loops":2,' * 100_000 + '"loops":3}}'), runs
