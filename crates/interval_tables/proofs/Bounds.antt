@@ -99,7 +99,7 @@ failed_low : (b : Bool) → one_if (not b) ≤ 1
 failed_low true = omega arith
 failed_low false = omega arith
 
-small_times : (es : List Entry) → AllSmall es → (total (λ (e : Entry). e.elapsed) es ≤ 4294967295 * length es) × (total (λ (e : Entry). e.bytes) es ≤ 4294967295 * length es) × (total failed es ≤ length es)
+pub small_times : (es : List Entry) → AllSmall es → (total (λ (e : Entry). e.elapsed) es ≤ 4294967295 * length es) × (total (λ (e : Entry). e.bytes) es ≤ 4294967295 * length es) × (total failed es ≤ length es)
 small_times [] h = (omega arith, omega arith, omega arith)
 small_times (e ∷ es) h = let r = small_times es h.2 in let f = failed_low e.ok in let a = r.0 in let b = r.1 in let c = r.2 in (omega arith, omega arith, omega arith)
 

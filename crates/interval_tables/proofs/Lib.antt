@@ -1,3 +1,4 @@
 pub mod Totals
 pub mod Sums
 pub mod Bounds
+pub mod Folding

@@ -63,7 +63,7 @@ merged_left : (a b : Row) → a.count ≡ 0 → b.count ≢ 0 → merged a b ≡
 merged_left a b z ne = ap (λ (t : Bool). cond t a (cond (a.count == 0) b (joined a b))) (ne_eqb b.count 0 ne)
     ∙ ap (λ (t : Bool). cond t b (joined a b)) (eq-eqb a.count 0 z)
 
-merged_both : (a b : Row) → a.count ≢ 0 → b.count ≢ 0 → merged a b ≡ joined a b
+pub merged_both : (a b : Row) → a.count ≢ 0 → b.count ≢ 0 → merged a b ≡ joined a b
 merged_both a b ne ne' = ap (λ (t : Bool). cond t a (cond (a.count == 0) b (joined a b))) (ne_eqb b.count 0 ne')
     ∙ ap (λ (t : Bool). cond t b (joined a b)) (ne_eqb a.count 0 ne)
 

@@ -1,5 +1,5 @@
 -- Rows of counters, and the rows that a list of entries sums to.
-use Rattle.std.specs.Prelude.{ℕ, zero, suc, ◌+◌, ◌^◌, ◌<◌, ◌≤◌, ◌==◌, not, min, max, if◌then◌else◌, List, [], ◌∷◌, ◌++◌, length, filter, map, slice_set, slice_index_or}
+use Rattle.std.specs.Prelude.{◌≢◌, ℕ, zero, suc, ◌+◌, ◌^◌, ◌<◌, ◌≤◌, ◌==◌, not, min, max, if◌then◌else◌, List, [], ◌∷◌, ◌++◌, length, filter, map, slice_set, slice_index_or}
 use Rattle.jm_base.specs.declared.types.Entry.{Entry}
 use Rattle.interval_tables.specs.declared.row.Row.{Row}
 use Rattle.jm_base.specs.SumTotals.{total, one_if}
@@ -82,6 +82,18 @@ joined a b = record {
 abbrev pub merged : Row → Row → Row
 merged a b = if b.count == 0 then a else if a.count == 0 then b else joined a b
 
+-- six cells in their order: count, errors, total, bytes, least, greatest
+abbrev pub row_cells : (ℕ → ℕ) → Row
+row_cells f = record { count = f 0; errors = f 1; total = f 2; bytes = f 3; least = f 4; greatest = f 5 }
+
+-- the row of six cells: where the count is 0 it is all zeros, whatever the other cells are
+abbrev pub row_from : (ℕ → ℕ) → Row
+row_from f = if f 0 == 0 then no_samples else row_cells f
+
+-- the rows with the samples of six more cells of a label
+abbrev pub rows_folded : List Row → ℕ → (ℕ → ℕ) → List Row
+rows_folded rows label f = slice_set rows label (merged (slice_index_or rows label no_samples) (row_from f))
+
 -- the rows with one more sample
 abbrev pub rows_with : List Row → Entry → List Row
 rows_with rows e = slice_set rows e.label (with_entry (slice_index_or rows e.label no_samples) e)
@@ -106,11 +118,16 @@ pub record CanTake (r : Row) (e : Entry) : Type 0 where
   pub totals : r.total + e.elapsed < 2 ^ 54
   pub bytes : r.bytes + e.bytes < 2 ^ 54
 
+-- no counter of the row that two make wraps
 pub record CanMerge (a b : Row) : Type 0 where
   pub counts : a.count + b.count < 2 ^ 64
   pub errors : a.errors + b.errors < 2 ^ 64
   pub totals : a.total + b.total < 2 ^ 64
   pub bytes : a.bytes + b.bytes < 2 ^ 64
+
+-- the same where both have samples: otherwise nothing is added
+abbrev pub CanMergeSamples : Row → Row → Type 0
+CanMergeSamples a b = a.count ≢ 0 → b.count ≢ 0 → CanMerge a b
 
 -- no counter of any row wraps
 abbrev pub CanMergeRows : List Row → List Row → Type 0

@@ -1,10 +1,10 @@
 // The report of an interval.
 
-ghost use Rattle.std.specs.Prelude.{◌≡◌, ◌++◌, [], ◌∷◌, ◌<◌, List, IfOk, length, slice_set};
+ghost use Rattle.std.specs.Prelude.{◌≡◌, ◌++◌, [], ◌∷◌, ◌<◌, List, IfOk, length, slice_index, slice_set};
 ghost use Rattle.jm_base.specs.declared.types.Entry.{Entry};
 ghost use Rattle.interval_tables.specs.declared.row.Row.{Row};
 ghost use Rattle.jm_base.specs.SumTotals.{total};
-ghost use Rattle.interval_tables.specs.Rows.{failed, sum_of, rows_with, merged_rows, AllLabels, IsInBounds, CanMergeRows};
+ghost use Rattle.interval_tables.specs.Rows.{failed, sum_of, row_from, rows_with, rows_folded, merged_rows, AllLabels, IsInBounds, CanMergeRows};
 
 use crate::row::{NO_SAMPLES, Row};
 use jm_base::{Entry, M};
@@ -56,6 +56,13 @@ impl Rows {
         self.values[label] = row;
     }
 
+    // every row without samples
+    fn clear(&mut self)
+        ensures { self.new ≡ sum_of (length self.old) [] }
+    {
+        clear_all(self.values.as_mut_slice());
+    }
+
     // the rows of two reports as one
     fn merge(&mut self, other: &Rows)
         requires rows { length other.now ≡ length self.old }
@@ -75,6 +82,15 @@ fn merge_all(rows: &mut [Row], others: &[Row])
     for label in 0..others.len() {
         let row = rows[label].merged(&others[label]);
         rows[label] = row;
+    }
+}
+
+// each row without samples
+fn clear_all(rows: &mut [Row])
+    ensures { rows.new ≡ sum_of (length rows.old) [] }
+{
+    for label in 0..rows.len() {
+        rows[label] = NO_SAMPLES;
     }
 }
 
@@ -116,6 +132,31 @@ impl Report {
         let label = usize::from(entry.label);
         let row = self.rows.as_slice()[label].with(&entry);
         self.rows.put(label, row);
+    }
+
+    /// Forgets all samples: every row is one without samples. The interval stays. It takes no memory.
+    pub fn clear(&mut self)
+        ensures interval { self.new.interval ≡ self.old.interval }
+        ensures rows { self.new.rows ≡ sum_of (length self.old.rows) [] }
+    {
+        self.rows.clear();
+    }
+
+    /// Counts more samples of a label, by the six cells of a part of them: count, errors, total, bytes, least, greatest.
+    /// Where the count is 0 nothing changes, whatever the other cells are. Otherwise the first four are added, the lesser
+    /// of the leasts stays and the greater of the greatests; a row without samples takes the cells as they are. It takes
+    /// no memory.
+    pub fn fold(&mut self, label: u16, cells: &[u64])
+        requires label { label < length self.old.rows }
+        requires six { length cells.now ≡ 6 }
+        requires room { IsInBounds (rows_folded self.old.rows label (λ c. slice_index cells.now c)) }
+        ensures interval { self.new.interval ≡ self.old.interval }
+        ensures rows { self.new.rows ≡ rows_folded self.old.rows label (λ c. slice_index cells.now c) }
+    {
+        let index = usize::from(label);
+        let more = Row::of_cells(cells);
+        let row = self.rows.as_slice()[index].merged(&more);
+        self.rows.put(index, row);
     }
 
     /// Counts all samples of another report besides. It takes no memory.

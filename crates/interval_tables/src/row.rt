@@ -1,7 +1,7 @@
 // The counters of one label.
 
-ghost use Rattle.std.specs.Prelude.{◌≡◌, ◌+◌, ◌^◌, ◌<◌};
-ghost use Rattle.interval_tables.specs.Rows.{no_samples, with_entry, merged, CanTake, CanMerge};
+ghost use Rattle.std.specs.Prelude.{◌≡◌, ◌+◌, ◌^◌, ◌<◌, length, slice_index};
+ghost use Rattle.interval_tables.specs.Rows.{no_samples, with_entry, row_from, joined, merged, CanTake, CanMerge, CanMergeSamples};
 
 use jm_base::Entry;
 
@@ -57,9 +57,42 @@ impl Row {
         }
     }
 
+    // the row of six cells: count, errors, total, bytes, least, greatest
+    pub(crate) fn of_cells(cells: &[u64]) -> Row
+        requires { length cells.now ≡ 6 }
+        ensures { result ≡ row_from (λ c. slice_index cells.now c) }
+    {
+        if cells[0] == 0 {
+            return NO_SAMPLES;
+        }
+        Row {
+            count: cells[0],
+            errors: cells[1],
+            total: cells[2],
+            bytes: cells[3],
+            least: cells[4],
+            greatest: cells[5],
+        }
+    }
+
+    // the row with all samples of another, where both have some
+    fn joined(&self, other: &Row) -> Row
+        requires { CanMerge self.now other.now }
+        ensures { result ≡ joined self.now other.now }
+    {
+        Row {
+            count: self.count + other.count,
+            errors: self.errors + other.errors,
+            total: self.total + other.total,
+            bytes: self.bytes + other.bytes,
+            least: self.least.min(other.least),
+            greatest: self.greatest.max(other.greatest),
+        }
+    }
+
     // the row with all samples of another
     pub(crate) fn merged(&self, other: &Row) -> Row
-        requires { CanMerge self.now other.now }
+        requires { CanMergeSamples self.now other.now }
         ensures { result ≡ merged self.now other.now }
     {
         if other.count == 0 {
@@ -67,14 +100,7 @@ impl Row {
         } else if self.count == 0 {
             *other
         } else {
-            Row {
-                count: self.count + other.count,
-                errors: self.errors + other.errors,
-                total: self.total + other.total,
-                bytes: self.bytes + other.bytes,
-                least: self.least.min(other.least),
-                greatest: self.greatest.max(other.greatest),
-            }
+            self.joined(other)
         }
     }
 }
