@@ -18,12 +18,14 @@ use Rattle.phaser_core.specs.declared.view.ReporterView.{ReporterView}
 use Rattle.phaser_core.specs.declared.view.View.{View}
 use Rattle.phaser_core.specs.declared.view.View.TheVariants.{Reporter, Writer, Gone}
 use Rattle.jm_base.specs.SumTotals.{one_if, total}
-use Rattle.interval_tables.specs.Rows.{no_samples}
+use Rattle.interval_tables.specs.Rows.{no_samples, row_cells, row_from}
+use Rattle.std.proofs.Math.Nat.{add-mul}
+use Rattle.std.proofs.lemmas.Nat.{mul-le}
 use Rattle.interval_tables.specs.declared.row.Row.{Row}
 use Rattle.phaser_core.proofs.Halves.{Phased, TimelyStage, AllTimely, Timely, IsLive, Counted, worth_report}
-use Rattle.phaser_core.specs.Cells.{is_odd, end_at, initial, combine, vacant, gather, folded, pick, part, adds, skips, column, sums, done, place, cell_at, table_cells, no_report, report_from, report_of, row_from, rows_from, row_at, rows_in, word_count}
+use Rattle.phaser_core.specs.Cells.{is_odd, end_at, initial, combine, vacant, gather, folded, pick, part, adds, skips, column, sums, done, place, cell_at, table_cells, no_report, report_from, report_of, rows_from, folded_to, row_folded, cell_of, stripe_of, row_at, rows_in, word_count}
 use Rattle.phaser_core.specs.Invariant.{InsideBefore, MayCount, AllSmall, InTable}
-use Rattle.phaser_core.specs.CoreMoves.{marked, reporter_raised, closed_with, holding, gathered, gathered_if}
+use Rattle.phaser_core.specs.CoreMoves.{marked, reporter_raised, with_seen, closed_with, holding, gathered, gathered_if}
 use Rattle.phaser_core.specs.Shares.{AllUpTo, AllFrom, Rising}
 use Rattle.phaser_core.specs.Views.{stage_inside, inside, busy, uses, at_stage, turned, pending, current, other, at_closing, active, worth, entry_at, stage_at, value, taken_count, list_at, joined_at}
 use Rattle.phaser_core.proofs.PhaseSteps.{each_set, bound, odd_next, end_low, end_some, same_self, which}
@@ -61,11 +63,18 @@ same_place n i j = ap (λ (r : ℕ). 5 + (r * (table_cells n.labels) + j)) (omeg
 
 -- the word that the layout gives to a column of a writer's label is a cell of the table, in word order
 pub place_cell : (labels m w l c : ℕ) → place labels (m % 2) w l c ≡ cell_at labels m (6 * row_at labels w l + c)
-place_cell labels m w l c = omega arith
+place_cell labels m w l c = let both = add-mul (m % 2 * 4) (stripe_of w) labels in omega arith
 
 -- a label that is in range has its row in the table
+stripe_low : (s labels l : ℕ) → s < 4 → l < labels → s * labels + l < 4 * labels
+stripe_low s labels l few low = let most = mul-le s labels 3 labels (omega arith) (omega arith) in omega arith
+
 pub row_in : (labels w l : ℕ) → l < labels → row_at labels w l < rows_in labels
-row_in labels w l h = h
+row_in labels w l h = stripe_low (stripe_of w) labels l (omega arith) h
+
+-- a cell of a stripe is one of the table's
+pub cell_low : (labels s l c : ℕ) → s < 4 → l < labels → c < 6 → cell_of labels s l c < table_cells labels
+cell_low labels s l c few low column = let r = stripe_low s labels l few low in omega arith
 
 pub cell_in : (labels w l c : ℕ) → l < labels → c < 6 → 6 * row_at labels w l + c < table_cells labels
 cell_in labels w l c h k = let r = row_in labels w l h in omega arith
@@ -209,7 +218,7 @@ one_low : (b : Bool) → one_if b ≤ 1
 one_low true = omega arith
 one_low false = omega arith
 
-part_low : (c : ℕ) (e : Entry) → e.elapsed < 4294967296 → e.bytes < 4294967296 → part c e ≤ 4294967296
+pub part_low : (c : ℕ) (e : Entry) → e.elapsed < 4294967296 → e.bytes < 4294967296 → part c e ≤ 4294967296
 part_low zero e a b = omega arith
 part_low (suc zero) e a b = let o = one_low (not e.ok) in omega arith
 part_low (suc (suc zero)) e a b = omega arith
@@ -231,7 +240,7 @@ done_all lb nr e j a b = let p = part_low (j % 6) e a b in ⊎_elim
 
 -- Bounds: no sum comes near the end of its word
 
-pick_low : (b : Bool) (x u m : ℕ) → x ≤ m → u ≤ m → pick b x u ≤ m
+pub pick_low : (b : Bool) (x u m : ℕ) → x ≤ m → u ≤ m → pick b x u ≤ m
 pick_low true x u m h k = h
 pick_low false x u m h k = k
 
@@ -337,16 +346,39 @@ taken_low cells (Harvest j) h = omega arith
 
 -- Reports of cells
 
-row_same : (f g : ℕ → ℕ) (l : ℕ) → f (6 * l) ≡ g (6 * l) → f (6 * l + 1) ≡ g (6 * l + 1) → f (6 * l + 2) ≡ g (6 * l + 2) → f (6 * l + 3) ≡ g (6 * l + 3) → f (6 * l + 4) ≡ g (6 * l + 4) → f (6 * l + 5) ≡ g (6 * l + 5) → row_from f l ≡ row_from g l
-row_same f g l a b c d e h = λ i. cond (a i == 0) no_samples (record { count = a i; errors = b i; total = c i; bytes = d i; least = e i; greatest = h i })
+pub row_same : (f g : ℕ → ℕ) → ((c : ℕ) → c < 6 → f c ≡ g c) → row_from f ≡ row_from g
+row_same f g h =
+    λ i. cond (h 0 (omega arith) i == 0) no_samples (record { count = h 0 (omega arith) i; errors = h 1 (omega arith) i; total = h 2 (omega arith) i; bytes = h 3 (omega arith) i; least = h 4 (omega arith) i; greatest = h 5 (omega arith) i })
 
-rows_same : (labels : ℕ) (f g : ℕ → ℕ) → ((j : ℕ) → j < 6 * labels → f j ≡ g j) → rows_from labels f ≡ rows_from labels g
+pub rows_same : (upto : ℕ) (f g : ℕ → ℕ → ℕ) → ((l c : ℕ) → l < upto → c < 6 → f l c ≡ g l c) → rows_from upto f ≡ rows_from upto g
 rows_same zero f g h = refl
-rows_same (suc l) f g h = λ i. rows_same l f g (λ j low. h j (omega arith)) i ++ row_same f g l (h (6 * l) (omega arith)) (h (6 * l + 1) (omega arith)) (h (6 * l + 2) (omega arith)) (h (6 * l + 3) (omega arith)) (h (6 * l + 4) (omega arith)) (h (6 * l + 5) (omega arith)) i ∷ []
+rows_same (suc l) f g h = λ i. rows_same l f g (λ k c low column. h k c (omega arith) column) i ++ row_same (f l) (g l) (λ c column. h l c (omega arith) column) i ∷ []
+
+-- equal cells fold to the same
+folded_same : (labels : ℕ) (f g : ℕ → ℕ) (s l c : ℕ) → s ≤ 4 → l < labels → c < 6 → ((j : ℕ) → j < table_cells labels → f j ≡ g j) → folded_to labels f s l c ≡ folded_to labels g s l c
+unfolding folded_to
+folded_same labels f g zero l c few low column h = refl
+folded_same labels f g (suc s) l c few low column h =
+    λ i. folded c (folded_same labels f g s l c (omega arith) low column h i) (h (cell_of labels s l c) (cell_low labels s l c (omega arith) low column) i)
+
+-- the fold before the first stripe, and with one stripe more
+pub fold_none : (labels : ℕ) (f : ℕ → ℕ) (l : ℕ) → row_cells vacant ≡ row_cells (folded_to labels f 0 l)
+unfolding folded_to
+fold_none labels f l = refl
+
+folded_next : (labels : ℕ) (f : ℕ → ℕ) (s l c : ℕ) → folded c (folded_to labels f s l c) (f (cell_of labels s l c)) ≡ folded_to labels f (s + 1) l c
+unfolding folded_to
+folded_next labels f s l c = ap (λ (k : ℕ). folded_to labels f k l c) (sym (add-one s))
+
+pub fold_more : (labels s l : ℕ) (f : ℕ → ℕ) (r : Row) (first : ℕ) → r ≡ row_cells (folded_to labels f s l) → first ≡ 6 * (s * labels + l) → row_folded r (λ c. f (first + c)) ≡ row_cells (folded_to labels f (s + 1) l)
+fold_more labels s l f r first is at =
+    let next : (c : ℕ) → folded c (folded_to labels f s l c) (f (first + c)) ≡ folded_to labels f (s + 1) l c = λ c. ap (λ (z : ℕ). folded c (folded_to labels f s l c) (f (z + c))) at ∙ folded_next labels f s l c in
+    ap (λ (q : Row). row_folded q (λ c. f (first + c))) is ∙ (λ i. record { count = next 0 i; errors = next 1 i; total = next 2 i; bytes = next 3 i; least = next 4 i; greatest = next 5 i })
 
 -- equal cells make equal reports
 pub report_same : (labels m : ℕ) (f g : ℕ → ℕ) → ((j : ℕ) → j < table_cells labels → f j ≡ g j) → report_from labels m f ≡ report_from labels m g
-report_same labels m f g h = ap (λ (l : List Row). record { interval = m; rows = l }) (rows_same labels f g h)
+report_same labels m f g h =
+    ap (λ (l : List Row). record { interval = m; rows = l }) (rows_same labels (folded_to labels f 4) (folded_to labels g 4) (λ l c low column. folded_same labels f g 4 l c (omega arith) low column h))
 
 -- Steps of a writer
 
@@ -496,6 +528,11 @@ module _ (n : Numbers) (ws : List ℕ) (vs : List View) (p : Phased n ws vs) (c 
       counted_reporter (set ws 4 1) (reporter_raised R) refl (get_or-set_other ws 4 0 1 0 (λ h. omega arith) ∙ c.now_active) (omega arith) (λ q m _ h. h) c.taken c.within
       (λ i j live low whole. cell_else n ws 4 1 i j (omega arith) ∙ c.cells i j live low whole)
       (λ j low. let wi = taken_low (table_cells n.labels) R.closing c.within in let t = c.taken in (cell_else n ws 4 1 R.interval j (omega arith) ∙ (c.emptied j low).0, (c.emptied j low).1)) c.reports c.sums_are
+
+  -- a number that is kept as the last one seen
+  pub see_counts : (x : ℕ) → Counted n ws (set vs 0 (Reporter (with_seen R x))) (with_seen R x)
+  see_counts x =
+      counted_reporter ws (with_seen R x) refl c.now_active (omega arith) (λ q m _ h. h) c.taken c.within (λ i j live low whole. c.cells i j live low whole) (λ j low. c.emptied j low) c.reports c.sums_are
 
   pub swap_counts : R.closing ≡ Idle → Counted n (set ws 0 (R.interval + 1)) (set vs 0 (Reporter (at_closing R Swapped))) (at_closing R Swapped)
   swap_counts idle =

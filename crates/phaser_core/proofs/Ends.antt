@@ -20,7 +20,7 @@ use Rattle.phaser_core.specs.Invariant.{RecorderInvariant}
 use Rattle.phaser_core.proofs.Halves.{AllTimely}
 use Rattle.phaser_core.proofs.CellSteps.{last_is, before_last}
 use Rattle.phaser_core.proofs.Sounds.{ends_sums}
-use Rattle.phaser_core.proofs.Sharing.{joined_sum, joined_small, report_sums}
+use Rattle.phaser_core.proofs.Sharing.{Countable, joined_counts, joined_report}
 use Rattle.phaser_core.proofs.Whole.{halves}
 use Rattle.phaser_core.proofs.Steps.{joined_in_time, reader_is}
 
@@ -37,30 +37,29 @@ in_time a [] h = tt
 in_time a (j ∷ js) h = ((h.0.0, h.0.1), in_time a js h.1)
 
 -- the report whose cells are what the joined lists contribute is the sum of their entries
-pub joined_report : (labels m a : ℕ) (js : List Joined) (f : ℕ → ℕ) → AllTimely a js → ((j : ℕ) → j < table_cells labels → f j ≡ joined_at labels m j js) → report_from labels m f ≡ record { interval = m; rows = sum_of labels (entries_in m (lists_of js)) }
-joined_report labels m a js f timely is =
-    report_sums labels m f (joined_share m js) (joined_small a m js timely) (λ j low. is j low ∙ joined_sum labels m j js)
-    ∙ ap (λ (es : List Entry). record { interval = m; rows = sum_of labels es }) (share_in m js)
+lists_report : (labels m : ℕ) (js : List Joined) (f : ℕ → ℕ) → Countable labels js → ((j : ℕ) → j < table_cells labels → f j ≡ joined_at labels m j js) → report_from labels m f ≡ record { interval = m; rows = sum_of labels (entries_in m (lists_of js)) }
+lists_report labels m js f counts is = joined_report labels m js f counts is ∙ ap (λ (es : List Entry). record { interval = m; rows = sum_of labels es }) (share_in m js)
 
 -- what a read tells once there is no other view: each closed report is the sum of the joined lists' entries of its interval, and so are the cells of the open one
 pub read_knows : (n : Numbers) (ws : List ℕ) (vs : List View) (k : RecorderInvariant n ws vs) (r : ReporterView) → get_elem? vs 0 ≡ some (Reporter r) → r.closing ≡ Idle → ((port : ℕ) (u : View) → port ≢ 0 → get_elem? vs port ≡ some u → u ≡ Gone)
     → (length r.closed ≡ r.interval) × ((m : ℕ) → m < r.interval → get_or r.closed m no_report ≡ record { interval = m; rows = sum_of n.labels (entries_in m (lists_of r.joined)) })
-    × ((j : ℕ) → j < table_cells n.labels → get_or ws (cell_at n.labels r.interval j) 0 ≡ joined_at n.labels r.interval j r.joined) × AllTimely r.interval r.joined
+    × ((j : ℕ) → j < table_cells n.labels → get_or ws (cell_at n.labels r.interval j) 0 ≡ joined_at n.labels r.interval j r.joined) × AllTimely r.interval r.joined × Countable n.labels r.joined
 read_knows n ws vs k r prefix idle others =
     let e = ends_sums n ws vs (halves n ws vs k) r prefix idle others in
     let t : AllTimely (active r) r.joined = joined_in_time n ws vs k 0 r prefix in
     let now : active r ≡ r.interval = ap (λ (p : ℕ). r.interval + p) (ap pending idle) ∙ add-zero r.interval in
-    let is = reader_is n ws vs k 0 r prefix in (
+    let is = reader_is n ws vs k 0 r prefix in let counts = joined_counts n ws vs (halves n ws vs k) 0 r prefix in (
       subst (λ (q : ReporterView). length q.closed ≡ q.interval) is k.closed_reports.count,
-      (λ m old. e.0 m old ∙ joined_report n.labels m (active r) r.joined (λ j. joined_at n.labels m j r.joined) t (λ j low. refl)),
+      (λ m old. e.0 m old ∙ lists_report n.labels m r.joined (λ j. joined_at n.labels m j r.joined) counts (λ j low. refl)),
       e.1,
       subst (λ (a : ℕ). AllTimely a r.joined) now t,
+      counts,
     )
 
 -- the closed reports with that of the open interval
 pub partition_of : (labels : ℕ) (r : ReporterView) (f : ℕ → ℕ) → length r.closed ≡ r.interval → ((m : ℕ) → m < r.interval → get_or r.closed m no_report ≡ record { interval = m; rows = sum_of labels (entries_in m (lists_of r.joined)) })
-    → ((j : ℕ) → j < table_cells labels → f j ≡ joined_at labels r.interval j r.joined) → AllTimely r.interval r.joined → Partition labels (lists_of r.joined) (r.closed ++ report_from labels r.interval f ∷ [])
-partition_of labels r f count closed cells timely =
+    → ((j : ℕ) → j < table_cells labels → f j ≡ joined_at labels r.interval j r.joined) → AllTimely r.interval r.joined → Countable labels r.joined → Partition labels (lists_of r.joined) (r.closed ++ report_from labels r.interval f ∷ [])
+partition_of labels r f count closed cells timely counts =
     let last : Report = report_from labels r.interval f in
     let long : length (r.closed ++ last ∷ []) ≡ r.interval + 1 = length-append r.closed (last ∷ []) ∙ (omega arith) in
     let upto : length (r.closed ++ last ∷ []) - 1 ≡ r.interval = omega arith in
@@ -69,6 +68,6 @@ partition_of labels r f count closed cells timely =
       timed = subst (λ (a : ℕ). AllTimed a (lists_of r.joined)) (sym upto) (in_time r.interval r.joined timely);
       sums = λ m low. dite (ℕ_discrete m r.interval)
           (λ e. subst (λ (z : ℕ). get_or (r.closed ++ last ∷ []) z no_report ≡ record { interval = z; rows = sum_of labels (entries_in z (lists_of r.joined)) }) (sym e)
-          (last_is r.closed last no_report r.interval count ∙ joined_report labels r.interval r.interval r.joined f timely cells))
+          (last_is r.closed last no_report r.interval count ∙ lists_report labels r.interval r.joined f counts cells))
           (λ ne. before_last r.closed last no_report m (omega arith) ∙ closed m (omega arith));
     }

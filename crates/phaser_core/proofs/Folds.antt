@@ -83,6 +83,13 @@ module _ {A : Type 0} where
   gather_cap c f [] = vacant_vacant c
   gather_cap c f (y ∷ ys) = combine_assoc c (f y) (gather c f ys) (vacant c) ∙ ap (λ (z : ℕ). combine c (f y) z) (gather_cap c f ys)
 
+  pub gather_from : (c : ℕ) (f : A → ℕ) (l : List A) → combine c (vacant c) (gather c f l) ≡ gather c f l
+  gather_from c f l = combine_comm c (vacant c) (gather c f l) ∙ gather_cap c f l
+
+  pub gather_append : (c : ℕ) (f : A → ℕ) (l m : List A) → gather c f (l ++ m) ≡ combine c (gather c f l) (gather c f m)
+  gather_append c f [] m = sym (gather_from c f m)
+  gather_append c f (x ∷ xs) m = ap (λ (z : ℕ). combine c (f x) z) (gather_append c f xs m) ∙ sym (combine_assoc c (f x) (gather c f xs) (gather c f m))
+
   pub gather_sum : (c : ℕ) (f : A → ℕ) (l : List A) → c < 4 → gather c f l ≡ total f l
   gather_sum c f [] h = vacant_sum c h
   gather_sum c f (y ∷ ys) h = combine_sum c (f y) (gather c f ys) h ∙ ap (λ (z : ℕ). f y + z) (gather_sum c f ys h)

@@ -1,5 +1,5 @@
 -- The recorder invariant in the form in which steps are proved to keep it: the phases and who is inside, then what the cells hold, then the stop word.
-use Rattle.std.proofs.Common.{◌≡◌, ℕ, ◌+◌, ◌%◌, ◌<◌, ◌≤◌, Bool, List, [], ◌∷◌, length, get_or, ltb}
+use Rattle.std.proofs.Common.{◌≡◌, ℕ, ◌+◌, ◌%◌, ◌<◌, ◌≤◌, ◌==◌, Bool, List, [], ◌∷◌, length, get_or, ltb}
 use mathlib.Core.Option.{some}
 use lib.ListN.{get_elem?}
 use Rattle.interval_tables.specs.declared.report.Report.{Report}
@@ -11,11 +11,11 @@ use Rattle.phaser_core.specs.declared.view.Joined.{Joined}
 use Rattle.phaser_core.specs.declared.view.ReporterView.{ReporterView}
 use Rattle.phaser_core.specs.declared.view.View.{View}
 use Rattle.phaser_core.specs.declared.view.View.TheVariants.{Reporter, Writer, Gone}
-use Rattle.phaser_core.specs.Cells.{end_at, initial, phase, vacant, sums, table_cells, word_count, cell_at, no_report, report_from}
+use Rattle.phaser_core.specs.Cells.{is_odd, end_at, initial, phase, vacant, sums, table_cells, word_count, cell_at, no_report, report_from}
 use Rattle.phaser_core.specs.Views.{Pair, IsSized, inside, uses, holders, heads, pending, current, other, active, taken_count, worth}
 use Rattle.phaser_core.specs.Shares.{AllUpTo, Rising}
 use Rattle.phaser_core.specs.Invariant.{InsideBefore, MayCount, InTable, ShowsStop, Fits, AllSmall}
-use Rattle.phaser_core.specs.CoreMoves.{stepped_words, stepped_views, Move}
+use Rattle.phaser_core.specs.CoreMoves.{stepped_words, stepped_views, Move, settled}
 
 -- the phases, who is inside, and who there is
 pub record Phased (n : Numbers) (words : List ℕ) (views : List View) : Type 0 where
@@ -81,3 +81,7 @@ StaysPhased n words views port m = Phased n (stepped_words words m) (stepped_vie
 
 abbrev pub StaysSound : Numbers → List ℕ → List View → ℕ → Move → Type 0
 StaysSound n words views port m = Sound n (stepped_words words m) (stepped_views words views port m)
+
+-- a look of which nothing is kept
+abbrev pub judging : ReporterView → ℕ → Move
+judging r want = record { word = end_at (is_odd r.interval); change = λ x. x; after = λ x. Reporter (settled r (x == want)) }

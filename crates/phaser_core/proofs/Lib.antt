@@ -5,6 +5,8 @@ pub mod PhaseSteps
 pub mod Members
 pub mod CellSteps
 pub mod Sounds
+pub mod Columns
+pub mod Stripes
 pub mod Sharing
 pub mod Whole
 pub mod Steps

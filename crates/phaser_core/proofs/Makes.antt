@@ -95,7 +95,7 @@ ends_shape s r os sh idle all k =
     let e = read_knows s.numbers s.words (view.Reporter r ∷ os) k r refl now others in
     let n : Numbers = s.numbers in
     subst (λ (p : Parts). Partition n.labels (joined_lists (view.Reporter r ∷ os)) (p.closed ++ report_from n.labels p.interval (λ j. get_or s.words (cell_at n.labels p.interval j) 0) ∷ [])) sh.reporter
-    (partition_of n.labels r (λ j. get_or s.words (cell_at n.labels r.interval j) 0) e.0 e.1 e.2 e.3)
+    (partition_of n.labels r (λ j. get_or s.words (cell_at n.labels r.interval j) 0) e.0 e.1 e.2 e.3 e.4)
 
 -- the reports at the end partition the joined lists of every state that the core may stand for
 pub done_partition : (s : Shape) (views : List View) → is_idle s.reporter.closing ≡ true → all_gone s.writers ≡ true → Shows s views → RecorderInvariant s.numbers s.words views → Partition s.numbers.labels (joined_lists views) (s.reporter.closed ++ open_report s ∷ [])

@@ -15,7 +15,7 @@ use Rattle.phaser_core.specs.declared.view.View.{View}
 use Rattle.phaser_core.specs.declared.view.View.TheVariants.{Reporter, Writer, Gone}
 use Rattle.jm_base.specs.SumTotals.{one_if, total}
 use Rattle.phaser_core.proofs.Halves.{Phased}
-use Rattle.phaser_core.specs.Cells.{is_odd, end_at, initial, phase, word_count}
+use Rattle.phaser_core.specs.Cells.{is_odd, end_at, initial, phase, rows_in, word_count}
 use Rattle.phaser_core.specs.Invariant.{InsideBefore, AllKept, Fits}
 use Rattle.phaser_core.specs.CoreMoves.{splitting, split_off, taking_in, joining, first_words, first_cells}
 use Rattle.phaser_core.specs.Shares.{AllInRange}
@@ -87,7 +87,7 @@ kept_snoc n made (x ∷ xs) j h a b c d = (h.0, h.1, h.2, h.3, kept_snoc n made 
 -- the reporter makes writer 0
 pub split_first : (n : Numbers) (ws : List ℕ) (vs : List View) (k : Phased n ws vs) (id : ℕ) (r : ReporterView) → get_elem? vs id ≡ some (Reporter r) → r.ready ≡ false → Phased n ws (set vs id (splitting (Reporter r)) ++ writer_zero ∷ [])
 split_first n ws vs k id r at fresh =
-    let new : View = writer_zero in let r' : ReporterView = record { labels = r.labels; interval = r.interval; closing = r.closing; joined = r.joined; ready = true; cells = r.cells; closed = r.closed; raised = r.raised } in let left : View = Reporter r' in
+    let new : View = writer_zero in let r' : ReporterView = record r { ready = true } in let left : View = Reporter r' in
     let us : List View = set vs id left ++ new ∷ [] in
     let mine = k.each id (Reporter r) at in
     let none : k.made ≡ 0 = mine.2 fresh in
@@ -191,7 +191,7 @@ cells_long zero = refl
 cells_long (suc l) = let r = cells_long l in omega arith
 
 pub first_wide : (n : Numbers) → length (first_words n.labels) ≡ word_count n.labels
-first_wide n = let a = length-append (first_cells n.labels) (first_cells n.labels) in let b = cells_long n.labels in omega arith
+first_wide n = let a = length-append (first_cells (rows_in n.labels)) (first_cells (rows_in n.labels)) in let b = cells_long (rows_in n.labels) in omega arith
 
 pub opens : (n : Numbers) → IsSized n → Phased n (first_words n.labels) (Reporter (first_reading n.labels) ∷ [])
 opens n s =

@@ -18,10 +18,10 @@ use Rattle.phaser_core.specs.declared.view.ReporterView.{ReporterView}
 use Rattle.phaser_core.specs.declared.view.View.{View}
 use Rattle.phaser_core.specs.declared.view.View.TheVariants.{Reporter, Writer, Gone}
 use Rattle.jm_base.specs.SumTotals.{one_if, total}
-use Rattle.phaser_core.proofs.Halves.{Phased, StaysPhased}
+use Rattle.phaser_core.proofs.Halves.{Phased, StaysPhased, judging}
 use Rattle.phaser_core.specs.Cells.{is_odd, same, end_at, initial, phase, part, column, place, folded, vacant, cell_at, table_cells}
 use Rattle.phaser_core.specs.Invariant.{InsideBefore, AllKept, Fits}
-use Rattle.phaser_core.specs.CoreMoves.{Move, add_one, entering, leaving, clearing, flipping, settled, looking, marked, reporter_raised, loading, adding, swapping, taking, closed_with, holding, gathered_if}
+use Rattle.phaser_core.specs.CoreMoves.{Move, add_one, entering, leaving, clearing, flipping, settled, with_seen, marked, reporter_raised, loading, adding, swapping, taking, closed_with, holding, gathered_if}
 use Rattle.phaser_core.specs.Shares.{AllInRange}
 use Rattle.phaser_core.specs.Views.{stage_inside, inside, busy, uses, holders, heads, at_stage, turned, pending, current, other, at_closing}
 use Rattle.jm_base.proofs.Totals.{total_set, total_le, total_times}
@@ -403,8 +403,8 @@ module _ (n : Numbers) (ws : List ℕ) (vs : List View) (k : Phased n ws vs) whe
       subst (λ (q : ReporterStage). InsideBefore q (total (inside (other R)) vs) (get_or ws (end_at (other R)) 0) (initial (other R)) (total uses vs)) waiting k.behind in
       let read : get_or ws (end_at (not c)) 0 ≡ get_or ws (end_at (is_odd R.interval)) 0 = ap (λ (q : Bool). get_or ws (end_at q) 0) far in omega arith
 
-  pub look_front : (want : ℕ) → R.closing ≡ Waiting want → StaysPhased n ws vs 0 (looking R want)
-  look_front want waiting =
+  pub judge_front : (want : ℕ) → R.closing ≡ Waiting want → StaysPhased n ws vs 0 (judging R want)
+  judge_front want waiting =
       let i : ℕ = end_at (is_odd R.interval) in let found : ℕ = get_or ws i 0 in
       subst (λ (xs : List ℕ). Phased n xs (set vs 0 (Reporter (settled R (found == want))))) (sym (set-get_or ws i 0))
       (dite (ℕ_discrete found want)
@@ -431,6 +431,10 @@ module _ (n : Numbers) (ws : List ℕ) (vs : List View) (k : Phased n ws vs) whe
       reporter_phases (set ws 4 1) (reporter_raised R) c refl refl refl (length-set ws 4 1) k.closed refl (ap phase start ∙ k.parity) (omega arith)
       (subst (λ (z : ℕ). InsideBefore R.closing (total (inside (not c)) vs) z (initial (not c)) (total uses vs)) (sym ao) k.behind) (omega arith) (λ p. let a = apart p in let e = k.ends p in (omega arith, omega arith))
 
+  -- a number that is kept as the last one seen
+  pub see_front : (x : ℕ) → Phased n ws (set vs 0 (Reporter (with_seen R x)))
+  see_front x = reporter_phases ws (with_seen R x) (current R) refl refl refl refl k.closed refl k.parity k.now k.behind k.started k.ends
+
   pub take_front : (j : ℕ) → R.closing ≡ Harvest j → j < table_cells n.labels → StaysPhased n ws vs 0 (taking R j)
   take_front j harvest inside_table =
       let i : ℕ = cell_at R.labels R.interval j in let x : ℕ = get_or ws i 0 in
@@ -454,9 +458,6 @@ module _ (n : Numbers) (ws : List ℕ) (vs : List View) (k : Phased n ws vs) (id
 
   pub flip_phases : r.closing ≡ Cleared → StaysPhased n ws vs id (flipping r)
   flip_phases cleared = as_front flipping (flip_front n ws vs k (subst (λ (q : ReporterView). q.closing ≡ Cleared) (sym is_reader) cleared))
-
-  pub look_phases : (want : ℕ) → r.closing ≡ Waiting want → StaysPhased n ws vs id (looking r want)
-  look_phases want waiting = as_front (λ q. looking q want) (look_front n ws vs k want (subst (λ (q : ReporterView). q.closing ≡ Waiting want) (sym is_reader) waiting))
 
   pub swap_phases : r.closing ≡ Idle → r.interval < 16777216 → StaysPhased n ws vs id (swapping r)
   swap_phases idle few = as_front swapping (swap_front n ws vs k (subst (λ (q : ReporterView). q.closing ≡ Idle) (sym is_reader) idle) (subst (λ (q : ReporterView). q.interval < 16777216) (sym is_reader) few))

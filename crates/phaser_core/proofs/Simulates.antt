@@ -26,7 +26,7 @@ use Rattle.phaser_core.specs.declared.writer.WriterState.TheVariants.{Live, Gone
 use Rattle.phaser_core.specs.declared.applied.Applied.{Applied}
 use Rattle.phaser_core.specs.declared.applied.Applied.TheVariants.{Old}
 use Rattle.phaser_core.specs.Cells.{is_odd, end_at, place, folded, part, column, sums, table_cells, cell_at, vacant, report_of}
-use Rattle.phaser_core.specs.CoreMoves.{Move, entering, loading, adding, leaving, swapping, clearing, flipping, looking, taking, raising_as_reporter, gathered_if, gathered, settled, stepped_words, taking_in}
+use Rattle.phaser_core.specs.CoreMoves.{Move, entering, loading, adding, leaving, swapping, clearing, flipping, looking, taking, raising_as_reporter, gathered_if, gathered, settled, with_seen, stepped_words, taking_in}
 use Rattle.phaser_core.specs.Step.{CoreState, given, writer_move, reporter_move, move_at, moved, split_if, split_stage, split_at, join_stage, join_at}
 use Rattle.phaser_core.specs.Plain.{changed, cell_change, step_if, stage_step, writer_step, writer_after, writer_at, step_answer, words_after, writers_after, closing_step, closing_if, Parts, gathered_parts_if, gathered_parts, with_taken, with_closing, looked, look_result, look_parts, take_result, take_words, take_parts, split_if as pair_if, split_of, pair_result, pair_writers, is_idle, is_out, old_if, gone_if}
 use Rattle.phaser_core.specs.CoreShape.{Shape, kept_of, parts_of, ShowsViews, Shows, found_by, answer_of, Answered}
@@ -205,20 +205,29 @@ module _ (n : Numbers) (ws : List ℕ) (r : ReporterView) (os : List View) (name
   gathered_is : (j : ℕ) (cells : List ℕ) → parts_of (gathered r cells j) ≡ gathered_parts n.labels j (with_taken (parts_of r) cells)
   gathered_is j cells = gathered_as (j == table_cells r.labels) n.labels j cells named ∙ ap (λ (l : ℕ). gathered_parts_if (j == table_cells l) n.labels j (with_taken (parts_of r) cells)) named
 
-  settled_is : (b : Bool) → parts_of (settled r b) ≡ looked b n.labels (parts_of r)
-  settled_is true = gathered_is 0 []
-  settled_is false = refl
+  -- what a look found is no part of it
+  seen_gathered : (b : Bool) (x j : ℕ) (cells : List ℕ) → parts_of (gathered_if b (with_seen r x) cells j) ≡ parts_of (gathered_if b r cells j)
+  seen_gathered true x j cells = refl
+  seen_gathered false x j cells = refl
 
-  settled_labels : (b : Bool) → (settled r b).labels ≡ r.labels
-  settled_labels true = gathered_labels (0 == table_cells r.labels) 0 []
-  settled_labels false = refl
+  seen_gathered_labels : (b : Bool) (x j : ℕ) (cells : List ℕ) → (gathered_if b (with_seen r x) cells j).labels ≡ r.labels
+  seen_gathered_labels true x j cells = refl
+  seen_gathered_labels false x j cells = refl
+
+  seen_settled : (b : Bool) (x : ℕ) → parts_of (settled (with_seen r x) b) ≡ looked b n.labels (parts_of r)
+  seen_settled true x = seen_gathered (0 == table_cells r.labels) x 0 [] ∙ gathered_is 0 []
+  seen_settled false x = refl
+
+  seen_labels : (b : Bool) (x : ℕ) → (settled (with_seen r x) b).labels ≡ r.labels
+  seen_labels true x = seen_gathered_labels (0 == table_cells r.labels) x 0 []
+  seen_labels false x = refl
 
   abbrev looked_at : ℕ
   looked_at = get_or ws (end_at (is_odd r.interval)) 0
 
   pub look_answers : (c : ReporterStage) → r.closing ≡ c → Answered S event.Look (found_by ws (reporter_move event.Look r c)) (moved ws (view.Reporter r ∷ os) 0 (reporter_move event.Look r c)) (look_result c looked_at) (after_reporter ws (look_parts c looked_at n.labels (parts_of r)))
-  look_answers (Waiting want) is = reporter_moves event.Look (looking r want) (settled r (looked_at == want)) (look_result (Waiting want) looked_at) ws (looked (looked_at == want) n.labels (parts_of r))
-      refl (settled_labels (looked_at == want)) (settled_is (looked_at == want)) (ap (λ (c : ReporterStage). answer_of event.Look c looked_at) (sym is)) (sym (set-get_or ws (end_at (is_odd r.interval)) 0))
+  look_answers (Waiting want) is = reporter_moves event.Look (looking r want) (settled (with_seen r looked_at) (looked_at == want)) (look_result (Waiting want) looked_at) ws (looked (looked_at == want) n.labels (parts_of r))
+      refl (seen_labels (looked_at == want) looked_at) (seen_settled (looked_at == want) looked_at) (ap (λ (c : ReporterStage). answer_of event.Look c looked_at) (sym is)) (sym (set-get_or ws (end_at (is_odd r.interval)) 0))
   look_answers Idle is = (refl, refl)
   look_answers Swapped is = (refl, refl)
   look_answers Cleared is = (refl, refl)

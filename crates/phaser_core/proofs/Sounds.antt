@@ -17,17 +17,17 @@ use Rattle.phaser_core.specs.declared.view.ReporterView.{ReporterView}
 use Rattle.phaser_core.specs.declared.view.View.{View}
 use Rattle.phaser_core.specs.declared.view.View.TheVariants.{Reporter, Writer, Gone}
 use Rattle.jm_base.specs.SumTotals.{one_if, total}
-use Rattle.phaser_core.proofs.Halves.{Phased, Sound, StaysSound, TimelyStage, Timely, Counted}
-use Rattle.phaser_core.specs.Cells.{is_odd, end_at, initial, phase, combine, vacant, gather, folded, part, column, sums, place, cell_at, table_cells, no_report, report_from, row_at}
+use Rattle.phaser_core.proofs.Halves.{Phased, Sound, StaysSound, judging, TimelyStage, Timely, Counted}
+use Rattle.phaser_core.specs.Cells.{is_odd, end_at, initial, phase, combine, vacant, gather, folded, part, column, sums, place, cell_at, table_cells, no_report, report_from, rows_in, row_at}
 use Rattle.phaser_core.specs.Invariant.{InsideBefore, raised_in, saw_in, ShowsStop, InTable}
-use Rattle.phaser_core.specs.CoreMoves.{Move, add_one, entering, leaving, clearing, flipping, settled, looking, splitting, split_off, taking_in, joining, first_words, first_cells, marked, or, looking_stop, raising_stop, reporter_raised, raising_as_reporter, loading, adding, swapping, gathered, taking, gathered_if}
+use Rattle.phaser_core.specs.CoreMoves.{Move, add_one, entering, leaving, clearing, flipping, settled, with_seen, looking, splitting, split_off, taking_in, joining, first_words, first_cells, marked, or, looking_stop, raising_stop, reporter_raised, raising_as_reporter, loading, adding, swapping, gathered, taking, gathered_if}
 use Rattle.phaser_core.specs.Views.{inside, uses, at_stage, writer_zero, turned, current, other, at_closing, left_of, further, first_reading, IsSized, AllJoined, active, worth, entry_at, stage_at, value, taken_count, list_at, joined_at}
-use Rattle.phaser_core.proofs.PhaseSteps.{same_total, each_set, is_reader, at_front, not_front, odd_next, not_not, settled_none, end_low, end_some, enter_phases, load_phases, add_phases, exit_phases, mark_phases, raise_front, swap_front, clear_front, flip_front, look_front, take_front}
-use Rattle.phaser_core.proofs.CellSteps.{enter_counts, load_counts, add_counts, exit_counts, mark_counts, raise_counts, swap_counts, clear_counts, flip_counts, settle_counts, take_counts, timely_snoc, place_cell, report_same}
+use Rattle.phaser_core.proofs.PhaseSteps.{same_total, each_set, is_reader, at_front, not_front, odd_next, not_not, settled_none, end_low, end_some, enter_phases, load_phases, add_phases, exit_phases, mark_phases, raise_front, swap_front, clear_front, flip_front, judge_front, see_front, take_front}
+use Rattle.phaser_core.proofs.CellSteps.{enter_counts, load_counts, add_counts, exit_counts, mark_counts, raise_counts, swap_counts, clear_counts, flip_counts, settle_counts, see_counts, take_counts, timely_snoc, place_cell, report_same}
 use Rattle.phaser_core.proofs.Members.{split_first, split_more, join_phases, opens, cells_long, at_end, summed, at_one, all_gone}
 use Rattle.phaser_core.proofs.Folds.{combine_comm, vacant_vacant, gather_more, gather_same, gather_snoc, gather_unit, gather_cap, gather_moved, set_back, here as here_after}
 use Rattle.jm_base.proofs.Totals.{total_set, total_snoc, total_at}
-use Rattle.phaser_core.proofs.Lists.{at_set, set_again, set_else, set_here, at_longer}
+use Rattle.phaser_core.proofs.Lists.{at_set, set_again, set_twice, set_else, set_here, at_longer}
 
 -- the stop word and all marks stay
 stop_totals : (ws ws' : List ℕ) (vs us : List View) → get_or ws' 4 0 ≡ get_or ws 4 0 → total raised_in us ≡ total raised_in vs → total saw_in us ≡ total saw_in vs → ShowsStop ws vs → ShowsStop ws' us
@@ -126,10 +126,10 @@ module _ (n : Numbers) (ws : List ℕ) (vs : List View) (k : Sound n ws vs) wher
       (sym k.phased.labels) (take_counts n ws vs k.phased k.counted j harvest low))
       (quiet_front i0 (vacant (j % 6)) (gathered R l (j + 1)) (λ h. omega arith) (raised_gathered R l (j + 1) (j + 1 == table_cells R.labels)) (saw_gathered R l (j + 1) (j + 1 == table_cells R.labels)))
 
-  look_first : (want : ℕ) → R.closing ≡ Waiting want → StaysSound n ws vs 0 (looking R want)
-  look_first want waiting =
+  judge_first : (want : ℕ) → R.closing ≡ Waiting want → StaysSound n ws vs 0 (judging R want)
+  judge_first want waiting =
       let i : ℕ = end_at (is_odd R.interval) in let found : ℕ = get_or ws i 0 in
-      sound n _ _ (look_front n ws vs k.phased want waiting) (settled R (found == want)) (here _)
+      sound n _ _ (judge_front n ws vs k.phased want waiting) (settled R (found == want)) (here _)
       (subst (λ (xs : List ℕ). Counted n xs (set vs 0 (Reporter (settled R (found == want)))) (settled R (found == want))) (sym (set-get_or ws i 0))
       (dite (ℕ_discrete found want)
       (λ hit. subst (λ (b : Bool). Counted n ws (set vs 0 (Reporter (settled R b))) (settled R b)) (sym (eq-eqb found want hit))
@@ -137,6 +137,10 @@ module _ (n : Numbers) (ws : List ℕ) (vs : List View) (k : Sound n ws vs) wher
       (λ miss. subst (λ (b : Bool). Counted n ws (set vs 0 (Reporter (settled R b))) (settled R b)) (sym (ne_eqb found want miss))
       (subst (λ (us : List View). Counted n ws us R) (sym (set_again vs 0 (Reporter R) k.phased.prefix)) k.counted))))
       (quiet_front i found (settled R (found == want)) (end_four' (is_odd R.interval)) (raised_settled R (found == want)) (saw_settled R (found == want)))
+
+  -- a number that is kept as the last one seen
+  see_first : (x : ℕ) → Sound n ws (set vs 0 (Reporter (with_seen R x)))
+  see_first x = sound n ws _ (see_front n ws vs k.phased x) (with_seen R x) (here _) (see_counts n ws vs k.phased k.counted x) (stop_same ws ws vs 0 (Reporter R) (Reporter (with_seen R x)) k.phased.prefix refl refl refl k.stopped)
 
 module _ (n : Numbers) (ws : List ℕ) (vs : List View) (k : Sound n ws vs) (id : ℕ) (r : ReporterView) (at : get_elem? vs id ≡ some (Reporter r)) where
   is : k.phased.reader ≡ r
@@ -154,17 +158,28 @@ module _ (n : Numbers) (ws : List ℕ) (vs : List View) (k : Sound n ws vs) (id 
   pub flip_sound : r.closing ≡ Cleared → StaysSound n ws vs id (flipping r)
   flip_sound cleared = as_first flipping (flip_first n ws vs k (ap (λ (q : ReporterView). q.closing) is ∙ cleared))
 
-  pub look_sound : (want : ℕ) → r.closing ≡ Waiting want → StaysSound n ws vs id (looking r want)
-  look_sound want waiting = as_first (λ q. looking q want) (look_first n ws vs k want (ap (λ (q : ReporterView). q.closing) is ∙ waiting))
+  judge_sound : (want : ℕ) → r.closing ≡ Waiting want → StaysSound n ws vs id (judging r want)
+  judge_sound want waiting = as_first (λ q. judging q want) (judge_first n ws vs k want (ap (λ (q : ReporterView). q.closing) is ∙ waiting))
 
   pub take_sound : (j : ℕ) → r.closing ≡ Harvest j → StaysSound n ws vs id (taking r j)
   take_sound j harvest =
       let h : k.phased.reader.closing ≡ Harvest j = ap (λ (q : ReporterView). q.closing) is ∙ harvest in
       as_first (λ q. taking q j) (take_first n ws vs k j h (subst (InTable (table_cells n.labels)) h k.counted.within))
 
+-- a look keeps what it found, and then settles or does not
+look_first : (n : Numbers) (ws : List ℕ) (vs : List View) (k : Sound n ws vs) (want : ℕ) → k.phased.reader.closing ≡ Waiting want → StaysSound n ws vs 0 (looking k.phased.reader want)
+look_first n ws vs k want waiting =
+    let r : ReporterView = k.phased.reader in let found : ℕ = get_or ws (end_at (is_odd r.interval)) 0 in let q : ReporterView = with_seen r found in
+    subst (λ (us : List View). Sound n (set ws (end_at (is_odd r.interval)) found) us) (set_twice vs 0 (Reporter q) (Reporter (settled q (found == want))))
+    (judge_sound n ws (set vs 0 (Reporter q)) (see_first n ws vs k found) 0 q (here n ws vs k q) want waiting)
+
+pub look_sound : (n : Numbers) (ws : List ℕ) (vs : List View) (k : Sound n ws vs) (id : ℕ) (r : ReporterView) → get_elem? vs id ≡ some (Reporter r) → (want : ℕ) → r.closing ≡ Waiting want → StaysSound n ws vs id (looking r want)
+look_sound n ws vs k id r at want waiting =
+    as_first n ws vs k id r at (λ q. looking q want) (look_first n ws vs k want (ap (λ (q : ReporterView). q.closing) (is n ws vs k id r at) ∙ waiting))
+
 -- the reader with other joined writers
 abbrev with_joined : ReporterView → List Joined → Bool → ReporterView
-with_joined r js b = record { labels = r.labels; interval = r.interval; closing = r.closing; joined = js; ready = b; cells = r.cells; closed = r.closed; raised = r.raised }
+with_joined r js b = record r { joined = js; ready = b }
 
 stage_with : (n : Numbers) (r : ReporterView) (js : List Joined) (b : Bool) (l : List (ℕ × Entry)) (s : Stage) → TimelyStage n r l s → TimelyStage n (with_joined r js b) l s
 stage_with n r js b l Out h = tt
@@ -267,12 +282,12 @@ read_back [] m i = ap (λ (k : ℕ). get_or m k 0) (omega arith)
 read_back (x ∷ xs) m i = let s : length (x ∷ xs) + i ≡ suc (length xs + i) = omega arith in ap (λ (k : ℕ). get_or (x ∷ (xs ++ m)) k 0) s ∙ read_back xs m i
 
 first_place : (n : Numbers) (t j : ℕ) → t < 2 → j < table_cells n.labels → get_or (first_words n.labels) (5 + (t * table_cells n.labels + j)) 0 ≡ vacant (j % 6)
-first_place n zero j low h = let l = cells_long n.labels in
-    read_five 0 0 0 9223372036854775808 0 (0 * (table_cells n.labels) + j) (first_cells n.labels ++ first_cells n.labels) ∙ ap (λ (k : ℕ). get_or (first_cells n.labels ++ first_cells n.labels) k 0) (omega arith)
-    ∙ read_front (first_cells n.labels) (first_cells n.labels) j (omega arith) ∙ first_cell n.labels j h
-first_place n (suc zero) j low h = let l = cells_long n.labels in let o = one-mul (table_cells n.labels) in
-    read_five 0 0 0 9223372036854775808 0 (1 * (table_cells n.labels) + j) (first_cells n.labels ++ first_cells n.labels) ∙ ap (λ (k : ℕ). get_or (first_cells n.labels ++ first_cells n.labels) k 0) (omega arith)
-    ∙ read_back (first_cells n.labels) (first_cells n.labels) j ∙ first_cell n.labels j h
+first_place n zero j low h = let l = cells_long (rows_in n.labels) in
+    read_five 0 0 0 9223372036854775808 0 (0 * (table_cells n.labels) + j) (first_cells (rows_in n.labels) ++ first_cells (rows_in n.labels)) ∙ ap (λ (k : ℕ). get_or (first_cells (rows_in n.labels) ++ first_cells (rows_in n.labels)) k 0) (omega arith)
+    ∙ read_front (first_cells (rows_in n.labels)) (first_cells (rows_in n.labels)) j (omega arith) ∙ first_cell (rows_in n.labels) j h
+first_place n (suc zero) j low h = let l = cells_long (rows_in n.labels) in let o = one-mul (table_cells n.labels) in
+    read_five 0 0 0 9223372036854775808 0 (1 * (table_cells n.labels) + j) (first_cells (rows_in n.labels) ++ first_cells (rows_in n.labels)) ∙ ap (λ (k : ℕ). get_or (first_cells (rows_in n.labels) ++ first_cells (rows_in n.labels)) k 0) (omega arith)
+    ∙ read_back (first_cells (rows_in n.labels)) (first_cells (rows_in n.labels)) j ∙ first_cell (rows_in n.labels) j h
 first_place n (suc (suc t)) j low h = absurd (omega arith)
 
 pub opens_sound : (n : Numbers) → IsSized n → Sound n (first_words n.labels) (Reporter (first_reading n.labels) ∷ [])

@@ -1,5 +1,7 @@
 -- Each kind of step keeps the recorder invariant, and what a step may know of the state in which it is done.
-use Rattle.std.proofs.Common.{◌≡◌, ◌≢◌, ℕ, ◌<◌, ◌≤◌, Bool, true, false, List, [], ◌∷◌, ◌++◌, length, get_or, set, sym, refl, ap, ◌∙◌, subst}
+use Rattle.std.proofs.Common.{◌≡◌, ◌≢◌, ℕ, ◌+◌, ◌<◌, ◌≤◌, Bool, true, false, List, [], ◌∷◌, ◌++◌, length, get_or, set, sym, refl, ap, ◌∙◌, subst, arith, add-zero, length-append}
+use mathlib.Core.Logic.{dite}
+use native.Mathlib.Decide.{ℕ_discrete}
 use mathlib.Core.Option.{some}
 use lib.ListN.{get_elem?}
 use Rattle.jm_base.specs.declared.types.Entry.{Entry}
@@ -7,20 +9,23 @@ use Rattle.interval_tables.specs.Rows.{sum_of, IsInBounds}
 use Rattle.phaser_core.specs.declared.view.Numbers.{Numbers}
 use Rattle.phaser_core.specs.declared.view.Stage.TheVariants.{Out, In, On}
 use Rattle.phaser_core.specs.declared.view.WriterView.{WriterView}
+use Rattle.phaser_core.specs.declared.view.ReporterStage.{ReporterStage}
 use Rattle.phaser_core.specs.declared.view.ReporterStage.TheVariants.{Idle, Swapped, Cleared, Waiting, Harvest}
 use Rattle.phaser_core.specs.declared.view.ReporterView.{ReporterView}
 use Rattle.phaser_core.specs.declared.view.View.{View}
 use Rattle.phaser_core.specs.declared.view.View.TheVariants.{Reporter, Writer, Gone}
-use Rattle.phaser_core.specs.Cells.{is_odd, end_at, sums, table_cells}
-use Rattle.phaser_core.specs.Views.{IsSized, writer_zero, first_reading, ready_reading, AllJoined, active}
-use Rattle.phaser_core.specs.Shares.{AllUpTo, SumsOfLists, joined_share}
+use Rattle.phaser_core.specs.Cells.{is_odd, end_at, initial, sums, table_cells, cell_at}
+use Rattle.phaser_core.specs.Views.{IsSized, writer_zero, first_reading, ready_reading, AllJoined, active, pending, taken_count, joined_at, worth}
+use Rattle.phaser_core.specs.Shares.{AllUpTo, SumsOfLists, SumsOfStripes, joined_share}
 use Rattle.phaser_core.specs.CoreMoves.{entering, loading, adding, leaving, swapping, clearing, flipping, looking, taking, looking_stop, raising_stop, raising_as_reporter, splitting, split_off, joining, first_words}
-use Rattle.phaser_core.specs.Invariant.{RecorderInvariant, Keeps, InTable}
+use Rattle.phaser_core.specs.Invariant.{RecorderInvariant, Keeps, InTable, LiveFrom, raised_in, saw_in}
 use Rattle.phaser_core.proofs.Halves.{AllTimely}
-use Rattle.phaser_core.proofs.PhaseSteps.{is_reader, at_front}
+use Rattle.phaser_core.proofs.PhaseSteps.{is_reader, at_front, bound}
+use Rattle.phaser_core.proofs.CellSteps.{last_is, before_last}
+use Rattle.jm_base.proofs.Totals.{total_at}
 use Rattle.phaser_core.proofs.Members.{all_gone}
 use Rattle.phaser_core.proofs.Sounds.{enter_sound, load_sound, add_sound, exit_sound, swap_sound, clear_sound, flip_sound, look_sound, take_sound, split_first_sound, split_more_sound, join_sound, opens_sound, raise_sound, look_stop_sound, raise_reporter_sound, look_knows, stop_knows}
-use Rattle.phaser_core.proofs.Sharing.{sums_of_lists, joined_low}
+use Rattle.phaser_core.proofs.Sharing.{sums_of_lists, joined_low, joined_counts, joined_stripes, taken_sums}
 use Rattle.phaser_core.proofs.Whole.{whole, halves, timely}
 
 -- Steps of a writer
@@ -95,6 +100,45 @@ module _ (n : Numbers) (ws : List ℕ) (vs : List View) (k : RecorderInvariant n
   -- while cells are taken, there is one to take
   pub take_knows : (j : ℕ) → r.closing ≡ Harvest j → j < table_cells n.labels
   take_knows j harvest = subst (InTable (table_cells n.labels)) (ap (λ (q : ReporterView). q.closing) reader_is ∙ harvest) k.cells.in_table
+
+  -- the active word is the interval that closes
+  pub swap_finds : r.closing ≡ Idle → get_or ws 0 0 ≡ r.interval
+  swap_finds idle = subst (λ (q : ReporterView). get_or ws 0 0 ≡ active q) reader_is k.active_word ∙ ap (λ (p : ℕ). r.interval + p) (ap pending idle) ∙ add-zero r.interval
+
+  -- an end word lies between what its phase begins with and that with all entries
+  pub clear_finds : (p : Bool) → (initial p ≤ get_or ws (end_at p) 0) × (get_or ws (end_at p) 0 ≤ initial p + 4194304)
+  clear_finds p = let e = k.accounts.ends p in let b = bound n ws vs (halves n ws vs k).phased in let low = e.0 in let high = e.1 in (low, omega arith)
+
+  -- the stop word is 0 or 1, and 1 where the reporter, or a writer that it took in, raised it, or such a writer saw it as 1
+  pub stop_finds : (get_or ws 4 0 ≤ 1) × (0 < raised_in (Reporter r) → get_or ws 4 0 ≡ 1) × (0 < saw_in (Reporter r) → get_or ws 4 0 ≡ 1)
+  stop_finds = (
+    k.stop_word.low,
+    (λ h. k.stop_word.raised (let t = total_at raised_in vs id (Reporter r) at in omega arith)),
+    (λ h. k.stop_word.seen (let t = total_at saw_in vs id (Reporter r) at in omega arith)),
+  )
+
+  -- the cells that are taken sum some entries, with the one that is taken next
+  pub take_sums : (j : ℕ) → r.closing ≡ Harvest j → let x : ℕ = get_or ws (cell_at r.labels r.interval j) 0 in SumsOfStripes r.labels (length (r.cells ++ x ∷ [])) (λ i. get_or (r.cells ++ x ∷ []) i 0)
+  take_sums j harvest =
+      let x : ℕ = get_or ws (cell_at r.labels r.interval j) 0 in let l : List ℕ = r.cells ++ x ∷ [] in
+      let q : ReporterView = k.reader in let is = reader_is in
+      let low = take_knows j harvest in
+      let long : length l ≡ length r.cells + 1 = length-append r.cells (x ∷ []) in
+      let now : q.closing ≡ Harvest j = ap (λ (z : ReporterView). z.closing) is ∙ harvest in
+      let count : length r.cells ≡ j = subst (λ (z : ReporterView). length z.cells ≡ taken_count z.closing) is k.cells.count ∙ ap taken_count harvest in
+      let before : (i : ℕ) → i < length r.cells → get_or r.cells i 0 ≡ worth n.labels q.interval i vs = λ i lt. subst (λ (z : ReporterView). (i : ℕ) → i < length z.cells → get_or z.cells i 0 ≡ worth n.labels q.interval i vs) is k.cells.taken i lt in
+      let live : LiveFrom q.closing q.interval q.interval = subst (λ (c : ReporterStage). LiveFrom c q.interval q.interval) (sym now) (omega arith, omega arith) in
+      let next : x ≡ worth n.labels q.interval j vs =
+      (λ i. get_or ws (cell_at (labels_are i) (sym is i).interval j) 0) ∙ k.cells.live q.interval j live low (λ _. let same : length q.cells ≡ length r.cells = ap (λ (z : ReporterView). length z.cells) is in omega arith) in
+      subst (λ (labels : ℕ). SumsOfStripes labels (length l) (λ i. get_or l i 0)) (sym labels_are)
+      (taken_sums n ws vs (halves n ws vs k).phased (timely n ws vs k) q.interval j (length l) (λ i. get_or l i 0) now refl
+      (λ i lt. dite (ℕ_discrete i (length r.cells))
+      (λ e. subst (λ (z : ℕ). get_or l z 0 ≡ worth n.labels q.interval z vs) (sym e) (last_is r.cells x 0 (length r.cells) refl ∙ next ∙ ap (λ (z : ℕ). worth n.labels q.interval z vs) (sym count)))
+      (λ ne. before_last r.cells x 0 i (omega arith) ∙ before i (omega arith))))
+
+  -- cells that hold what the joined lists contribute sum some entries
+  pub joined_sums : (m : ℕ) → SumsOfStripes n.labels (table_cells n.labels) (λ j. joined_at n.labels m j r.joined)
+  joined_sums m = joined_stripes n.labels m (table_cells n.labels) r.joined (λ j. joined_at n.labels m j r.joined) (joined_counts n ws vs (halves n ws vs k) id r at) (λ j low. refl)
 
   -- the end word that is looked at is at most what is waited for, and is that where every writer is joined
   pub look_finds : (want : ℕ) → r.closing ≡ Waiting want → (get_or ws (end_at (is_odd r.interval)) 0 ≤ want) × (AllJoined r → get_or ws (end_at (is_odd r.interval)) 0 ≡ want)

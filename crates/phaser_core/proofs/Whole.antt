@@ -16,7 +16,7 @@ use Rattle.phaser_core.specs.declared.view.View.TheVariants.{Reporter, Writer, G
 use Rattle.phaser_core.specs.Cells.{cell_at}
 use Rattle.phaser_core.specs.Views.{Pair, pending, active}
 use Rattle.phaser_core.specs.Invariant.{StageCounts, ViewCounts, LiveFrom, StageRises, AllRise, ViewRises, AllLow, StageLow, ViewLow, RecorderInvariant}
-use Rattle.phaser_core.proofs.Halves.{TimelyStage, AllTimely, Timely, Sound}
+use Rattle.phaser_core.proofs.Halves.{TimelyStage, AllTimely, Timely, Phased, Sound}
 use Rattle.phaser_core.proofs.CellSteps.{later_none}
 use Rattle.phaser_core.proofs.Sharing.{worth_share}
 
@@ -91,7 +91,7 @@ module _ (n : Numbers) (ws : List ℕ) (vs : List View) where
           emptied = λ j low. (c.emptied j low).0;
           taken = λ j low. (c.emptied j low).1;
         };
-        closed_reports = record { count = c.reports; each = λ m old. c.sums_are m old ∙ worth_share n r m vs c.timely old };
+        closed_reports = record { count = c.reports; each = λ m old. c.sums_are m old ∙ worth_share n ws vs p c.timely m old };
         intervals_rise = λ id v e. (view_counts n r v (c.timely id v e)).1;
         stop_word = k.stopped;
         accounts = record {
@@ -114,29 +114,34 @@ module _ (n : Numbers) (ws : List ℕ) (vs : List View) where
   pub timely : (k : RecorderInvariant n ws vs) (id : ℕ) (v : View) → get_elem? vs id ≡ some v → Timely n k.reader v
   timely k id v e = view_timely n k.reader v (k.stage_intervals id v e) (k.intervals_rise id v e) (k.accounts.low id v e)
 
+  abbrev phased_of : RecorderInvariant n ws vs → Phased n ws vs
+  phased_of k =
+      let r : ReporterView = k.reader in let a = k.accounts in
+      record {
+        wide = a.wide;
+        sizes = a.sizes;
+        reader = r;
+        labels = a.labels;
+        prefix = k.reporter;
+        made = a.made;
+        ports = a.ports;
+        few = a.few;
+        closed = a.room;
+        parity = k.start_parity;
+        now = k.inside_now;
+        behind = k.inside_before;
+        started = a.started;
+        ends = a.ends;
+        people = a.people;
+        numbers = a.numbers;
+        each = a.each;
+      }
+
   abbrev pub halves : RecorderInvariant n ws vs → Sound n ws vs
   halves k =
       let r : ReporterView = k.reader in let a = k.accounts in
       record {
-        phased = record {
-          wide = a.wide;
-          sizes = a.sizes;
-          reader = r;
-          labels = a.labels;
-          prefix = k.reporter;
-          made = a.made;
-          ports = a.ports;
-          few = a.few;
-          closed = a.room;
-          parity = k.start_parity;
-          now = k.inside_now;
-          behind = k.inside_before;
-          started = a.started;
-          ends = a.ends;
-          people = a.people;
-          numbers = a.numbers;
-          each = a.each;
-        };
+        phased = phased_of k;
         counted = record {
           now_active = k.active_word;
           timely = timely k;
@@ -149,7 +154,7 @@ module _ (n : Numbers) (ws : List ℕ) (vs : List View) where
               (live_from r.closing r.interval i live);
           emptied = λ j low. (k.cells.emptied j low, k.cells.taken j low);
           reports = k.closed_reports.count;
-          sums_are = λ m old. k.closed_reports.each m old ∙ sym (worth_share n r m vs (timely k) old);
+          sums_are = λ m old. k.closed_reports.each m old ∙ sym (worth_share n ws vs (phased_of k) (timely k) m old);
         };
         stopped = k.stop_word;
       }

@@ -5,7 +5,7 @@ use Rattle.jm_base.specs.declared.types.Entry.{Entry}
 use Rattle.interval_tables.specs.declared.row.Row.{Row}
 use Rattle.interval_tables.specs.declared.report.Report.{Report}
 use Rattle.jm_base.specs.SumTotals.{one_if}
-use Rattle.interval_tables.specs.Rows.{no_samples}
+use Rattle.interval_tables.specs.Rows.{sum_of, merged_rows, row_from}
 
 -- whether a number is odd
 abbrev pub is_odd : ℕ → Bool
@@ -31,22 +31,26 @@ initial true = 9223372036854775808
 abbrev pub phase : ℕ → Bool
 phase n = nat_lt 9223372036854775807 n
 
--- The layout. A table has rows of six cells: count, errors, total, bytes, least, greatest.
+-- The layout. A table has four stripes, each with a row of six cells for every label: count, errors, total, bytes, least, greatest.
+
+-- the stripe in which a writer counts
+abbrev pub stripe_of : ℕ → ℕ
+stripe_of writer = writer % 4
 
 -- how many rows a table has
 abbrev pub rows_in : ℕ → ℕ
-rows_in labels = labels
+rows_in labels = 4 * labels
 
 -- the row in which a writer counts a label
 abbrev pub row_at : ℕ → ℕ → ℕ → ℕ
-row_at labels writer label = label
+row_at labels writer label = stripe_of writer * labels + label
 
 abbrev pub table_cells : ℕ → ℕ
 table_cells labels = 6 * rows_in labels
 
 -- the word of a writer's cell of a label, in a table
 abbrev pub place : ℕ → ℕ → ℕ → ℕ → ℕ → ℕ
-place labels table writer label column = 5 + (table * rows_in labels + row_at labels writer label) * 6 + column
+place labels table writer label column = 5 + ((table * 4 + stripe_of writer) * labels + label) * 6 + column
 
 -- the word of cell j, in word order, of the table in which the interval i counts
 abbrev pub cell_at : ℕ → ℕ → ℕ → ℕ
@@ -122,20 +126,42 @@ abbrev pub done : ℕ → ℕ → Bool → ℕ → Entry → ℕ → ℕ
 done labels w f j e zero = vacant (j % 6)
 done labels w f j e (suc d) = combine (j % 6) (done labels w f j e d) (pick (row_at labels w e.label == j / 6) (pick (skips f d == j % 6) (part (j % 6) e) (vacant (j % 6))) (vacant (j % 6)))
 
+-- what entries fold to in a column of a label
+abbrev pub column_at : ℕ → ℕ → List Entry → ℕ
+column_at c l es = gather c (λ (e : Entry). pick (e.label == l) (part c e) (vacant c)) es
+
 -- Reports of cells
 
--- the row of a label, where f gives the cells in word order
-abbrev pub row_from : (ℕ → ℕ) → ℕ → Row
-row_from f l =
-    if f (6 * l) == 0 then no_samples
-    else record { count = f (6 * l); errors = f (6 * l + 1); total = f (6 * l + 2); bytes = f (6 * l + 3); least = f (6 * l + 4); greatest = f (6 * l + 5) }
+-- where the cell of a column of a label stands, in word order, in a stripe
+abbrev pub cell_of : ℕ → ℕ → ℕ → ℕ → ℕ
+cell_of labels stripe l c = 6 * (stripe * labels + l) + c
 
-abbrev pub rows_from : ℕ → (ℕ → ℕ) → List Row
+-- what a column of a label comes to over the first stripes, where f gives the cells in word order: they fold as steps do
+unfoldable pub folded_to : ℕ → (ℕ → ℕ) → ℕ → ℕ → ℕ → ℕ
+folded_to labels f zero l c = vacant c
+folded_to labels f (suc stripe) l c = folded c (folded_to labels f stripe l c) (f (cell_of labels stripe l c))
+
+-- a row of cells with six more, folded as steps fold them
+abbrev pub row_folded : Row → (ℕ → ℕ) → Row
+row_folded r f = record { count = folded 0 r.count (f 0); errors = folded 1 r.errors (f 1); total = folded 2 r.total (f 2); bytes = folded 3 r.bytes (f 3); least = folded 4 r.least (f 4); greatest = folded 5 r.greatest (f 5) }
+
+-- the rows of the labels 0 to labels - 1, where f gives what the columns of a label come to
+abbrev pub rows_from : ℕ → (ℕ → ℕ → ℕ) → List Row
 rows_from zero f = []
-rows_from (suc labels) f = rows_from labels f ++ row_from f labels ∷ []
+rows_from (suc labels) f = rows_from labels f ++ row_from (f labels) ∷ []
 
+-- the rows of a stripe, of the first labels
+abbrev pub stripe_rows : ℕ → (ℕ → ℕ) → ℕ → ℕ → List Row
+stripe_rows labels f stripe upto = rows_from upto (λ l c. f (cell_of labels stripe l c))
+
+-- the rows of the first stripes, merged one after the other
+abbrev pub merged_to : ℕ → (ℕ → ℕ) → ℕ → List Row
+merged_to labels f zero = sum_of labels []
+merged_to labels f (suc stripe) = merged_rows (merged_to labels f stripe) (stripe_rows labels f stripe labels)
+
+-- the report of an interval, where f gives the cells of its table in word order: the four stripes as one
 abbrev pub report_from : ℕ → ℕ → (ℕ → ℕ) → Report
-report_from labels interval f = record { interval = interval; rows = rows_from labels f }
+report_from labels interval f = record { interval = interval; rows = rows_from labels (folded_to labels f 4) }
 
 -- the report of an interval whose cells were taken
 abbrev pub report_of : ℕ → ℕ → List ℕ → Report

@@ -61,11 +61,11 @@ flipping r = record { word = 1; change = λ _. initial (is_odd (r.interval + 1))
 
 -- the interval is closed with these cells
 abbrev pub closed_with : ReporterView → List ℕ → ReporterView
-closed_with r l = record { labels = r.labels; interval = r.interval + 1; closing = Idle; joined = r.joined; ready = r.ready; cells = []; closed = r.closed ++ report_of r.labels r.interval l ∷ []; raised = r.raised }
+closed_with r l = record r { interval = r.interval + 1; closing = Idle; cells = []; closed = r.closed ++ report_of r.labels r.interval l ∷ []; seen = 0 }
 
 -- these cells are taken, and there are more
 abbrev pub holding : ReporterView → List ℕ → ℕ → ReporterView
-holding r l j = record { labels = r.labels; interval = r.interval; closing = Harvest j; joined = r.joined; ready = r.ready; cells = l; closed = r.closed; raised = r.raised }
+holding r l j = record r { closing = Harvest j; cells = l }
 
 -- with j cells taken: more are to be taken, or the report is closed
 abbrev pub gathered_if : Bool → ReporterView → List ℕ → ℕ → ReporterView
@@ -80,14 +80,18 @@ abbrev pub settled : ReporterView → Bool → ReporterView
 settled r true = gathered r [] 0
 settled r false = r
 
+-- the reporter after a look that found this number
+abbrev pub with_seen : ReporterView → ℕ → ReporterView
+with_seen r found = record r { seen = found }
+
 abbrev pub looking : ReporterView → ℕ → Move
-looking r want = record { word = end_at (is_odd r.interval); change = λ x. x; after = λ x. Reporter (settled r (x == want)) }
+looking r want = record { word = end_at (is_odd r.interval); change = λ x. x; after = λ x. Reporter (settled (with_seen r x) (x == want)) }
 
 abbrev pub taking : ReporterView → ℕ → Move
 taking r j = record { word = cell_at r.labels r.interval j; change = λ _. vacant (j % 6); after = λ x. Reporter (gathered r (r.cells ++ x ∷ []) (j + 1)) }
 
 abbrev pub reporter_raised : ReporterView → ReporterView
-reporter_raised r = record { labels = r.labels; interval = r.interval; closing = r.closing; joined = r.joined; ready = r.ready; cells = r.cells; closed = r.closed; raised = true }
+reporter_raised r = record r { raised = true }
 
 abbrev pub raising_as_reporter : ReporterView → Move
 raising_as_reporter r = record { word = 4; change = λ _. 1; after = λ _. Reporter (reporter_raised r) }
@@ -101,7 +105,7 @@ stepped_views words views port m = slice_set views port (m.after (slice_index wo
 -- A further writer: the reporter makes writer 0, and writer 0 each later one
 
 abbrev pub splitting : View → View
-splitting (Reporter r) = Reporter record { labels = r.labels; interval = r.interval; closing = r.closing; joined = r.joined; ready = true; cells = r.cells; closed = r.closed; raised = r.raised }
+splitting (Reporter r) = Reporter (record r { ready = true })
 splitting (Writer w) = Writer record { number = w.number; list = w.list; stage = w.stage; made = w.made + 1; raised = w.raised; saw = w.saw }
 splitting Gone = Gone
 
@@ -116,7 +120,7 @@ abbrev pub no_one : View
 no_one = Gone
 
 abbrev pub taking_in : ReporterView → WriterView → ReporterView
-taking_in r w = record { labels = r.labels; interval = r.interval; closing = r.closing; joined = r.joined ++ left_of w ∷ []; ready = r.ready; cells = r.cells; closed = r.closed; raised = r.raised }
+taking_in r w = record r { joined = r.joined ++ left_of w ∷ [] }
 
 abbrev pub joining : View → View → View
 joining (Reporter r) (Writer w) = Reporter (taking_in r w)

@@ -1,5 +1,5 @@
 -- The entries of an interval, and how traces and reports fit together.
-use Rattle.std.specs.Prelude.{◌≡◌, ℕ, ◌-◌, ◌*◌, ◌<◌, ◌≤◌, ◌==◌, List, [], ◌∷◌, ◌++◌, length, filter, map, slice_index_or}
+use Rattle.std.specs.Prelude.{◌≡◌, ℕ, zero, suc, ◌-◌, ◌*◌, ◌<◌, ◌≤◌, ◌==◌, List, [], ◌∷◌, ◌++◌, length, filter, map, slice_index_or}
 use Rattle.jm_base.specs.declared.types.Entry.{Entry}
 use Rattle.interval_tables.specs.declared.report.Report.{Report}
 use Rattle.jm_base.specs.SumTotals.{total}
@@ -9,7 +9,8 @@ use Rattle.phaser_core.specs.declared.view.Joined.{Joined}
 use Rattle.phaser_core.specs.declared.view.ReporterView.{ReporterView}
 use Rattle.phaser_core.specs.declared.view.View.{View}
 use Rattle.phaser_core.specs.declared.view.View.TheVariants.{Reporter, Writer, Gone}
-use Rattle.phaser_core.specs.Cells.{no_report}
+use Rattle.phaser_core.specs.Cells.{column_at, cell_of, no_report}
+use Rattle.interval_tables.proofs.Bounds.{AllSmall as AllSmallEntries}
 use Rattle.phaser_core.specs.Views.{Pair}
 
 -- the entries of a list with the interval m
@@ -73,3 +74,16 @@ pub record SumsOfLists (n : Numbers) (r : ReporterView) : Type 0 where
   pub labels : (m : ℕ) → m < length r.closed → AllLabels n.labels (slice_index_or lists m [])
   pub sums : (m : ℕ) → m < length r.closed → slice_index_or r.closed m no_report ≡ record { interval = m; rows = sum_of n.labels (slice_index_or lists m []) }
   pub bounds : (m : ℕ) → m < length r.closed → IsInBounds (slice_index_or r.closed m no_report).rows
+
+-- the entries of the first stripes
+abbrev pub stripes_to : (ℕ → List Entry) → ℕ → List Entry
+stripes_to stripes zero = []
+stripes_to stripes (suc s) = stripes_to stripes s ++ stripes s
+
+-- Of a table's cells, which f gives in word order, the first `count` hold what some entries fold to, stripe by stripe. These entries' labels are in range, their numbers those of 32 bits, and together they are no more than all writers may record.
+pub record SumsOfStripes (labels count : ℕ) (f : ℕ → ℕ) : Type 0 where
+  pub stripes : ℕ → List Entry
+  pub few : length (stripes_to stripes 4) ≤ 4194304
+  pub in_range : (s : ℕ) → AllLabels labels (stripes s)
+  pub small : (s : ℕ) → AllSmallEntries (stripes s)
+  pub cells : (s l c : ℕ) → s < 4 → l < labels → c < 6 → cell_of labels s l c < count → f (cell_of labels s l c) ≡ column_at c l (stripes s)

@@ -109,14 +109,14 @@ taken_count Cleared = 0
 taken_count (Waiting want) = 0
 
 abbrev pub at_closing : ReporterView → ReporterStage → ReporterView
-at_closing r c = record { labels = r.labels; interval = r.interval; closing = c; joined = r.joined; ready = r.ready; cells = r.cells; closed = r.closed; raised = r.raised }
+at_closing r c = record r { closing = c }
 
 -- the reporter alone, and once writer 0 is made
 abbrev pub first_reading : ℕ → ReporterView
-first_reading labels = record { labels = labels; interval = 0; closing = Idle; joined = []; ready = false; cells = []; closed = []; raised = false }
+first_reading labels = record { labels = labels; interval = 0; closing = Idle; joined = []; ready = false; cells = []; closed = []; seen = 0; raised = false }
 
 abbrev pub ready_reading : ℕ → ReporterView
-ready_reading labels = record { labels = labels; interval = 0; closing = Idle; joined = []; ready = true; cells = []; closed = []; raised = false }
+ready_reading labels = record { labels = labels; interval = 0; closing = Idle; joined = []; ready = true; cells = []; closed = []; seen = 0; raised = false }
 
 -- how many writers were made, as writer 0 knew when it was joined; 0 before
 abbrev pub made_known : List Joined → ℕ

@@ -3,6 +3,7 @@
 #![tactic(auto)]
 
 pub mod applied;
+pub mod layout;
 pub mod machine;
 mod parts;
 mod reporter;

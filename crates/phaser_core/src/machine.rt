@@ -8,13 +8,13 @@ ghost use Rattle.phaser_core.specs.declared.view.Event.{Event};
 ghost use Rattle.phaser_core.specs.Cells.{is_odd, end_at, no_report};
 ghost use Rattle.phaser_core.specs.Views.{IsSized};
 ghost use Rattle.phaser_core.specs.Shares.{share_of, Partition};
-ghost use Rattle.phaser_core.specs.CoreMoves.{first_cells, first_words};
 ghost use Rattle.phaser_core.specs.Invariant.{RecorderInvariant};
 ghost use Rattle.phaser_core.specs.Step.{first_state, after_all, AllFit};
 ghost use Rattle.phaser_core.specs.Plain.{writer_step, writer_at, step_answer, words_after, writers_after, closing_step, closing_if, with_closing, look_result, look_parts, take_result, take_words, take_parts, split_result, split_writers, can_join, join_result, join_writers};
 ghost use Rattle.phaser_core.specs.CoreShape.{Shows, Applies, first_shape, all_gone, IsDone, open_report, joined_lists};
 
 use crate::applied::Applied;
+use crate::layout::{ACTIVE, first_words};
 use crate::parts::{join_writer, split_first, step_writer};
 use crate::reporter::Reporter;
 use crate::view::{Event, Numbers, ReporterStage, Stage};
@@ -219,7 +219,7 @@ impl Core {
         };
         self.writers.push(new)?;
         self.writers[0] = left;
-        Ok(Applied::Old(self.words[0]))
+        Ok(Applied::Old(self.words[ACTIVE as usize]))
     }
 
     // the reporter takes in a writer
@@ -234,33 +234,11 @@ impl Core {
     {
         let idle = self.reporter.is_idle();
         if join_writer(idle, self.writers.as_mut_slice(), writer) {
-            Applied::Old(self.words[0])
+            Applied::Old(self.words[ACTIVE as usize])
         } else {
             Applied::NotEnabled
         }
     }
-}
-
-// the words at the start: the words of both phases, the stop word, and two tables of vacant cells
-fn first_words(alloc: Global, labels: u16) -> M<Vec<u64>>
-    requires { labels ≤ 256 }
-    ensures { IfOk result (λ words. words.items ≡ first_words labels) }
-{
-    let mut words = Vec::with_capacity(alloc, 5 + 12 * usize::from(labels))?;
-    words.extend_from_slice(&[0, 0, 0, 0x8000_0000_0000_0000, 0])?;
-    push_table(&mut words, labels)?;
-    push_table(&mut words, labels)?;
-    Ok(words)
-}
-
-// a table of vacant cells
-fn push_table(words: &mut Vec<u64>, labels: u16) -> M<()>
-    ensures { OnOk result (words.new.items ≡ words.old.items ++ first_cells labels) }
-{
-    for _label in 0..labels {
-        words.extend_from_slice(&[0, 0, 0, 0, u64::MAX, 0])?;
-    }
-    Ok(())
 }
 
 // whether every writer was joined

@@ -1,17 +1,15 @@
 // Steps on the parts of a core.
 
-ghost use Rattle.std.specs.Prelude.{◌≡◌, ◌&&◌, ◌%◌, ◌<◌, ◌≤◌, ◌++◌, [], ◌∷◌, length, IfOk, OnErr, IsSome, slice_index};
-ghost use Rattle.phaser_core.specs.Cells.{end_at, initial, vacant, cell_at, table_cells, word_count, row_from, report_of};
+ghost use Rattle.std.specs.Prelude.{◌≡◌, ◌&&◌, ◌%◌, ◌<◌, ◌≤◌, length, IsSome, slice_index};
+ghost use Rattle.phaser_core.specs.Cells.{end_at, initial, word_count};
 ghost use Rattle.phaser_core.specs.Views.{pending};
 ghost use Rattle.phaser_core.specs.Plain.{writer_step, writer_at, step_answer, words_after, writers_after, closing_step, closing_after, closing_if, is_out, gone_if, split_of, AllFitWriters};
 
 use crate::applied::Applied;
+use crate::layout::{ACTIVE, START, STOP, end_word, initial};
 use crate::step::{Change, Step};
 use crate::view::{Event, Numbers, ReporterStage};
 use crate::writer::WriterState;
-
-// what the start word and the end word of the odd phase begin with
-const HALF: u64 = 0x8000_0000_0000_0000;
 
 // the step of a writer's event
 pub(crate) fn step_writer(
@@ -42,20 +40,6 @@ pub(crate) fn step_writer(
     Applied::Old(found)
 }
 
-// what the words of a phase begin with
-fn initial(odd: bool) -> u64
-    ensures { result ≡ initial odd }
-{
-    if odd { HALF } else { 0 }
-}
-
-// the word of an end word
-pub(crate) fn end_word(odd: bool) -> u32
-    ensures { result ≡ end_at odd }
-{
-    if odd { 3 } else { 2 }
-}
-
 // the reporter's steps but for Look and Take
 fn closing_step(interval: u64, event: &Event, closing: &ReporterStage) -> Option<Step>
     requires { interval ≤ 16777216 }
@@ -64,11 +48,11 @@ fn closing_step(interval: u64, event: &Event, closing: &ReporterStage) -> Option
     let next_odd = (interval + 1) % 2 == 1;
     match (event, closing) {
         (Event::SwapActive, ReporterStage::Idle) if interval < 16_777_216 => Some(Step {
-            word: 0,
+            word: ACTIVE,
             change: Change::Swap(interval + 1),
         }),
         (Event::ReporterStop, ReporterStage::Idle) => Some(Step {
-            word: 4,
+            word: STOP,
             change: Change::Swap(1),
         }),
         (Event::ClearEnd, ReporterStage::Swapped) => Some(Step {
@@ -76,7 +60,7 @@ fn closing_step(interval: u64, event: &Event, closing: &ReporterStage) -> Option
             change: Change::Swap(initial(next_odd)),
         }),
         (Event::Flip, ReporterStage::Cleared) => Some(Step {
-            word: 1,
+            word: START,
             change: Change::Swap(initial(next_odd)),
         }),
         _ => None,
@@ -116,30 +100,6 @@ pub(crate) fn step_reporter(
     words[word] = step.change.of(found);
     *closing = closing_after(event, found, closing);
     Applied::Old(found)
-}
-
-// the word of a cell, in word order, of an interval's table
-pub(crate) fn cell_word(labels: u16, interval: u64, cell: u32) -> u32
-    requires labels { labels ≤ 256 }
-    requires cell { cell ≤ table_cells labels }
-    ensures { result ≡ cell_at labels interval cell }
-{
-    let table = (interval % 2) as u32;
-    5 + (table * cell_count(labels) + cell)
-}
-
-// how many cells a table has
-pub(crate) fn cell_count(labels: u16) -> u32
-    ensures { result ≡ table_cells labels }
-{
-    6 * u32::from(labels)
-}
-
-// what a cell begins with
-pub(crate) fn vacant(cell: u32) -> u64
-    ensures { result ≡ vacant (cell % 6) }
-{
-    if cell % 6 == 4 { u64::MAX } else { 0 }
 }
 
 // whether a writer was joined: where the reporter is idle and the writer out

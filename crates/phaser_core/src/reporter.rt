@@ -1,11 +1,13 @@
 // The reporter's part of a core: how far it is with an interval, the cells that it took, the reports that it closed.
 
-ghost use Rattle.std.specs.Prelude.{◌≡◌, ◌+◌, ◌*◌, ◌<◌, ◌≤◌, ◌++◌, [], ◌∷◌, length, IfOk, OnOk, OnErr, slice_index};
-ghost use Rattle.phaser_core.specs.Cells.{is_odd, end_at, table_cells, word_count, cell_at, row_from, report_from, report_of};
+ghost use Rattle.std.specs.Prelude.{◌≡◌, ◌+◌, ◌*◌, ◌<◌, ◌≤◌, ◌==◌, ◌++◌, [], ◌∷◌, if◌then◌else◌, length, IfOk, OnOk, OnErr, slice_index};
+ghost use Rattle.interval_tables.specs.Rows.{no_samples, row_from};
+ghost use Rattle.phaser_core.specs.Cells.{is_odd, end_at, table_cells, word_count, cell_at, folded_to, row_folded, report_from, report_of};
 ghost use Rattle.phaser_core.specs.Plain.{closing_step, closing_if, step_answer, words_after, gathered_parts, look_result, look_parts, take_result, take_words, take_parts, with_closing, is_idle, FitsParts};
 
 use crate::applied::Applied;
-use crate::parts::{cell_count, cell_word, end_word, step_reporter, vacant};
+use crate::layout::{STRIPES, cell_count, cell_word, end_word, first_cell, vacant};
+use crate::parts::step_reporter;
 use crate::view::{Event, ReporterStage};
 use interval_tables::{NO_SAMPLES, Report, Row, Rows};
 use jm_base::M;
@@ -22,6 +24,16 @@ pub struct Reporter {
     pub(crate) closed: Vec<Report>,
 }
 
+// what the cells of a row begin with
+const VACANT_ROW: Row = Row {
+    count: 0,
+    errors: 0,
+    total: 0,
+    bytes: 0,
+    least: u64::MAX,
+    greatest: 0,
+};
+
 impl Model for Reporter {
     ghost use Rattle.phaser_core.specs.Plain.{Parts};
 
@@ -30,23 +42,40 @@ impl Model for Reporter {
     ghost view = { λ r. record { interval = r.interval; closing = r.closing; taken = r.taken.items; closed = r.closed.items } };
 }
 
-// the row of a label's six cells
-fn row(cells: &[u64], label: u16) -> Row
-    requires { 6 * label + 6 ≤ length cells.now }
-    ensures { result ≡ row_from (λ j. slice_index cells.now j) label }
+// a row with six more cells, folded as steps fold them
+fn fold_row(row: &Row, cells: &[u64], first: usize) -> Row
+    requires { first + 6 ≤ length cells.now }
+    ensures { result ≡ row_folded row.now (λ c. slice_index cells.now (first + c)) }
 {
-    let first = 6 * usize::from(label);
-    if cells[first] == 0 {
-        return NO_SAMPLES;
-    }
     Row {
-        count: cells[first],
-        errors: cells[first + 1],
-        total: cells[first + 2],
-        bytes: cells[first + 3],
-        least: cells[first + 4],
-        greatest: cells[first + 5],
+        count: row.count.wrapping_add(cells[first]),
+        errors: row.errors.wrapping_add(cells[first + 1]),
+        total: row.total.wrapping_add(cells[first + 2]),
+        bytes: row.bytes.wrapping_add(cells[first + 3]),
+        least: row.least.min(cells[first + 4]),
+        greatest: row.greatest.max(cells[first + 5]),
     }
+}
+
+// a row, all zeros where it has no samples
+fn plain_row(row: Row) -> Row
+    ensures { result ≡ (if row.count == 0 then no_samples else row) }
+{
+    if row.count == 0 { NO_SAMPLES } else { row }
+}
+
+// the row of a label, from the cells of all stripes
+fn row(labels: u16, label: u16, cells: &[u64]) -> Row
+    requires label { label < labels }
+    requires wide { length cells.now ≡ table_cells labels }
+    ensures { result ≡ row_from (folded_to labels (λ j. slice_index cells.now j) 4 label) }
+{
+    let mut row = VACANT_ROW;
+    for stripe in 0..STRIPES {
+        let first = first_cell(labels, stripe, label) as usize;
+        row = fold_row(&row, cells, first);
+    }
+    plain_row(row)
 }
 
 // the report of an interval's cells
@@ -56,7 +85,7 @@ pub(crate) fn report(alloc: Global, labels: u16, interval: u64, cells: &[u64]) -
 {
     let mut rows = Vec::with_capacity(alloc, usize::from(labels))?;
     for label in 0..labels {
-        rows.push(row(cells, label))?;
+        rows.push(row(labels, label, cells))?;
     }
     Ok(Report {
         interval,
@@ -137,7 +166,7 @@ impl Reporter {
 
     // once all cells are taken the report is closed
     fn gather(&mut self, alloc: Global, labels: u16) -> M<()>
-        requires most { length self.old.taken ≤ 1536 }
+        requires most { length self.old.taken ≤ 6144 }
         requires room { self.old.interval ≤ 16777216 }
         ensures ok { OnOk result (self.new ≡ gathered_parts labels (length self.old.taken) self.old) }
         ensures err { OnErr result (self.new ≡ self.old) }

@@ -86,6 +86,8 @@ pub struct ReporterView {
     pub cells: LinkedList<u64>,
     /// The closed reports.
     pub closed: LinkedList<Report>,
+    /// What its last look at the interval that is being closed found; 0 before the first one.
+    pub seen: u64,
     /// Whether it raised stop.
     pub raised: bool,
 }

@@ -5,6 +5,7 @@ ghost use Rattle.jm_base.specs.SumTotals.{one_if};
 ghost use Rattle.phaser_core.specs.Cells.{column, end_at, place, sums};
 ghost use Rattle.phaser_core.specs.Plain.{cell_change, cell_step, on_step, in_step, out_step, writer_step, stage_after, writer_after, split_of, is_out, FitsStage, FitsWriter, CanGoOn};
 
+use crate::layout::{ACTIVE, HALF, START, STOP, column_of, end_word, place};
 use crate::step::{Change, Step};
 use crate::view::{Event, Numbers, Stage};
 use jm_base::Entry;
@@ -24,9 +25,6 @@ pub enum WriterState {
     Gone,
 }
 
-// the start word is odd from here on
-const HALF: u64 = 0x8000_0000_0000_0000;
-
 // what the step on a column's cell does
 fn cell_change(column: u8, entry: &Entry) -> Change
     ensures { result ≡ cell_change column entry.now }
@@ -39,29 +37,6 @@ fn cell_change(column: u8, entry: &Entry) -> Change
         4 => Change::Least(u64::from(entry.elapsed)),
         _ => Change::Greatest(u64::from(entry.elapsed)),
     }
-}
-
-// the column of an entry's next step: one that succeeded skips the errors
-fn column_of(entry: &Entry, done: u8) -> u8
-    requires { done ≤ 6 }
-    ensures { result ≡ column entry.now done }
-{
-    if entry.ok && done > 0 { done + 1 } else { done }
-}
-
-// the word of a writer's cell of a label, in the table of an interval
-fn place(labels: u16, interval: u64, _writer: u16, label: u16, column: u8) -> u32
-    ensures { result ≡ place labels (interval % 2) _writer label column }
-{
-    let table = (interval % 2) as u32;
-    5 + (table * u32::from(labels) + u32::from(label)) * 6 + u32::from(column)
-}
-
-// the word of an end word
-fn end_word(odd: bool) -> u32
-    ensures { result ≡ end_at odd }
-{
-    if odd { 3 } else { 2 }
 }
 
 // how many steps on sums an entry has
@@ -77,15 +52,15 @@ fn out_step(budget: u32, entries: u32, event: &Event) -> Option<Step>
 {
     match *event {
         Event::Enter(_) if entries < budget => Some(Step {
-            word: 1,
+            word: START,
             change: Change::Add(1),
         }),
         Event::LookStop(_) => Some(Step {
-            word: 4,
+            word: STOP,
             change: Change::Load,
         }),
         Event::RaiseStop(_) => Some(Step {
-            word: 4,
+            word: STOP,
             change: Change::Swap(1),
         }),
         _ => None,
@@ -98,7 +73,7 @@ fn in_step(labels: u16, event: &Event) -> Option<Step>
 {
     match *event {
         Event::Load(_, entry) if entry.label < labels => Some(Step {
-            word: 0,
+            word: ACTIVE,
             change: Change::Load,
         }),
         _ => None,

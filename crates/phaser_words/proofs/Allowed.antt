@@ -19,13 +19,13 @@ use Rattle.phaser_core.specs.declared.view.View.{View}
 use Rattle.phaser_core.specs.declared.view.View.TheVariants.{Reporter, Writer, Gone}
 use Rattle.phaser_core.specs.Cells.{is_odd, end_at, sums, column, part, folded, skips, vacant, place, cell_at, table_cells, word_count, row_at, report_from}
 use Rattle.phaser_core.specs.Views.{IsSized, AllJoined, joined_at}
-use Rattle.phaser_core.specs.Shares.{entries_in, Partition}
-use Rattle.phaser_core.specs.CoreMoves.{Move, entering, loading, adding, leaving, swapping, clearing, flipping, looking, taking, looking_stop, raising_stop, raising_as_reporter, splitting, split_off, joining, no_one, first_words, first_cells}
+use Rattle.phaser_core.specs.Shares.{entries_in, Partition, SumsOfStripes}
+use Rattle.phaser_core.specs.CoreMoves.{Move, entering, loading, adding, leaving, swapping, clearing, flipping, looking, taking, looking_stop, raising_stop, raising_as_reporter, splitting, split_off, joining, no_one, first_words}
 use Rattle.phaser_core.specs.Invariant.{RecorderInvariant, Keeps}
 use Rattle.phaser_core.proofs.Lists.{set_again}
 use Rattle.phaser_core.proofs.PhaseSteps.{end_low}
 use Rattle.phaser_core.proofs.CellSteps.{place_in, place_cell, cell_in, column_low as column_six}
-use Rattle.phaser_core.proofs.Steps.{enter_keeps, load_keeps, add_keeps, exit_keeps, look_stop_keeps, raise_keeps, split_keeps, load_knows, look_stop_knows, reader_is, labels_are, swap_keeps, clear_keeps, flip_keeps, look_keeps, take_keeps, raise_as_reporter_keeps, split_first_keeps, join_keeps, look_finds, reports_sum, joined_bounds, others_gone, opens_keeps}
+use Rattle.phaser_core.proofs.Steps.{enter_keeps, load_keeps, add_keeps, exit_keeps, look_stop_keeps, raise_keeps, split_keeps, load_knows, look_stop_knows, reader_is, labels_are, swap_keeps, clear_keeps, flip_keeps, look_keeps, take_keeps, raise_as_reporter_keeps, split_first_keeps, join_keeps, look_finds, swap_finds, clear_finds, stop_finds, take_sums, reports_sum, joined_bounds, joined_sums, others_gone, opens_keeps}
 use Rattle.phaser_core.proofs.Ends.{read_knows, partition_of, share_in}
 use Rattle.phaser_words.proofs.Counts.{writers_counted}
 use Rattle.phaser_words.specs.RecorderKinds.{holds_of, first_view, writing_of, reading_of, waited_for, parity_in, taken_in, moved, adds_of, exits_of, enters, loads, adds, exits, swaps, clears, flips, looks, takes, watches, raises, reporter_raises, recalls, reads, CanEnd, Recalled, lists_of}
@@ -111,22 +111,33 @@ watch_allowed n slots id me is s k _ at _ =
     ((looking_stop w).after (get_or s.words 4 0), keeps, tt, look_stop_keeps n s.words s.views k id w at_w, (refl, knows.0, knows.1, knows.2))
 
 pub raise_allowed : (n : Numbers) (slots id : ℕ) (me : Sat) → me.0 ≡ Writer (writing_of me.0) → Allows (holds_of n) slots id me 4 (λ _. 1) (raises (step slots 4 1 0 none) me)
-raise_allowed n slots id me is = let w : WriterView = writing_of me.0 in moves n slots id me (Writer w) (raising_stop w) is (λ ws vs k at. raise_keeps n ws vs k id w at)
+raise_allowed n slots id me is s k _ at _ =
+    let w : WriterView = writing_of me.0 in
+    let at_w : get_elem? s.views id ≡ some (Writer w) = subst (λ (u : View). get_elem? s.views id ≡ some u) is at in
+    let knows = look_stop_knows n s.words s.views k id w at_w in
+    ((raising_stop w).after (get_or s.words 4 0), keeps, tt, raise_keeps n s.words s.views k id w at_w, (refl, knows.0, knows.1, knows.2))
 
 pub reporter_raise_allowed : (n : Numbers) (slots id : ℕ) (me : Sat) → me.0 ≡ Reporter (reading_of me.0) → Allows (holds_of n) slots id me 4 (λ _. 1) (reporter_raises (step slots 4 1 0 none) me)
-reporter_raise_allowed n slots id me is = let r : ReporterView = reading_of me.0 in moves n slots id me (Reporter r) (raising_as_reporter r) is (λ ws vs k at. raise_as_reporter_keeps n ws vs k id r at)
+reporter_raise_allowed n slots id me is s k _ at _ =
+    let r : ReporterView = reading_of me.0 in
+    let at_r : get_elem? s.views id ≡ some (Reporter r) = subst (λ (u : View). get_elem? s.views id ≡ some u) is at in
+    let knows = stop_finds n s.words s.views k id r at_r in
+    ((raising_as_reporter r).after (get_or s.words 4 0), keeps, tt, raise_as_reporter_keeps n s.words s.views k id r at_r, (refl, knows.0, knows.1, knows.2))
 
 pub swap_allowed : (n : Numbers) (slots id : ℕ) (me : Sat) (new : ℕ) → me.0 ≡ Reporter (reading_of me.0) → (reading_of me.0).closing ≡ Idle → (reading_of me.0).interval < 16777216
     → new ≡ (reading_of me.0).interval + 1 → Allows (holds_of n) slots id me 0 (λ _. new) (swaps (step slots 0 new 0 none) me)
 swap_allowed n slots id me new is idle few is_new = let r : ReporterView = reading_of me.0 in
     subst (λ (z : ℕ). Allows (holds_of n) slots id me 0 (λ _. z) (swaps (step slots 0 z 0 none) me)) (sym is_new)
-    (moves n slots id me (Reporter r) (swapping r) is (λ ws vs k at. swap_keeps n ws vs k id r at idle few))
+    (λ s k _ at _. let at_r : get_elem? s.views id ≡ some (Reporter r) = subst (λ (u : View). get_elem? s.views id ≡ some u) is at in
+    ((swapping r).after (get_or s.words 0 0), keeps, tt, swap_keeps n s.words s.views k id r at_r idle few, (refl, swap_finds n s.words s.views k id r at_r idle)))
 
 pub clear_allowed : (n : Numbers) (slots id : ℕ) (me : Sat) (word new : ℕ) → me.0 ≡ Reporter (reading_of me.0) → (reading_of me.0).closing ≡ Swapped
     → word ≡ (clearing (reading_of me.0)).word → new ≡ (clearing (reading_of me.0)).change 0 → Allows (holds_of n) slots id me word (λ _. new) (clears (step slots word new 0 none) me)
 clear_allowed n slots id me word new is swapped at_word is_new = let r : ReporterView = reading_of me.0 in
     subst (λ (z : ℕ × ℕ). Allows (holds_of n) slots id me z.0 (λ _. z.1) (clears (step slots z.0 z.1 0 none) me)) (λ i. (sym at_word i, sym is_new i))
-    (moves n slots id me (Reporter r) (clearing r) is (λ ws vs k at. clear_keeps n ws vs k id r at swapped))
+    (λ s k _ at _. let at_r : get_elem? s.views id ≡ some (Reporter r) = subst (λ (u : View). get_elem? s.views id ≡ some u) is at in
+    let knows = clear_finds n s.words s.views k id r at_r (is_odd (r.interval + 1)) in
+    ((clearing r).after (get_or s.words (clearing r).word 0), keeps, tt, clear_keeps n s.words s.views k id r at_r swapped, (refl, knows.0, knows.1)))
 
 pub flip_allowed : (n : Numbers) (slots id : ℕ) (me : Sat) (new : ℕ) → me.0 ≡ Reporter (reading_of me.0) → (reading_of me.0).closing ≡ Cleared
     → new ≡ (flipping (reading_of me.0)).change 0 → Allows (holds_of n) slots id me 1 (λ _. new) (flips (step slots 1 new 0 none) me)
@@ -150,8 +161,10 @@ pub take_allowed : (n : Numbers) (slots id : ℕ) (me : Sat) (j word new : ℕ) 
     → word ≡ (taking (reading_of me.0) j).word → new ≡ vacant (j % 6) → Allows (holds_of n) slots id me word (λ _. new) (takes (step slots word new 0 none) me)
 take_allowed n slots id me j word new is harvest at_word is_new = let r : ReporterView = reading_of me.0 in
     let same : taken_in r.closing ≡ j = ap taken_in harvest in
-    subst (λ (z : ℕ × ℕ × ℕ). Allows (holds_of n) slots id me z.0 (λ _. z.1) (moved (taking r z.2) me)) (λ i. (sym at_word i, sym is_new i, sym same i))
-    (moves n slots id me (Reporter r) (taking r j) is (λ ws vs k at. take_keeps n ws vs k id r at j harvest))
+    subst (λ (z : ℕ × ℕ × ℕ). Allows (holds_of n) slots id me z.0 (λ _. z.1) (λ found m'. moved (taking r z.2) me found m' × SumsOfStripes r.labels (length (r.cells ++ found ∷ [])) (λ i. get_or (r.cells ++ found ∷ []) i 0)))
+    (λ i. (sym at_word i, sym is_new i, sym same i))
+    (λ s k _ at _. let at_r : get_elem? s.views id ≡ some (Reporter r) = subst (λ (u : View). get_elem? s.views id ≡ some u) is at in
+    ((taking r j).after (get_or s.words (taking r j).word 0), keeps, tt, take_keeps n s.words s.views k id r at_r j harvest, (refl, take_sums n s.words s.views k id r at_r j harvest)))
 
 -- Seats that are made, and one that is joined
 
@@ -187,6 +200,13 @@ place_inside n m w l c word words wide label column is =
 pub column_low : (e : Entry) (d : ℕ) → d < sums e → column e d < 6
 column_low e d more = column_six (not e.ok) d more
 
+one_low : (b : Bool) → one_if b ≤ 1
+one_low true = omega arith
+one_low false = omega arith
+
+pub steps_low : (e : Entry) (d : ℕ) → d < sums e → d ≤ 6
+steps_low e d more = let o = one_low (not e.ok) in omega arith
+
 pub even_next : (m : ℕ) → (m % 2 == 0) ≡ is_odd (m + 1)
 even_next m = grind (arith, nat_tests)
 
@@ -194,28 +214,6 @@ pub read_at : (l : List ℕ) (i a : ℕ) → get_elem? l i ≡ some a → a ≡ 
 read_at [] i a e = absurd (some-ne-none a (sym e))
 read_at (x ∷ xs) zero a e = sym (some-injective x a e)
 read_at (x ∷ xs) (suc i) a e = read_at xs i a e
-
-pub cell_start : (c : ℕ) → c ≢ 4 → vacant c ≡ 0
-cell_start zero h = refl
-cell_start (suc zero) h = refl
-cell_start (suc (suc zero)) h = refl
-cell_start (suc (suc (suc zero))) h = refl
-cell_start (suc (suc (suc (suc zero)))) h = absurd (h refl)
-cell_start (suc (suc (suc (suc (suc c))))) h = refl
-
-cells_turn : (l : ℕ) → first_cells l ++ (0 ∷ 0 ∷ 0 ∷ 0 ∷ 18446744073709551615 ∷ 0 ∷ []) ≡ first_cells (suc l)
-cells_turn zero = refl
-cells_turn (suc l) = ap (λ (x : List ℕ). 0 ∷ 0 ∷ 0 ∷ 0 ∷ 18446744073709551615 ∷ 0 ∷ x) (cells_turn l)
-
-pub cells_more : (l : ℕ) → first_cells l ++ (0 ∷ 0 ∷ 0 ∷ 0 ∷ 18446744073709551615 ∷ 0 ∷ []) ≡ first_cells (l + 1)
-cells_more l = cells_turn l ∙ ap first_cells (sym (add-one l))
-
-cells_both : (l m : ℕ) → first_cells l ++ first_cells m ≡ first_cells (l + m)
-cells_both zero m = ap first_cells (omega arith)
-cells_both (suc l) m = ap (λ (x : List ℕ). 0 ∷ 0 ∷ 0 ∷ 0 ∷ 18446744073709551615 ∷ 0 ∷ x) (cells_both l m) ∙ (let s : suc (l + m) ≡ suc l + m = omega arith in ap first_cells s)
-
-pub cells_twice : (l : ℕ) → first_cells (2 * l) ≡ first_cells l ++ first_cells l
-cells_twice l = (let s : 2 * l ≡ l + l = omega arith in ap first_cells s) ∙ sym (cells_both l l)
 
 -- The words at the end
 
@@ -240,7 +238,7 @@ parted n ws vs id r k at idle all f cells =
     let e = read_knows n ws vs k r (front_of n ws vs id r k at) idle (others_gone n ws vs k id r at all) in
     let labels = labels_are n ws vs k id r at in
     subst (λ (l : ℕ). Partition l (lists_of r.joined) (r.closed ++ report_from l r.interval f ∷ [])) (sym labels)
-    (partition_of n.labels r f e.0 e.1 (subst (λ (l : ℕ). (j : ℕ) → j < table_cells l → f j ≡ joined_at l r.interval j r.joined) labels cells) e.3)
+    (partition_of n.labels r f e.0 e.1 (subst (λ (l : ℕ). (j : ℕ) → j < table_cells l → f j ≡ joined_at l r.interval j r.joined) labels cells) e.3 e.4)
 
 in_bounds : (n : Numbers) (ws : List ℕ) (vs : List View) (id : ℕ) (r : ReporterView) → RecorderInvariant n ws vs → get_elem? vs id ≡ some (Reporter r) → (m : ℕ) → IsInBounds (sum_of n.labels (entries_in m (lists_of r.joined)))
 in_bounds n ws vs id r k at m = subst (λ (es : List Entry). IsInBounds (sum_of n.labels es)) (share_in m r.joined) (joined_bounds n ws vs k id r at m)
@@ -249,7 +247,7 @@ pub recall_allowed : (n : Numbers) (m : Numbers) (slots id : ℕ) (me : Sat) →
 recall_allowed n m slots id me same is s k _ at _ =
     let r : ReporterView = reading_of me.0 in
     let at_r : get_elem? s.views id ≡ some (Reporter r) = subst (λ (u : View). get_elem? s.views id ≡ some u) is at in
-    let knows : Recalled n r = record { sums = reports_sum n s.words s.views k id r at_r; counts = writers_counted n s.words s.views k id r at_r; bounds = in_bounds n s.words s.views id r k at_r; ends = parted n s.words s.views id r k at_r } in
+    let knows : Recalled n r = record { sums = reports_sum n s.words s.views k id r at_r; counts = writers_counted n s.words s.views k id r at_r; bounds = in_bounds n s.words s.views id r k at_r; stripes = joined_sums n s.words s.views k id r at_r; ends = parted n s.words s.views id r k at_r } in
     (me.0, keeps, tt, unmoved n s.words s.views 0 id me.0 k at, (refl, subst (λ (z : Numbers). Recalled z r) (sym same) knows))
 
 pub read_allowed : (n : Numbers) (slots id : ℕ) (me : Sat) (j p word : ℕ) → p ≡ j → me.0 ≡ Reporter (reading_of me.0) → (reading_of me.0).closing ≡ Idle → AllJoined (reading_of me.0) → j < table_cells n.labels

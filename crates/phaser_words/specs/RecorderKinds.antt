@@ -1,5 +1,5 @@
 -- The rule of the words, and what each kind of step tells its seat.
-use Rattle.std.specs.Prelude.{◌≡◌, ℕ, ◌+◌, ◌<◌, ◌≤◌, not, Bool, true, false, List, [], ◌∷◌, ◌++◌, map, length}
+use Rattle.std.specs.Prelude.{◌≡◌, ℕ, ◌+◌, ◌<◌, ◌≤◌, not, Bool, true, false, List, [], ◌∷◌, ◌++◌, map, length, slice_index}
 use Rattle.atomic_table.specs.Table.{State, Me, Step}
 use Rattle.jm_base.specs.declared.types.Entry.{Entry}
 use Rattle.jm_base.specs.SumTotals.{one_if}
@@ -14,11 +14,11 @@ use Rattle.phaser_core.specs.declared.view.WriterView.{WriterView}
 use Rattle.phaser_core.specs.declared.view.ReporterView.{ReporterView}
 use Rattle.phaser_core.specs.declared.view.View.{View}
 use Rattle.phaser_core.specs.declared.view.View.TheVariants.{Reporter, Writer, Gone}
-use Rattle.phaser_core.specs.Cells.{sums, table_cells, report_from}
+use Rattle.phaser_core.specs.Cells.{is_odd, initial, sums, table_cells, report_from}
 use Rattle.phaser_core.specs.Views.{Pair, first_reading, made_known, AllJoined, joined_at}
-use Rattle.phaser_core.specs.Shares.{AllUpTo, entries_in, Partition, SumsOfLists}
+use Rattle.phaser_core.specs.Shares.{AllUpTo, entries_in, Partition, SumsOfLists, SumsOfStripes}
 use Rattle.phaser_core.specs.CoreMoves.{Move, entering, loading, adding, leaving, swapping, clearing, flipping, looking, taking, looking_stop, raising_stop, raising_as_reporter}
-use Rattle.phaser_core.specs.Invariant.{RecorderInvariant}
+use Rattle.phaser_core.specs.Invariant.{RecorderInvariant, raised_in, saw_in}
 
 abbrev pub holds_of : Numbers → State (Unit {0}) View → Type 0
 holds_of n s = RecorderInvariant n s.words s.views
@@ -161,16 +161,25 @@ watches st m found m' =
     × (found ≤ 1) × ((writing_of m.0).raised ≡ true → found ≡ 1) × ((writing_of m.0).saw ≡ true → found ≡ 1)
 
 abbrev pub raises : Step (Unit {0}) → Sat → ℕ → Sat → Type 0
-raises st m found m' = moved (raising_stop (writing_of m.0)) m found m'
+raises st m found m' =
+    moved (raising_stop (writing_of m.0)) m found m'
+    × (found ≤ 1) × ((writing_of m.0).raised ≡ true → found ≡ 1) × ((writing_of m.0).saw ≡ true → found ≡ 1)
 
+-- the same for the reporter, with the marks of the writers that it took in
 abbrev pub reporter_raises : Step (Unit {0}) → Sat → ℕ → Sat → Type 0
-reporter_raises st m found m' = moved (raising_as_reporter (reading_of m.0)) m found m'
+reporter_raises st m found m' =
+    moved (raising_as_reporter (reading_of m.0)) m found m'
+    × (found ≤ 1) × (0 < raised_in (Reporter (reading_of m.0)) → found ≡ 1) × (0 < saw_in (Reporter (reading_of m.0)) → found ≡ 1)
 
+-- the active word is the interval that closes
 abbrev pub swaps : Step (Unit {0}) → Sat → ℕ → Sat → Type 0
-swaps st m found m' = moved (swapping (reading_of m.0)) m found m'
+swaps st m found m' = moved (swapping (reading_of m.0)) m found m' × (found ≡ (reading_of m.0).interval)
 
+-- the end word of the next phase lies between what the phase begins with and that with all entries
 abbrev pub clears : Step (Unit {0}) → Sat → ℕ → Sat → Type 0
-clears st m found m' = moved (clearing (reading_of m.0)) m found m'
+clears st m found m' =
+    let start : ℕ = initial (is_odd ((reading_of m.0).interval + 1)) in
+    moved (clearing (reading_of m.0)) m found m' × (start ≤ found) × (found ≤ start + 4194304)
 
 abbrev pub flips : Step (Unit {0}) → Sat → ℕ → Sat → Type 0
 flips st m found m' = moved (flipping (reading_of m.0)) m found m'
@@ -181,8 +190,11 @@ looks st m found m' =
     let r : ReporterView = reading_of m.0 in let want : ℕ = waited_for r.closing in
     moved (looking r want) m found m' × (found ≤ want) × (AllJoined r → found ≡ want)
 
+-- the cells taken sum some entries, stripe by stripe
 abbrev pub takes : Step (Unit {0}) → Sat → ℕ → Sat → Type 0
-takes st m found m' = moved (taking (reading_of m.0) (taken_in (reading_of m.0).closing)) m found m'
+takes st m found m' =
+    let r : ReporterView = reading_of m.0 in let cells : List ℕ = r.cells ++ found ∷ [] in
+    moved (taking r (taken_in r.closing)) m found m' × SumsOfStripes r.labels (length cells) (λ j. slice_index cells j)
 
 -- Loads that change nothing, by which the reporter learns what the rule says of its own view
 
@@ -203,11 +215,12 @@ pub record CountsWriters (n : Numbers) (r : ReporterView) : Type 0 where
   pub made : made_known r.joined ≤ n.writers
   pub order : 0 < made_known r.joined → length r.joined ≤ made_known r.joined
 
--- what the rule says of the reporter's own view; what joined writers recorded in an interval sums to rows in bounds
+-- what the rule says of the reporter's own view; what joined writers recorded in an interval sums to rows in bounds, and their cells sum some entries, stripe by stripe
 pub record Recalled (n : Numbers) (r : ReporterView) : Type 0 where
   pub sums : SumsOfLists n r
   pub counts : CountsWriters n r
   pub bounds : (m : ℕ) → IsInBounds (sum_of n.labels (entries_in m (lists_of r.joined)))
+  pub stripes : (m : ℕ) → SumsOfStripes n.labels (table_cells n.labels) (λ j. joined_at n.labels m j r.joined)
   pub ends : r.closing ≡ Idle → AllJoined r → CanEnd r
 
 abbrev pub recalls : Numbers → Step (Unit {0}) → Sat → ℕ → Sat → Type 0

@@ -10,7 +10,7 @@ use Rattle.phaser_core.specs.declared.view.ReporterStage.TheVariants.{Waiting}
 use Rattle.phaser_core.specs.declared.view.View.{View}
 use Rattle.phaser_core.specs.declared.view.View.TheVariants.{Reporter, Gone}
 use Rattle.phaser_core.specs.Views.{AllJoined}
-use Rattle.phaser_core.specs.CoreMoves.{settled}
+use Rattle.phaser_core.specs.CoreMoves.{settled, with_seen}
 use Rattle.phaser_core.specs.Invariant.{RecorderInvariant}
 use Rattle.phaser_words.specs.declared.places.Words.{Words}
 use Rattle.phaser_words.specs.declared.places.WriterWordSeat.{WriterWordSeat}
@@ -18,7 +18,7 @@ use Rattle.phaser_words.specs.declared.places.ReporterWordSeat.{ReporterWordSeat
 use Rattle.phaser_words.specs.declared.places.LastWords.{LastWords}
 use Rattle.phaser_core.specs.declared.applied.Applied.{Applied}
 use Rattle.phaser_core.specs.declared.applied.Applied.TheVariants.{Old, Settled, NotYet, NotEnabled}
-use Rattle.phaser_words.specs.RecorderKinds.{writing_of, reading_of}
+use Rattle.phaser_words.specs.RecorderKinds.{writing_of, reading_of, waited_for}
 
 -- what the writer, and the reporter, of a seat knows
 abbrev pub writing : WriterWordSeat → WriterView
@@ -47,10 +47,10 @@ Ends n words r =
     (views : List View) × RecorderInvariant n words views × (get_elem? views 0 ≡ some (Reporter r))
     × ((port : ℕ) (v : View) → port ≢ 0 → get_elem? views port ≡ some v → v ≡ Gone)
 
--- A look that settled goes on to take cells, or has closed a report that has none.
--- One that did not found less than is waited for, changed nothing, and some writer is not joined.
+-- A look that settled found what is waited for, and goes on to take cells, or has closed a report that has none.
+-- One that did not found `seen`, which is less; nothing else changed, and some writer is not joined.
 abbrev pub IsLook : ReporterView → Applied → ReporterView → Type 0
 IsLook r (Old found) s = ⊥
 IsLook r NotEnabled s = ⊥
-IsLook r Settled s = s ≡ settled r true
-IsLook r (NotYet seen want) s = (s ≡ r) × (r.closing ≡ Waiting want) × (seen < want) × ¬ (AllJoined r)
+IsLook r Settled s = s ≡ settled (with_seen r (waited_for r.closing)) true
+IsLook r (NotYet seen want) s = (s ≡ with_seen r seen) × (r.closing ≡ Waiting want) × (seen < want) × ¬ (AllJoined r)

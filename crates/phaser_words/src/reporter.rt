@@ -1,14 +1,17 @@
 //! The steps of the reporter.
-ghost use Rattle.std.specs.Prelude.{◌≡◌, ◌+◌, ◌*◌, ◌<◌, ◌∷◌, ◌++◌, [], length};
-ghost use Rattle.phaser_core.specs.Cells.{table_cells, cell_at};
+ghost use Rattle.std.specs.Prelude.{◌≡◌, ◌+◌, ◌*◌, ◌<◌, ◌≤◌, ◌∷◌, ◌++◌, [], length, slice_index};
+ghost use Rattle.phaser_core.specs.Cells.{is_odd, initial as phase_start, table_cells, cell_at};
 ghost use Rattle.phaser_core.specs.Views.{at_closing, joined_at, AllJoined};
+ghost use Rattle.phaser_core.specs.Shares.{SumsOfStripes};
 ghost use Rattle.phaser_core.specs.CoreMoves.{gathered, reporter_raised};
+ghost use Rattle.phaser_core.specs.declared.view.View.TheVariants.{Reporter};
+ghost use Rattle.phaser_core.specs.Invariant.{raised_in, saw_in};
 ghost use Rattle.phaser_words.specs.RecorderKinds.{IsWaiting, HasCell, taken_in, Recalled};
 ghost use Rattle.phaser_words.specs.WordSeats.{reading, numbers, IsReporterOf, IsLook};
 
-use crate::cells::{ACTIVE, START, STOP, end_word, initial, vacant_cell};
 use crate::places::{ReporterWordSeat, Words};
 use crate::rule::{Clears, Flips, Handing, Looks, Reads, Recalls, ReporterRaises, Swaps, Takes};
+use phaser_core::layout::{ACTIVE, START, STOP, cell_count, cell_word, end_word, initial, vacant};
 use phaser_core::{Applied, ReporterStage};
 use std::marker::Brand;
 
@@ -22,52 +25,58 @@ impl ReporterWordSeat {
 }
 
 impl Words {
-    /// Raises the stop word as the reporter, and gives it as it was.
+    /// Raises the stop word as the reporter. The answer is 0 or 1, and 1 where the reporter raised it before, or a writer
+    /// that it took in raised it or saw it as 1.
     pub fn reporter_stop(&self, seat: &mut ReporterWordSeat) -> u64
         requires seat { IsReporterOf self.now seat.old }
         requires idle { (reading seat.old).closing ≡ ReporterStage.Idle }
         ensures seat { IsReporterOf self.now seat.new }
         ensures raised { reading seat.new ≡ reporter_raised (reading seat.old) }
+        ensures found { (result ≤ 1) × (0 < raised_in (Reporter (reading seat.old)) → result ≡ 1) × (0 < saw_in (Reporter (reading seat.old)) → result ≡ 1) }
     {
         self.table
             .shared
-            .swap::<ReporterRaises>(&mut seat.seat, STOP, 1)
+            .swap::<ReporterRaises>(&mut seat.seat, STOP as usize, 1)
     }
 
-    /// Begins to close the interval: samples enter the next one from now on. Gives the active word as it was.
+    /// Begins to close the interval: samples enter the next one from now on. The answer is the interval that closes, which
+    /// was the active one.
     pub fn swap_active(&self, seat: &mut ReporterWordSeat) -> u64
         requires seat { IsReporterOf self.now seat.old }
         requires idle { (reading seat.old).closing ≡ ReporterStage.Idle }
         requires few { (reading seat.old).interval < 16777216 }
         ensures seat { IsReporterOf self.now seat.new }
         ensures swapped { reading seat.new ≡ at_closing (reading seat.old) ReporterStage.Swapped }
+        ensures found { result ≡ (reading seat.old).interval }
     {
         let next = seat.interval + 1;
         let found = self
             .table
             .shared
-            .swap::<Swaps>(&mut seat.seat, ACTIVE, next);
+            .swap::<Swaps>(&mut seat.seat, ACTIVE as usize, next);
         seat.closing = ReporterStage::Swapped;
         found
     }
 
-    /// Makes the end word of the next phase what that phase begins with. Gives the word as it was.
+    /// Makes the end word of the next phase what that phase begins with. The answer is at least that, and more by at most
+    /// the entries of all writers.
     pub fn clear_end(&self, seat: &mut ReporterWordSeat) -> u64
         requires seat { IsReporterOf self.now seat.old }
         requires swapped { (reading seat.old).closing ≡ ReporterStage.Swapped }
         ensures seat { IsReporterOf self.now seat.new }
         ensures cleared { reading seat.new ≡ at_closing (reading seat.old) ReporterStage.Cleared }
+        ensures found { (phase_start (is_odd ((reading seat.old).interval + 1)) ≤ result) × (result ≤ phase_start (is_odd ((reading seat.old).interval + 1)) + 4194304) }
     {
         let odd = seat.interval % 2 == 0;
         let found = self
             .table
             .shared
-            .swap::<Clears>(&mut seat.seat, end_word(odd), initial(odd));
+            .swap::<Clears>(&mut seat.seat, end_word(odd) as usize, initial(odd));
         seat.closing = ReporterStage::Cleared;
         found
     }
 
-    /// Turns the phase. The start word as it was is what the end word of the old phase is to show.
+    /// Turns the phase. The answer is what the end word of the old phase is to show before the interval settles.
     pub fn flip(&self, seat: &mut ReporterWordSeat) -> u64
         requires seat { IsReporterOf self.now seat.old }
         requires cleared { (reading seat.old).closing ≡ ReporterStage.Cleared }
@@ -78,14 +87,15 @@ impl Words {
         let found = self
             .table
             .shared
-            .swap::<Flips>(&mut seat.seat, START, initial(odd));
+            .swap::<Flips>(&mut seat.seat, START as usize, initial(odd));
         seat.closing = ReporterStage::Waiting { want: found };
         found
     }
 
-    /// Looks once whether every writer of the phase that ended has left: `Settled`, or `NotYet` with the end word as it
-    /// was found and what it is to show. Where it settled and there are no labels, the interval is closed with a report
-    /// without rows.
+    /// Looks once at the end word of the phase that ended: `Settled` where it shows what the reporter waits for, or `NotYet`
+    /// with what this look found, which is less, and what the word is to show. What was found stays in the seat's view
+    /// until the next look or until the interval is closed. Where it settled and there are no labels, the interval is closed
+    /// with a report without rows.
     pub fn look(&self, seat: &mut ReporterWordSeat) -> Applied
         requires seat { IsReporterOf self.now seat.old }
         requires waiting { IsWaiting (reading seat.old).closing }
@@ -99,7 +109,7 @@ impl Words {
         let seen = self
             .table
             .shared
-            .load::<Looks>(&mut seat.seat, end_word(odd));
+            .load::<Looks>(&mut seat.seat, end_word(odd) as usize);
         if seen != want {
             return Applied::NotYet { seen, want };
         }
@@ -112,13 +122,14 @@ impl Words {
         Applied::Settled
     }
 
-    /// Takes the next cell of the interval that is closing, and gives what it held. With the last cell the interval is
-    /// closed.
+    /// Takes the next cell of the interval that is closing, in word order. The answer comes after the cells taken before, and
+    /// all of them together sum some entries, stripe by stripe. With the last cell the interval is closed.
     pub fn take(&self, seat: &mut ReporterWordSeat) -> u64
         requires seat { IsReporterOf self.now seat.old }
         requires left { HasCell (numbers self.now).labels (reading seat.old).closing }
         ensures seat { IsReporterOf self.now seat.new }
         ensures taken { reading seat.new ≡ gathered (reading seat.old) ((reading seat.old).cells ++ result ∷ []) (taken_in (reading seat.old).closing + 1) }
+        ensures sums { SumsOfStripes (reading seat.old).labels (length ((reading seat.old).cells ++ result ∷ [])) (λ j. slice_index ((reading seat.old).cells ++ result ∷ []) j) }
     {
         let ReporterStage::Harvest { taken } = seat.closing else {
             unreachable!()
@@ -127,8 +138,8 @@ impl Words {
         let found = self
             .table
             .shared
-            .swap::<Takes>(&mut seat.seat, word, vacant_cell(taken));
-        if taken + 1 == 6 * self.labels as u32 {
+            .swap::<Takes>(&mut seat.seat, word, vacant(taken));
+        if taken + 1 == cell_count(self.labels) {
             seat.closing = ReporterStage::Idle;
             seat.interval += 1;
         } else {
@@ -142,8 +153,7 @@ impl Words {
         requires { cell < table_cells (numbers self.now).labels }
         ensures { result ≡ cell_at (numbers self.now).labels interval cell }
     {
-        let table = (interval % 2) as usize * (6 * self.labels as usize);
-        5 + (table + cell as usize)
+        cell_word(self.labels, interval, cell) as usize
     }
 
     // The same as `recall`, for numbers that the proof names.
@@ -154,7 +164,9 @@ impl Words {
         ensures same { reading seat.new ≡ reading seat.old }
         ensures knows { Recalled (numbers self.now) (reading seat.old) }
     {
-        self.table.shared.load::<Recalls<J>>(&mut seat.seat, ACTIVE);
+        self.table
+            .shared
+            .load::<Recalls<J>>(&mut seat.seat, ACTIVE as usize);
     }
 
     /// A load of the active word that changes nothing. By it the reporter learns what the rule says of its own view:

@@ -5,11 +5,11 @@ ghost use Rattle.phaser_core.specs.CoreMoves.{splitting, taking_in};
 ghost use Rattle.phaser_core.specs.declared.view.View.TheVariants.{Writer};
 ghost use Rattle.phaser_words.specs.WordSeats.{writing, reading, numbers, IsWriterOf, IsReporterOf, last_words, Ends};
 
-use crate::cells::opening_words;
 use crate::places::{LastWords, ReporterWordSeat, Words, WriterWordSeat};
 use crate::rule::{Makes, TakesIn};
 use atomic_table::Table;
 use jm_base::M;
+use phaser_core::layout::first_words;
 use phaser_core::{Numbers, ReporterStage, Stage};
 use std::alloc::Global;
 
@@ -33,7 +33,7 @@ impl Words {
             writers,
             budget,
         };
-        let words = opening_words(alloc, labels)?;
+        let words = first_words(alloc, labels)?;
         let (table, mut seat) = Table::of_words(alloc, words.as_slice(), &numbers)?;
         let first = table.shared.split_seat::<Makes>(&mut seat);
         Ok((
@@ -97,7 +97,7 @@ impl Words {
         self.table.shared.join_seat::<TakesIn>(&mut into.seat, seat);
     }
 
-    /// The words as the last step left them, once every writer was joined.
+    /// The words as they stand once every writer was joined.
     pub fn close(self, seat: ReporterWordSeat) -> LastWords
         requires seat { IsReporterOf self seat }
         requires joined { AllJoined (reading seat) }

@@ -7,12 +7,13 @@ ghost use Rattle.phaser_core.specs.CoreMoves.{marked, or};
 ghost use Rattle.phaser_words.specs.RecorderKinds.{IsIn, HasSum, HasLeast, HasGreatest, HasAll, one_further, parity_in, interval_in, entry_in};
 ghost use Rattle.phaser_words.specs.WordSeats.{writing, numbers, IsWriterOf};
 
-use crate::cells::{ACTIVE, HALF, START, STOP, column_of, end_word, part_of};
+use crate::cells::part_of;
 use crate::places::{Words, WriterWordSeat};
 use crate::rule::{Adds, Enters, Exits, Handing, Loads, Raises, Watches};
 use crate::steps::Steps;
 use jm_base::Entry;
 use phaser_core::Stage;
+use phaser_core::layout::{ACTIVE, HALF, START, STOP, column_of, end_word, place};
 use std::marker::Brand;
 use std::sync::ledger::Ledger;
 
@@ -33,7 +34,7 @@ impl WriterWordSeat {
 }
 
 impl Words {
-    /// Adds 1 to the start word. The parity that it showed is the seat's token from now on. Gives the word as it was.
+    /// Adds 1 to the start word. The parity of the answer is the seat's token from now on.
     pub fn enter<L: Ledger>(&self, seat: &mut WriterWordSeat, steps: &mut Steps<L>) -> u64
         requires seat { IsWriterOf self.now seat.old }
         requires out { (writing seat.old).stage ≡ Stage.Out }
@@ -45,7 +46,7 @@ impl Words {
         let found = self
             .table
             .shared
-            .fetch_add::<Enters>(&mut seat.seat, START, 1);
+            .fetch_add::<Enters>(&mut seat.seat, START as usize, 1);
         seat.stage = Stage::In { odd: found >= HALF };
         steps.tick();
         found
@@ -70,7 +71,10 @@ impl Words {
     {
         let _elapsed = entry.elapsed;
         let _bytes = entry.bytes;
-        let found = self.table.shared.load::<Loads<J>>(&mut seat.seat, ACTIVE);
+        let found = self
+            .table
+            .shared
+            .load::<Loads<J>>(&mut seat.seat, ACTIVE as usize);
         seat.stage = Stage::On {
             odd,
             interval: found,
@@ -81,7 +85,7 @@ impl Words {
         found
     }
 
-    /// Loads the active word: the entry counts in that interval, which is at least the last one of the writer's list.
+    /// Loads the active word: the entry counts in the interval of the answer, which is at least each one of the writer's list.
     pub fn load<L: Ledger>(
         &self,
         seat: &mut WriterWordSeat,
@@ -103,7 +107,7 @@ impl Words {
     }
 
     /// Adds the entry's next part to its cell: 1 to the count, 1 to the errors (only of an entry that failed), the
-    /// elapsed time to the total, the bytes to the bytes. Gives the cell as it was.
+    /// elapsed time to the total, the bytes to the bytes. No clause says what the answer is.
     pub fn add<L: Ledger>(&self, seat: &mut WriterWordSeat, steps: &mut Steps<L>) -> u64
         requires seat { IsWriterOf self.now seat.old }
         requires more { HasSum (numbers self.now).labels (writing seat.old).stage }
@@ -135,7 +139,7 @@ impl Words {
         found
     }
 
-    /// Lowers the least elapsed time of the label to the entry's. Gives the cell as it was.
+    /// Lowers the least elapsed time of the label to the entry's. No clause says what the answer is.
     pub fn lower<L: Ledger>(&self, seat: &mut WriterWordSeat, steps: &mut Steps<L>) -> u64
         requires seat { IsWriterOf self.now seat.old }
         requires more { HasLeast (numbers self.now).labels (writing seat.old).stage }
@@ -167,7 +171,7 @@ impl Words {
         found
     }
 
-    /// Raises the greatest elapsed time of the label to the entry's. Gives the cell as it was.
+    /// Raises the greatest elapsed time of the label to the entry's. No clause says what the answer is.
     pub fn raise<L: Ledger>(&self, seat: &mut WriterWordSeat, steps: &mut Steps<L>) -> u64
         requires seat { IsWriterOf self.now seat.old }
         requires more { HasGreatest (numbers self.now).labels (writing seat.old).stage }
@@ -223,12 +227,10 @@ impl Words {
         requires label { entry.now.label < (numbers self.now).labels }
         ensures { result ≡ cell_place (numbers self.now).labels (interval % 2) (writing seat.now).number entry.now.label column }
     {
-        let _number = seat.number;
-        let table = (interval % 2) as usize;
-        5 + (table * self.labels as usize + entry.label as usize) * 6 + column as usize
+        place(self.labels, interval, seat.number, entry.label, column) as usize
     }
 
-    /// Adds 1 to the end word of the seat's parity: the entry is in. Gives the word as it was.
+    /// Adds 1 to the end word of the seat's parity: the entry is in. No clause says what the answer is.
     pub fn exit<L: Ledger>(&self, seat: &mut WriterWordSeat, steps: &mut Steps<L>) -> u64
         requires seat { IsWriterOf self.now seat.old }
         requires all { HasAll (writing seat.old).stage }
@@ -242,13 +244,13 @@ impl Words {
         let found = self
             .table
             .shared
-            .fetch_add::<Exits>(&mut seat.seat, end_word(odd), 1);
+            .fetch_add::<Exits>(&mut seat.seat, end_word(odd) as usize, 1);
         seat.stage = Stage::Out;
         steps.tick();
         found
     }
 
-    /// Loads the stop word: 1 once somebody raised it.
+    /// Loads the stop word. The answer is 0 or 1, and 1 for a seat that raised it or saw it as 1 before.
     pub fn look_stop(&self, seat: &mut WriterWordSeat) -> u64
         requires seat { IsWriterOf self.now seat.old }
         requires out { (writing seat.old).stage ≡ Stage.Out }
@@ -256,16 +258,21 @@ impl Words {
         ensures saw { writing seat.new ≡ marked (writing seat.old) (writing seat.old).raised (or (writing seat.old).saw (result == 1)) }
         ensures known { (result ≤ 1) × ((writing seat.old).raised ≡ true → result ≡ 1) × ((writing seat.old).saw ≡ true → result ≡ 1) }
     {
-        self.table.shared.load::<Watches>(&mut seat.seat, STOP)
+        self.table
+            .shared
+            .load::<Watches>(&mut seat.seat, STOP as usize)
     }
 
-    /// Raises the stop word, and gives it as it was.
+    /// Raises the stop word. The answer is 0 or 1, and 1 for a seat that raised it or saw it as 1 before.
     pub fn raise_stop(&self, seat: &mut WriterWordSeat) -> u64
         requires seat { IsWriterOf self.now seat.old }
         requires out { (writing seat.old).stage ≡ Stage.Out }
         ensures seat { IsWriterOf self.now seat.new }
         ensures raised { writing seat.new ≡ marked (writing seat.old) true (writing seat.old).saw }
+        ensures found { (result ≤ 1) × ((writing seat.old).raised ≡ true → result ≡ 1) × ((writing seat.old).saw ≡ true → result ≡ 1) }
     {
-        self.table.shared.swap::<Raises>(&mut seat.seat, STOP, 1)
+        self.table
+            .shared
+            .swap::<Raises>(&mut seat.seat, STOP as usize, 1)
     }
 }

@@ -7,12 +7,14 @@ use Rattle.interval_tables.proofs.Sums.{length-sum_of}
 use Rattle.phaser_core.specs.declared.view.Numbers.{Numbers}
 use Rattle.phaser_core.specs.declared.view.ReporterView.{ReporterView}
 use Rattle.phaser_core.specs.declared.view.ReporterStage.TheVariants.{Idle}
-use Rattle.phaser_core.specs.Cells.{rows_from, no_report}
-use Rattle.phaser_core.specs.Views.{joined_at, AllJoined}
+use Rattle.phaser_core.specs.Cells.{table_cells, rows_from, folded_to, merged_to, no_report}
+use Rattle.phaser_core.proofs.Stripes.{merged_report}
+use Rattle.phaser_core.specs.Views.{AllJoined}
 use Rattle.phaser_core.specs.Shares.{entries_in, Partition, SumsOfLists}
 use Rattle.phaser_core.proofs.CellSteps.{last_is}
 use Rattle.phaser_words.specs.RecorderKinds.{lists_of, Recalled}
 use Rattle.recorder_core.specs.Stands.{closed_as}
+use Rattle.recorder_core.specs.Folds.{open_cell}
 use Rattle.recorder_core.specs.RecorderSeats.{last_report, EndsWith}
 
 -- the last of the closed reports is in bounds, as each is
@@ -28,15 +30,21 @@ last_of_parts labels r last parted =
     let more : length (r.closed ++ last ∷ []) ≡ length r.closed + 1 = length-append r.closed (last ∷ []) in
     sym (last_is r.closed last no_report (length r.closed) refl) ∙ parted.sums (length r.closed) (omega arith)
 
+-- the stripes of the open interval, merged, are the rows that its cells fold to
+pub folded_rows : (n : Numbers) (r q : ReporterView) → q ≡ r → Recalled n r → merged_to n.labels (open_cell n.labels q) 4 ≡ rows_from n.labels (folded_to n.labels (open_cell n.labels r) 4)
+folded_rows n r q same knows =
+    ap (λ (z : ReporterView). merged_to n.labels (open_cell n.labels z) 4) same
+    ∙ ap (λ (z : Report). z.rows) (sym (merged_report n.labels r.interval (table_cells n.labels) (open_cell n.labels r) (knows.stripes r.interval) (omega arith)))
+
 -- what all cells of the open interval make is its report
-pub ends_with : (n : Numbers) (r s : ReporterView) (last : Report) (rows : List Row) → r.labels ≡ n.labels → r.closing ≡ Idle → AllJoined r → s ≡ r → Recalled n s → rows ≡ rows_from n.labels (λ j. joined_at r.labels r.interval j r.joined)
+pub ends_with : (n : Numbers) (r s : ReporterView) (last : Report) (rows : List Row) → r.labels ≡ n.labels → r.closing ≡ Idle → AllJoined r → s ≡ r → Recalled n s → rows ≡ rows_from n.labels (folded_to n.labels (open_cell n.labels r) 4)
     → last ≡ record { interval = r.interval; rows = rows } → EndsWith n r last
 ends_with n r s last rows labels idle all same recalled are handed =
     let knows : Recalled n r = subst (Recalled n) same recalled in
-    let made : record { interval = r.interval; rows = rows_from r.labels (λ j. joined_at r.labels r.interval j r.joined) } ≡ last =
-    ap (λ (l : List Row). record { interval = r.interval; rows = l }) (sym (are ∙ ap (λ (l : ℕ). rows_from l (λ j. joined_at r.labels r.interval j r.joined)) (sym labels))) ∙ sym handed in
+    let made : record { interval = r.interval; rows = rows_from r.labels (folded_to r.labels (open_cell r.labels r) 4) } ≡ last =
+    ap (λ (l : List Row). record { interval = r.interval; rows = l }) (sym (are ∙ ap (λ (l : ℕ). rows_from l (folded_to l (open_cell l r) 4)) (sym labels))) ∙ sym handed in
     let found : Partition r.labels (lists_of r.joined) (r.closed ++ last ∷ []) =
-    subst (λ (q : Report). Partition r.labels (lists_of r.joined) (r.closed ++ q ∷ [])) made (knows.ends idle all (λ j. joined_at r.labels r.interval j r.joined) (λ j low. refl)) in
+    subst (λ (q : Report). Partition r.labels (lists_of r.joined) (r.closed ++ q ∷ [])) made (knows.ends idle all (open_cell r.labels r) (λ j low. refl)) in
     let here = last_of_parts r.labels r last found in
     let at : last.interval ≡ length r.closed = ap (λ (q : Report). q.interval) here in
     let opened : last.interval ≡ r.interval = ap (λ (q : Report). q.interval) handed in

@@ -8,6 +8,7 @@ use Rattle.phaser_core.specs.declared.view.ReporterView.{ReporterView}
 use Rattle.phaser_core.specs.declared.view.ReporterStage.TheVariants.{Waiting}
 use Rattle.phaser_core.specs.Views.{AllJoined}
 use Rattle.phaser_core.specs.Shares.{entries_in, Partition}
+use Rattle.phaser_core.specs.CoreMoves.{with_seen}
 use Rattle.phaser_words.specs.RecorderKinds.{lists_of}
 use Rattle.phaser_words.specs.WordSeats.{writing, reading, numbers, IsWriterOf, IsReporterOf}
 use Rattle.recorder_core.specs.declared.places.Recorder.{Recorder}
@@ -46,10 +47,10 @@ IsReporter r s = IsReporterOf r.words s.words
 abbrev pub IsClosing : Recorder → Closing → Type 0
 IsClosing r c = IsReporterOf r.words c.words
 
--- A poll that settled says so from then on. One that did not found less than it waits for, changed nothing, and some writer is not joined.
+-- A poll that settled says so from then on. One that did not found `seen`, which is less than it waits for; nothing else changed, and some writer is not joined.
 abbrev pub IsPoll : ReporterView → Poll → ReporterView → Bool → Type 0
 IsPoll r Settled s settled = settled ≡ true
-IsPoll r (NotYet seen want) s settled = (settled ≡ false) × (s ≡ r) × (r.closing ≡ Waiting want) × (seen < want) × ¬ (AllJoined r)
+IsPoll r (NotYet seen want) s settled = (settled ≡ false) × (s ≡ with_seen r seen) × (r.closing ≡ Waiting want) × (seen < want) × ¬ (AllJoined r)
 
 -- what the reporter knew at the end: every writer's list and marks, its own mark, and every report but the last
 abbrev pub books_of : Books → ReporterView

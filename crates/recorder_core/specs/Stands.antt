@@ -43,29 +43,11 @@ stands true r = stands_settled (r.labels == 0) r
 
 -- the reporter with one more report, idle again
 abbrev pub closed_as : ReporterView → Report → ReporterView
-closed_as r report = record {
-  labels = r.labels;
-  interval = r.interval + 1;
-  closing = Idle;
-  joined = r.joined;
-  ready = r.ready;
-  cells = [];
-  closed = r.closed ++ report ∷ [];
-  raised = r.raised;
-}
+closed_as r report = record r { interval = r.interval + 1; closing = Idle; cells = []; closed = r.closed ++ report ∷ []; seen = 0 }
 
 -- the reporter without its last report
 abbrev pub reopened : ReporterView → ReporterView
-reopened r = record {
-  labels = r.labels;
-  interval = r.interval - 1;
-  closing = Idle;
-  joined = r.joined;
-  ready = r.ready;
-  cells = [];
-  closed = take (length r.closed - 1) r.closed;
-  raised = r.raised;
-}
+reopened r = record r { interval = r.interval - 1; closing = Idle; cells = []; closed = take (length r.closed - 1) r.closed }
 
 abbrev pub reopened_if : Bool → ReporterView → ReporterView
 reopened_if true r = reopened r

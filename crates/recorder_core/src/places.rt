@@ -7,13 +7,11 @@ ghost use Rattle.phaser_words.specs.WordSeats.{writing, reading};
 ghost use Rattle.recorder_core.specs.Stands.{stands, HasClosed};
 
 use phaser_words::{ReporterWordSeat, Words, WriterWordSeat};
-use std::alloc::Global;
 
 /// A recorder, which its writers and its reporter share.
 #[derive(Drop)]
 pub struct Recorder {
     pub(crate) words: Words,
-    pub(crate) alloc: Global,
 }
 
 /// The right of one thread to record entries. The seat's view has the list of its entries, each with its interval.

@@ -1,12 +1,12 @@
 //! The calls of a recorder.
-ghost use Rattle.std.specs.Prelude.{◌≡◌, ◌+◌, ◌<◌, ◌≤◌, ◌↔◌, not, [], ◌∷◌, ◌++◌, length, false, true, IfOk};
+ghost use Rattle.std.specs.Prelude.{◌≡◌, ◌+◌, ◌<◌, ◌≤◌, ◌↔◌, not, ◌∷◌, ◌++◌, [], length, false, true, IfOk};
 ghost use Rattle.jm_base.specs.SumTotals.{one_if};
 ghost use Rattle.interval_tables.specs.Rows.{IsInBounds};
 ghost use Rattle.phaser_core.specs.Views.{IsSized, at_stage, ready_reading, writer_zero, further, AllJoined};
 ghost use Rattle.phaser_core.specs.Shares.{AllUpTo, Partition, SumsOfLists};
 ghost use Rattle.phaser_core.specs.CoreMoves.{splitting, taking_in, marked, or, reporter_raised};
 ghost use Rattle.phaser_core.specs.declared.view.Stage.TheVariants.{Out};
-ghost use Rattle.phaser_core.specs.declared.view.ReporterStage.TheVariants.{Idle, Harvest};
+ghost use Rattle.phaser_core.specs.declared.view.ReporterStage.TheVariants.{Idle};
 ghost use Rattle.phaser_core.specs.declared.view.View.TheVariants.{Writer};
 ghost use Rattle.phaser_words.specs.RecorderKinds.{lists_of};
 ghost use Rattle.phaser_words.specs.WordSeats.{writing, reading, numbers, IsWriterOf, IsReporterOf};
@@ -14,13 +14,12 @@ ghost use Rattle.recorder_core.specs.Stands.{Same, closed_as, open_count};
 ghost use Rattle.recorder_core.specs.RecorderSeats.{writes, reports, closes, is_settled, numbers_of, IsWriter, IsReporter, IsClosing, IsPoll, books_of, all_reports_of, EndsWith};
 
 use crate::places::{Books, Closing, Recorder, ReporterSeat, WriterSeat};
-use crate::rows::{read_rows, take_rows};
-use interval_tables::{Report, Rows};
+use crate::rows::{read_report, take_report};
+use interval_tables::Report;
 use jm_base::{Entry, M};
 use phaser_core::Applied;
 use phaser_words::{ReporterWordSeat, Steps, Words, WriterWordSeat};
 use std::alloc::Global;
-use std::mem;
 use std::sync::ledger::Ledger;
 
 /// What a poll gave.
@@ -50,7 +49,7 @@ impl Recorder {
     {
         let (words, reporter, writer) = Words::new(alloc, labels, writers, budget)?;
         Ok((
-            Recorder { words, alloc },
+            Recorder { words },
             ReporterSeat {
                 words: reporter,
                 joined: 0,
@@ -163,7 +162,8 @@ impl Recorder {
         }
     }
 
-    /// Takes all cells of the interval into a report, with which it is closed. The report is in bounds.
+    /// Takes all cells of the interval and folds their stripes into a report, with which it is closed. What the report held
+    /// before is lost. It is in bounds.
     #[tactic(auto, using(crate::proofs::Ending::harvested_bounds))]
     pub fn harvest(&self, closing: Closing, into: &mut Report) -> ReporterSeat
         requires seat { IsClosing self.now closing }
@@ -186,7 +186,7 @@ impl Recorder {
             into.interval = words.interval().saturating_sub(1);
         } else {
             into.interval = words.interval();
-            self.take_into(&mut words, into);
+            take_report(&self.words, &mut words, into);
         }
         self.words.recall(&mut words);
         ReporterSeat {
@@ -194,23 +194,6 @@ impl Recorder {
             joined,
             made,
         }
-    }
-
-    // Takes all cells into the report's rows.
-    fn take_into(&self, words: &mut ReporterWordSeat, into: &mut Report)
-        requires seat { IsReporterOf self.now.words words.old }
-        requires rows { (0 < length into.old.rows) × (length into.old.rows ≡ (numbers_of self.now).labels) }
-        requires interval { into.old.interval ≡ (reading words.old).interval }
-        requires begun { ((reading words.old).closing ≡ Harvest 0) × ((reading words.old).cells ≡ []) }
-        ensures seat { IsReporterOf self.now.words words.new }
-        ensures interval { into.new.interval ≡ into.old.interval }
-        ensures rows { length into.new.rows ≡ length into.old.rows }
-        ensures closed { reading words.new ≡ closed_as (reading words.old) into.new }
-    {
-        let rows = mem::replace(&mut into.rows, Rows::of(Vec::new(self.alloc)));
-        let mut rows = rows.into_vec();
-        take_rows(&self.words, words, rows.as_mut_slice());
-        into.rows = Rows::of(rows);
     }
 
     /// The reporter takes in a writer, with its list and its marks.
@@ -250,7 +233,7 @@ impl Recorder {
         } = seat;
         self.read_into(&mut seat, into);
         let intervals = seat.interval() + 1;
-        let Recorder { words, alloc: _ } = self;
+        let Recorder { words } = self;
         Books {
             intervals,
             writers: joined,
@@ -269,12 +252,9 @@ impl Recorder {
         ensures same { reading words.new ≡ reading words.old }
         ensures ends { EndsWith (numbers_of self.now) (reading words.old) into.new }
     {
-        let rows = mem::replace(&mut into.rows, Rows::of(Vec::new(self.alloc)));
-        let mut rows = rows.into_vec();
-        read_rows(&self.words, words, rows.as_mut_slice());
         self.words.recall(words);
+        read_report(&self.words, words, into);
         into.interval = words.interval();
-        into.rows = Rows::of(rows);
     }
 }
 

@@ -1,8 +1,11 @@
 use Rattle.std.proofs.Common.{◌%◌, ◌<◌, ℕ, ap, sym, subst, ◌∙◌}
 use Rattle.phaser_core.specs.Cells.{place, part}
 use Rattle.phaser_words.specs.WordSeats.{numbers, writing}
-use Rattle.phaser_words.proofs.Allowed.{column_low}
+use Rattle.phaser_words.proofs.Allowed.{column_low, steps_low}
 use Rattle.phaser_words.proofs.places.Words.next_part.Goals as goal
+
+pub column_of-column-requires : goal.column_of-column-requires
+column_of-column-requires c = steps_low c.args.entry.now c.args.done c.requires.left
 
 pub cell_word-word-requires-clause-column : goal.cell_word-word-requires-clause-column
 cell_word-word-requires-clause-column c = subst (λ (x : ℕ). x < 6) (sym c.column_of-column.ensures) (column_low c.args.entry.now c.args.done c.requires.left)

@@ -16,5 +16,5 @@ swap-found-requires c =
       search rules,
       cell_inside (numbers c.args.self.now) _ c.in-Harvest.taken _ _ c.args.self.now.wide low at_word,
       take_allowed _ _ _ _ _ _ _ c.args.seat.now.reads harvest
-          (at_word ∙ (λ i. cell_at (sym c.requires.seat.1 i) (sym c.args.seat.now.counted i) c.in-Harvest.taken)) c.vacant_cell.ensures,
+          (at_word ∙ (λ i. cell_at (sym c.requires.seat.1 i) (sym c.args.seat.now.counted i) c.in-Harvest.taken)) c.vacant.ensures,
     )
