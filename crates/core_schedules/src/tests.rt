@@ -1,4 +1,4 @@
-// Random orders of the steps of three writers and the reporter.
+// Random orders of the steps of five writers, of whom two share a stripe, and the reporter.
 
 ghost use Rattle.std.specs.Prelude.{◌≤◌};
 
@@ -14,13 +14,13 @@ use std::test::Fail;
 
 const SCHEDULES: u32 = 2000;
 
-const EVENTS: u32 = 40;
+const EVENTS: u32 = 120;
 
 // The samples beside a core: those recorded, each with its interval, and what each writer has loaded.
 #[derive(Drop)]
 struct Samples {
     recorded: Vec<(u64, Entry)>,
-    loaded: [Option<(u64, Entry)>; 3],
+    loaded: [Option<(u64, Entry)>; 5],
 }
 
 // the first of these events that does a step, and the number that it found
@@ -37,7 +37,7 @@ fn advance(core: &mut Core, alloc: Global, events: &[Event]) -> M<Option<(Event,
 // a step of a writer
 fn write(core: &mut Core, alloc: Global, samples: &mut Samples, writers: u32, word: u32) -> M<()>
     requires some { 1 ≤ writers }
-    requires most { writers ≤ 3 }
+    requires most { writers ≤ 5 }
 {
     let index = (word % writers) as usize;
     let writer = index as u16;
@@ -120,14 +120,15 @@ fn compare(rt: &impl Abort, core: &Core, samples: &Samples) -> u64 {
 
 // one schedule, in which that many of the writers record, and the reporter has its share of the steps; how many samples its closed reports have
 fn schedule<R: Abort + AllocGlobal>(rt: &R, words: &mut ChaCha8Rng) -> Result<u64, Fail> {
-    let mut core = Core::new(rt.alloc(), 1, 3, 10)?;
-    let _first = core.apply(rt.alloc(), Event::Split)?;
-    let _second = core.apply(rt.alloc(), Event::Split)?;
+    let mut core = Core::new(rt.alloc(), 1, 5, 10)?;
+    for _writer in 0..4u8 {
+        let _made = core.apply(rt.alloc(), Event::Split)?;
+    }
     let mut samples = Samples {
         recorded: Vec::new(rt.alloc()),
-        loaded: [None; 3],
+        loaded: [None; 5],
     };
-    let writers = 1 + words.next_word() % 3;
+    let writers = 1 + words.next_word() % 5;
     let share = 1 + words.next_word() % 3;
     for _event in 0..EVENTS {
         if words.next_word() % 4 < share {
