@@ -1,4 +1,5 @@
-/* The atomic steps of a record, in WRITERS threads, while the main thread turns the tables every millisecond.
+/* The atomic steps of a record, in WRITERS threads, while the main thread turns the tables every millisecond. A table has
+   four stripes of six cells; writer w counts in stripe w mod 4.
    Usage: record SAMPLES WRITERS. It prints how many samples were counted. */
 #include <pthread.h>
 #include <stdatomic.h>
@@ -8,8 +9,10 @@
 #include <time.h>
 
 #define HALF (UINT64_C(1) << 63)
+#define STRIPES 4
+#define CELLS (STRIPES * 6)
 
-static _Atomic uint64_t words[17];
+static _Atomic uint64_t words[5 + 2 * CELLS];
 static _Atomic int ended;
 static uint64_t samples;
 static int writers;
@@ -29,11 +32,11 @@ static void keep_greatest(_Atomic uint64_t *cell, uint64_t x)
     }
 }
 
-static void record(uint64_t failed, uint64_t elapsed, uint64_t bytes)
+static void record(uint64_t stripe, uint64_t failed, uint64_t elapsed, uint64_t bytes)
 {
     uint64_t token = atomic_fetch_add(&words[1], 1);
     uint64_t interval = atomic_load(&words[0]);
-    _Atomic uint64_t *cells = &words[5 + (interval % 2) * 6];
+    _Atomic uint64_t *cells = &words[5 + ((interval % 2) * STRIPES + stripe) * 6];
     atomic_fetch_add(&cells[0], 1);
     if (failed)
         atomic_fetch_add(&cells[1], 1);
@@ -44,11 +47,11 @@ static void record(uint64_t failed, uint64_t elapsed, uint64_t bytes)
     atomic_fetch_add(&words[token >= HALF ? 3 : 2], 1);
 }
 
-static void *work(void *unused)
+static void *work(void *number)
 {
-    (void)unused;
+    uint64_t stripe = (uintptr_t)number % STRIPES;
     for (uint64_t n = 0; n < samples; n++)
-        record(n % 3 == 0, n % 7 + 1, 1);
+        record(stripe, n % 3 == 0, n % 7 + 1, 1);
     atomic_fetch_add(&ended, 1);
     return NULL;
 }
@@ -61,10 +64,13 @@ static uint64_t close_interval(uint64_t k)
     uint64_t want = atomic_exchange(&words[1], next);
     while (atomic_load(&words[k % 2 ? 3 : 2]) != want) {
     }
-    _Atomic uint64_t *cells = &words[5 + (k % 2) * 6];
-    uint64_t count = atomic_exchange(&cells[0], 0);
-    for (int c = 1; c < 6; c++)
-        atomic_exchange(&cells[c], c == 4 ? UINT64_MAX : 0);
+    _Atomic uint64_t *cells = &words[5 + (k % 2) * CELLS];
+    uint64_t count = 0;
+    for (int c = 0; c < CELLS; c++) {
+        uint64_t found = atomic_exchange(&cells[c], c % 6 == 4 ? UINT64_MAX : 0);
+        if (c % 6 == 0)
+            count += found;
+    }
     return count;
 }
 
@@ -73,10 +79,11 @@ int main(int argc, char **argv)
     samples = argc > 1 ? strtoull(argv[1], NULL, 10) : 1000;
     writers = argc > 2 ? atoi(argv[2]) : 1;
     words[3] = HALF;
-    words[9] = words[15] = UINT64_MAX;
+    for (int row = 0; row < 2 * STRIPES; row++)
+        words[5 + row * 6 + 4] = UINT64_MAX;
     pthread_t threads[64];
     for (int i = 0; i < writers && i < 64; i++)
-        pthread_create(&threads[i], NULL, work, NULL);
+        pthread_create(&threads[i], NULL, work, (void *)(uintptr_t)i);
     uint64_t count = 0, k = 0;
     for (int over = 0; !over;) {
         over = atomic_load(&ended) == writers;
