@@ -33,7 +33,7 @@ use Rattle.plan_shares.proofs.RegexCrosses.{regex_sync}
 use Rattle.plan_shares.proofs.MatcherCrosses.{matcher_send}
 
 pub search_send : (a : NamedLft) → IsSend (Search.the_row a)
-search_send a = view_send (SearchInside.the_row a) _ _ _ _ (declared_send (SearchInside.the_type a) (search (regex_sync, crosses, sendable) depth 20, (matcher_send a, (locations.the_field_send, tt))))
+search_send a = view_send (SearchInside.the_row a) _ _ _ _ (declared_send (SearchInside.the_type a) (search (regex_sync, crosses, sendable) depth 20, (matcher_send a, (search (locations.the_field_send, sendable) depth 30, tt))))
 
 pub searches_send : (a : NamedLft) → IsSend (Searches.the_row a)
 searches_send a = view_send (SearchesInside.the_row a) _ _ _ _ (declared_send (SearchesInside.the_type a) (search (search_send, Box-send, Vec-send, crosses, sendable) depth 60, tt))
