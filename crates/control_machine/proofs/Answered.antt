@@ -18,18 +18,16 @@ use Rattle.jm_meaning.specs.declared.signal.Signal.TheVariants.{Normal, NextLoop
 use Rattle.jm_meaning.specs.State.{State, Own, Ending, state_of, at_rounds, normal, stopped, and_then}
 use Rattle.jm_meaning.specs.Children.{children_of, one_of}
 use Rattle.jm_meaning.specs.Meaning.{Here, meaning}
-use Rattle.jm_meaning.specs.Transactions.{gives_sample}
 use Rattle.jm_meaning.proofs.PartLaws.{no-rounds, one-round}
 use Rattle.control_machine.specs.declared.stack.Frame.{Frame}
 use Rattle.control_machine.specs.declared.machine.Group.{Group}
 use Rattle.control_machine.specs.declared.machine.Machine.{Machine}
 use Rattle.control_machine.specs.Moves.{turned}
-use Rattle.control_machine.specs.Cursors.{tally_in, round_in}
+use Rattle.control_machine.specs.Cursors.{shut_of, round_in}
 use Rattle.control_machine.specs.Left.{here_in, left_in, left_of, left_after, label_at, closing, closed, children_at, ended, IsOut, rest_of}
 use Rattle.control_machine.specs.Turns.{went, closing_of}
-use Rattle.control_machine.proofs.ClosingLaws.{stop_closing, out_gives, closed_out}
 use Rattle.control_machine.proofs.PassLaws.{none-left}
-use Rattle.control_machine.proofs.StackLaws.{left_by, innermost, inside_top, stop_through, out_of_top}
+use Rattle.control_machine.proofs.StackLaws.{left_by, innermost, inside_top, out_of_top, closed_out}
 use Rattle.control_machine.proofs.Following.{left_normal, left_later, group_child}
 use Rattle.control_machine.proofs.Turning.{IsLike, at_own}
 
@@ -45,22 +43,24 @@ answered plan m f e s turn =
 module _ (plan : Tree) (m : Machine) (f : Frame) (e : Element) (user : UserState) (own : Own) (there : slice_get plan.elements f.element ≡ Some e) where
   -- the element is left
   pub is_over : (turn : Turn) → turn ≡ Over → m.signal ≡ Normal → (k : ℕ) → k ≡ own.rounds
-      → answered plan m f e (state_of user own) turn ≡ went plan m (state_of user (at_rounds own k)) (closing_of f)
+      → answered plan m f e (state_of user own) turn ≡ went plan m (state_of user (at_rounds own k)) (closing_of m.signal f)
   is_over turn is signal k same =
       ap (answered plan m f e (state_of user own)) is
       ∙ ap (λ x. left_after plan m (closed (here_in plan m) f (over (record { state = state_of user own; signal = x })))) (sym signal)
-      ∙ closed_out plan m f.element (tally_in f.cursor) (state_of user own) (ap gives_sample signal)
-      ∙ ap (λ s. went plan m s (closing_of f)) (at_own user own k same)
+      ∙ closed_out plan m f.element (shut_of f.cursor) (state_of user own)
+      ∙ ap (λ s. went plan m s (closing_of m.signal f)) (at_own user own k same)
 
-  -- no round is left for it
+  -- no round is left for it: the thread goes out by this limit
+  abbrev out_of_rounds : Machine
+  out_of_rounds = record m { signal = Stop RoundLimit }
+
   pub no_round_left : (turn : Turn) → turn ≡ Round → own.rounds ≡ 0 → (k : ℕ) → k ≡ own.rounds
-      → answered plan m f e (state_of user own) turn ≡ over (ended RoundLimit (state_of user (at_rounds own k)))
+      → answered plan m f e (state_of user own) turn ≡ went plan (record m { signal = Stop RoundLimit }) (state_of user (at_rounds own k)) (closing_of (Stop RoundLimit) f)
   no_round_left turn is none k same =
       ap (answered plan m f e (state_of user own)) is
       ∙ ap (λ r. left_after plan m (closed (here_in plan m) f r)) (no-rounds (state_of user own) (left_by (here_in plan m) f e) none)
-      ∙ ap (left_after plan m) (stop_closing (label_at plan.elements f.element) (tally_in f.cursor) RoundLimit (state_of user own) refl)
-      ∙ stop_through (here_in plan m) m.group m.stack.frames RoundLimit (state_of user own) refl
-      ∙ ap (λ s. over (ended RoundLimit s)) (at_own user own k same)
+      ∙ closed_out plan out_of_rounds f.element (shut_of f.cursor) (state_of user own)
+      ∙ ap (λ s. went plan out_of_rounds s (closing_of (Stop RoundLimit) f)) (at_own user own k same)
 
   -- a round is taken
   pub round_taken : (turn : Turn) → turn ≡ Round → (m' : Machine) → IsLike m m' → m'.stack.frames ≡ f ∷ m.stack.frames → (n : ℕ) → own.rounds ≡ suc n
@@ -124,22 +124,23 @@ out s signal = over (record { state = s; signal = signal })
 -- one more open element is left
 pub out_of_one : (plan : Tree) (m m' : Machine) (f : Frame) (user : UserState) (own : Own) → (m.signal ≡ Normal → ⊥) → m.stack.frames ≡ f ∷ m'.stack.frames
     → m'.group ≡ m.group → m'.at_failure ≡ m.at_failure → m'.signal ≡ m.signal → (k : ℕ) → k ≡ own.rounds
-    → IsOut m.signal → left_of plan m (state_of user own) ≡ went plan m' (state_of user (at_rounds own k)) (closing_of f)
-out_of_one plan m m' f user own away frames group failure signal k same is_out =
+    → left_of plan m (state_of user own) ≡ went plan m' (state_of user (at_rounds own k)) (closing_of m'.signal f)
+out_of_one plan m m' f user own away frames group failure signal k same =
     ap (λ fs. left_in (here_in plan m) m.group fs (out (state_of user own) m.signal)) frames
     ∙ out_of_top (here_in plan m) m.group f m'.stack.frames (state_of user own) m.signal away
     ∙ ap (λ g. left_in (here_in plan m) g m'.stack.frames (at_top (out (state_of user own) m.signal))) (sym group)
     ∙ ap (λ x. left_in (record { plan = plan; at_failure = x }) m'.group m'.stack.frames (at_top (out (state_of user own) m.signal))) (sym failure)
     ∙ ap (λ x. left_in (here_in plan m') m'.group m'.stack.frames (at_top (out (state_of user own) x))) (sym signal)
-    ∙ closed_out plan m' f.element (tally_in f.cursor) (state_of user own) (ap gives_sample signal ∙ out_gives m.signal is_out)
-    ∙ ap (λ s. went plan m' s (closing_of f)) (at_own user own k same) where
+    ∙ closed_out plan m' f.element (shut_of f.cursor) (state_of user own)
+    ∙ ap (λ s. went plan m' s (closing_of m'.signal f)) (at_own user own k same) where
       at_top : Run Ending → Run Ending
-      at_top inner = closing (label_at plan.elements f.element) (tally_in f.cursor) inner
+      at_top inner = closing (label_at plan.elements f.element) (shut_of f.cursor) inner
 
 -- an end of a way out
 pub end_out : (end : End) (s : State) → IsOut (Stop end) → stopped end s ≡ ended end s
 end_out StopThread s h = refl
 end_out StopTest s h = refl
+end_out RoundLimit s h = refl
 end_out end s h = absurd h
 
 -- where no element is open an end is the end

@@ -1,52 +1,75 @@
 -- An element that is left: what its move is.
-use Rattle.std.proofs.Common.{◌≡◌, ℕ, ◌<◌, Bool, true, false, List, length, Option, Some, None, refl, arith}
-use Rattle.std.specs.Prelude.{nat_lt, if◌then◌else◌}
+use Rattle.std.proofs.Common.{◌≡◌, ℕ, ◌<◌, Bool, true, false, List, [], ◌∷◌, length, Option, refl, subst, arith}
+use Rattle.std.specs.Prelude.{◌&&◌, nat_lt, if◌then◌else◌}
 use Rattle.element_tree.specs.declared.kinds.Element.{Element}
 use Rattle.element_tree.specs.declared.kinds.Kind.{Kind}
 use Rattle.element_tree.specs.declared.kinds.Kind.TheVariants as kinds
 use Rattle.jm_meaning.specs.declared.signal.Signal.{Signal}
 use Rattle.jm_meaning.specs.declared.transaction.Tally.{Tally}
 use Rattle.jm_meaning.specs.Children.{children_of}
+use Rattle.jm_meaning.specs.Transactions.{gives_sample}
 use Rattle.control_machine.specs.declared.cursor.Cursor.{Cursor}
 use Rattle.control_machine.specs.declared.cursor.Cursor.TheVariants.{Transaction}
 use Rattle.control_machine.specs.declared.stack.Frame.{Frame}
 use Rattle.control_machine.specs.declared.machine.Group.{Group}
 use Rattle.control_machine.specs.declared.machine.Went.{Went}
 use Rattle.control_machine.specs.declared.machine.Went.TheVariants.{On, To}
-use Rattle.control_machine.specs.declared.moves.Move.TheVariants.{TransactionSample}
-use Rattle.control_machine.specs.Cursors.{tally_in, FitsKind}
-use Rattle.control_machine.specs.Left.{IsOpen}
-use Rattle.control_machine.specs.Turns.{IsWent, Lightens, IsNormalOn, IsRoundless, IsRoundIn, closing_move, closing_of}
+use Rattle.control_machine.specs.declared.moves.Move.TheVariants.{LeaveSection, TransactionSample}
+use Rattle.control_machine.specs.Cursors.{Shut, Plain, Summing, Leaving, shut_of, lock_in, FitsKind}
+use Rattle.control_machine.specs.Left.{KeepsLock, IsAlone, IsOpen}
+use Rattle.control_machine.specs.Turns.{IsWent, Lightens, IsNormalOn, IsRoundless, IsRoundIn, MovesLockOn, closing_move, closing_of}
 
--- what holds of going on and of a transaction's sample holds of an element that is left
-by_closing : (P : Went → Type 0) (element : ℕ) (o : Option Tally) → P On → ((tally : Tally) → o ≡ Some tally → P (To (TransactionSample element tally))) → P (closing_move element o)
-by_closing P element None on to = on
-by_closing P element (Some tally) on to = by_count (nat_lt 0 tally.samples) where
-  by_count : (b : Bool) → P (if b then To (TransactionSample element tally) else On)
-  by_count true = to tally refl
-  by_count false = on
+-- what holds of going on, of a transaction's sample and of a section that is left holds of an element that is left
+by_closing : (P : Went → Type 0) (element : ℕ) (o : Shut) (gives : Bool) → P On → ((tally : Tally) → o ≡ Summing tally → P (To (TransactionSample element tally)))
+    → ((lock : ℕ) → o ≡ Leaving lock → P (To (LeaveSection lock))) → P (closing_move element o gives)
+by_closing P element Plain gives on sums leaves = on
+by_closing P element (Summing tally) gives on sums leaves = by_test (gives && nat_lt 0 tally.samples) where
+  by_test : (b : Bool) → P (if b then To (TransactionSample element tally) else On)
+  by_test true = sums tally refl
+  by_test false = on
+by_closing P element (Leaving lock) gives on sums leaves = leaves lock refl
 
 -- a transaction alone has counted samples
-counts : (n count : ℕ) (k : Kind) (c : Cursor) (tally : Tally) → tally_in c ≡ Some tally → FitsKind n count k c → k ≡ kinds.Transaction
+counts : (n count : ℕ) (k : Kind) (c : Cursor) (tally : Tally) → shut_of c ≡ Summing tally → FitsKind n count k c → k ≡ kinds.Transaction
 counts n count k (Transaction c) tally is fits = fits.1
 counts n count k c tally is fits = absurd (cc)
 
-pub closed_given : (elements : List Element) (limit left : ℕ) (f : Frame) → IsOpen elements limit left f → IsWent elements (closing_of f)
-closed_given elements limit left f o =
-    by_closing (IsWent elements) f.element (tally_in f.cursor) tt (λ tally is. record {
+pub closed_given : (elements : List Element) (limit left : ℕ) (signal : Signal) (f : Frame) → IsOpen elements limit left f → IsWent elements (closing_of signal f)
+closed_given elements limit left signal f o =
+    by_closing (IsWent elements) f.element (shut_of f.cursor) (gives_sample signal) tt
+    (λ tally is. record {
       element = o.element;
       there = o.there;
       kind = counts f.element (length (children_of elements o.element)) o.element.kind f.cursor tally is o.fits;
     })
+    (λ lock is.
+    let k : KeepsLock elements o.element.kind (Leaving lock) = subst (KeepsLock elements o.element.kind) is o.lock in
+    record { number = f.element; element = o.element; there = o.there; name = k.0; kind = k.1; lock_is = k.2 })
 
-pub closed_lightens : (f : Frame) (old new : ℕ) → new < old → Lightens (closing_of f) old new
-closed_lightens f old new less = by_closing (λ w. Lightens w old new) f.element (tally_in f.cursor) less (λ tally is. tt)
+pub closed_lightens : (signal : Signal) (f : Frame) (old new : ℕ) → new < old → Lightens (closing_of signal f) old new
+closed_lightens signal f old new less =
+    by_closing (λ w. Lightens w old new) f.element (shut_of f.cursor) (gives_sample signal) less (λ tally is. tt) (λ lock is. tt)
 
-pub closed_normal : (f : Frame) (signal : Signal) → IsNormalOn (closing_of f) signal
-closed_normal f signal = by_closing (λ w. IsNormalOn w signal) f.element (tally_in f.cursor) tt (λ tally is. tt)
+pub closed_normal : (signal : Signal) (f : Frame) (after : Signal) → IsNormalOn (closing_of signal f) after
+closed_normal signal f after =
+    by_closing (λ w. IsNormalOn w after) f.element (shut_of f.cursor) (gives_sample signal) tt (λ tally is. tt) (λ lock is. tt)
 
-pub closed_rounds : (f : Frame) (rounds : ℕ) → IsRoundless (closing_of f) rounds rounds
-closed_rounds f rounds = by_closing (λ w. IsRoundless w rounds rounds) f.element (tally_in f.cursor) (omega arith) (λ tally is. omega arith)
+pub closed_rounds : (signal : Signal) (f : Frame) (rounds : ℕ) → IsRoundless (closing_of signal f) rounds rounds
+closed_rounds signal f rounds =
+    by_closing (λ w. IsRoundless w rounds rounds) f.element (shut_of f.cursor) (gives_sample signal) (omega arith) (λ tally is. omega arith) (λ lock is. omega arith)
 
-pub closed_index : (f : Frame) (g : Group) → IsRoundIn (closing_of f) g
-closed_index f g = by_closing (λ w. IsRoundIn w g) f.element (tally_in f.cursor) tt (λ tally is. tt)
+pub closed_index : (signal : Signal) (f : Frame) (g : Group) → IsRoundIn (closing_of signal f) g
+closed_index signal f g =
+    by_closing (λ w. IsRoundIn w g) f.element (shut_of f.cursor) (gives_sample signal) tt (λ tally is. tt) (λ lock is. tt)
+
+lock_after : (element : ℕ) (o : Shut) (gives : Bool) (outer : Option ℕ) → IsAlone o outer → MovesLockOn (closing_move element o gives) (lock_in o outer) outer
+lock_after element Plain gives outer alone = refl
+lock_after element (Summing tally) gives outer alone = by_test (gives && nat_lt 0 tally.samples) where
+  by_test : (b : Bool) → MovesLockOn (if b then To (TransactionSample element tally) else On) outer outer
+  by_test true = refl
+  by_test false = refl
+lock_after element (Leaving lock) gives outer alone = (refl, alone)
+
+-- the section that is open, where the element is left inside this
+pub closed_lock : (signal : Signal) (f : Frame) (outer : Option ℕ) → IsAlone (shut_of f.cursor) outer → MovesLockOn (closing_of signal f) (lock_in (shut_of f.cursor) outer) outer
+closed_lock signal f outer alone = lock_after f.element (shut_of f.cursor) (gives_sample signal) outer alone

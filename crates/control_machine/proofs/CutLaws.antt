@@ -32,7 +32,7 @@ use Rattle.control_machine.specs.declared.machine.Group.{Group}
 use Rattle.control_machine.specs.declared.machine.Machine.{Machine}
 use Rattle.control_machine.specs.declared.stack.Frame.{Frame}
 use Rattle.jm_meaning.specs.declared.signal.Signal.TheVariants.{Normal}
-use Rattle.control_machine.specs.Cursors.{tally_in, round_left, while_left_in, each_left_in}
+use Rattle.control_machine.specs.Cursors.{shut_of, round_left, while_left_in, each_left_in}
 use Rattle.control_machine.specs.Left.{Beside, left_in, here_in, own_at, state_at, closing, label_at}
 use Rattle.control_machine.specs.Turns.{left_from}
 use Rattle.control_machine.specs.MachineCut.{Place, between_turns, left_at, IsCut, IsCutIn}
@@ -89,7 +89,7 @@ cut_as {a} plan run next new is cut =
 
 pub cut_still : (e : Element) (c : Cursor) (old new : UserState) → new.vars ≡ old.vars → IsLater old.fns new.fns → IsCutIn e c old new
 cut_still e c old new vars later =
-    record { cursor = c; between = old; tally = refl; same = λ below round children own. refl; stands = record { vars = vars; fns = later } }
+    record { cursor = c; between = old; shut = refl; same = λ below round children own. refl; stands = record { vars = vars; fns = later } }
 
 pub later_of : (old new : Functions) → new ≡ old → IsLater old new
 later_of old new is = subst (IsLater old) (sym is) (later_same old)
@@ -115,7 +115,7 @@ cut_while e condition c new-c old new is later (inl h) = cut_still e (While c) o
 cut_while e condition c new-c old new is later (inr h) = record {
   cursor = While (record { element = c.element; rounds = opened c.rounds });
   between = record { vars = new.vars; fns = old.fns };
-  tally = refl;
+  shut = refl;
   same = λ below round children own. opened_while e.kind e.name condition below children c old new.vars own is h.1;
   stands = record { vars = refl; fns = later };
 }
@@ -148,14 +148,14 @@ cut_each e row output c new-c old new is later (inr h) = by_output h.1 where
   by_output (inl set) = record {
     cursor = Each (record { element = c.element; rounds = opened c.rounds; value = c.value });
     between = record { vars = new.vars; fns = old.fns };
-    tally = refl;
+    shut = refl;
     same = λ below round children own. opened_each e.kind e.name row output below children c old new.vars own is set;
     stands = record { vars = refl; fns = later };
   }
   by_output (inr set) = record {
     cursor = Each (record { element = c.element; rounds = opened c.rounds; value = None });
     between = record { vars = new.vars; fns = old.fns };
-    tally = refl;
+    shut = refl;
     same = λ below round children own.
         opened_each e.kind e.name row output below children c old set.0 own is set.1
         ∙ put_each e.kind e.name row output below children c (record { vars = set.0; fns = old.fns }) new.vars own is set.2;
@@ -170,8 +170,8 @@ cut_frame : (here : Here) (g : Group) (f : Frame) (fs : List Frame) (e : Element
     ≡ left_in here g (record { element = f.element; round = f.round; depth = f.depth; cursor = cut.cursor } ∷ fs) (over (normal (state_of cut.between own)))
 cut_frame here g f fs e before new own cut there =
     innermost here g f fs e (state_of before own) there
-    ∙ ap (λ t. left_in here g fs (closing (label_at here.plan.elements f.element) t (left_by here f e (state_of before own)))) (sym cut.tally)
-    ∙ ap (λ r. left_in here g fs (closing (label_at here.plan.elements f.element) (tally_in cut.cursor) r)) (cut.same (meaning here f.depth) f.round (children_in here e) own)
+    ∙ ap (λ t. left_in here g fs (closing (label_at here.plan.elements f.element) t (left_by here f e (state_of before own)))) (sym cut.shut)
+    ∙ ap (λ r. left_in here g fs (closing (label_at here.plan.elements f.element) (shut_of cut.cursor) r)) (cut.same (meaning here f.depth) f.round (children_in here e) own)
     ∙ sym (innermost here g (record { element = f.element; round = f.round; depth = f.depth; cursor = cut.cursor }) fs e (state_of cut.between own) there)
 
 -- the machine with the open element as it stood

@@ -26,16 +26,16 @@ use Rattle.jm_meaning.specs.Rounds.{Turns, rounds, loop_turns, while_turns, each
 use Rattle.jm_meaning.specs.Children.{Below, in_order, once_only, if_part}
 use Rattle.jm_meaning.specs.Beginning.{max_rounds}
 use Rattle.control_machine.specs.Moves.{begun, pass_left}
-use Rattle.control_machine.specs.Cursors.{simple_left, once_left, if_left, round_left, loop_left, while_left, each_left, if_left_in, while_left_in, each_left_in}
+use Rattle.control_machine.specs.Cursors.{simple_left, once_left, if_left, round_left, loop_left, while_left, each_left, if_left_in, while_left_in, each_left_in, shut_of, FitsKind}
 use Rattle.control_machine.proofs.PassLaws.{none-left, all-left}
 use Rattle.control_machine.proofs.StepLaws.{text-law}
 use Rattle.control_machine.proofs.PassLaws.{count-is}
 use Rattle.std.proofs.Common.{Some, [], ap, ◌∙◌}
-use Rattle.std.specs.Prelude.{slice_get, unwrap_or}
+use Rattle.std.specs.Prelude.{slice_get, unwrap_or, IfSome}
 use Rattle.std.specs.Option.{option_map}
 use Rattle.element_tree.specs.declared.kinds.Element.{Element}
 use Rattle.element_tree.specs.Tree.{Tree}
-use Rattle.element_tree.specs.Names.{label_of}
+use Rattle.element_tree.specs.Names.{label_of, lock_of, lock_of_kind, lock_name}
 use Rattle.cursor_steps.specs.declared.pass.Pass.{Pass}
 use Rattle.cursor_steps.specs.RunningChildren.{run_count}
 use Rattle.jm_meaning.specs.declared.signal.Signal.{Signal}
@@ -43,11 +43,14 @@ use Rattle.jm_meaning.specs.declared.transaction.Tally.{Tally}
 use Rattle.jm_meaning.specs.Children.{children_of}
 use Rattle.jm_meaning.specs.Meaning.{kind_meaning}
 use Rattle.jm_meaning.specs.Transactions.{tally_of, transaction_from}
+use Rattle.jm_meaning.specs.Sections.{section}
 use Rattle.jm_meaning.proofs.TransactionLaws.{by-tally}
-use Rattle.control_machine.specs.declared.cursor.Cursor.TheVariants.{Transaction}
-use Rattle.control_machine.specs.declared.enter.Entered.TheVariants.{Open}
-use Rattle.control_machine.specs.Left.{label_at}
-use Rattle.control_machine.specs.Entering.{here_with, entered}
+use Rattle.control_machine.specs.declared.cursor.Cursor.TheVariants.{Transaction, Section}
+use Rattle.control_machine.specs.declared.cursor.Cursor.{Cursor}
+use Rattle.control_machine.specs.declared.enter.Entered.{Entered}
+use Rattle.control_machine.specs.declared.enter.Entered.TheVariants.{Nothing, Sampler, Open}
+use Rattle.control_machine.specs.Left.{label_at, KeepsLock}
+use Rattle.control_machine.specs.Entering.{here_with, entered, EnteredFits, EntersLock}
 
 -- before the first child of a pass all are left
 whole : (n : ℕ) (children : List ℕ) → n ≡ length children → pass_left (pass_over n) children ≡ children
@@ -129,3 +132,30 @@ transaction-enter plan failure below number round e s pass tally there all none 
     ∙ ap (λ l. transaction_from l (tally_of []) (in_order below round (children_of plan.elements e) s)) (sym (ap (λ o. unwrap_or (option_map (λ e. label_of plan.elements e.name) o) 0) there))
     ∙ ap (λ t. transaction_from (label_at plan.elements number) t (in_order below round (children_of plan.elements e) s)) (sym none)
     ∙ ap (λ cs. transaction_from (label_at plan.elements number) tally (in_order below round cs s)) (sym (ap (λ p. pass_left p (children_of plan.elements e)) all ∙ whole (run_count plan.elements e) (children_of plan.elements e) (sym (count-is plan.elements e))))
+
+-- a section is entered with all its children
+pub section-enter : (plan : Tree) (failure : Signal) (below : Below) (number round : ℕ) (e : Element) (s : State) (pass : Pass) (lock : ℕ) (name : List ℕ) → e.kind ≡ kinds.CriticalSection name
+    → pass ≡ pass_over (run_count plan.elements e) → lock ≡ lock_of plan.elements name
+    → kind_meaning (here_with plan failure) below number e e.kind round s
+    ≡ entered (here_with plan failure) below number round e s (Open (Section (record { children = record { element = number; pass = pass }; lock = lock })))
+section-enter plan failure below number round e s pass lock name kind all at =
+    ap (λ k. kind_meaning (here_with plan failure) below number e k round s) kind
+    ∙ ap (λ l. section l (in_order below round (children_of plan.elements e)) s) (sym at)
+    ∙ ap (λ cs. section lock (in_order below round cs) s) (sym (ap (λ p. pass_left p (children_of plan.elements e)) all ∙ whole (run_count plan.elements e) (children_of plan.elements e) (sym (count-is plan.elements e))))
+
+-- the number of the lock of a critical section, where the plan has looked it up
+pub lock_at : (elements : List Element) (n : ℕ) (e : Element) (name : List ℕ) (lock : ℕ) → slice_get elements n ≡ Some e → e.kind ≡ kinds.CriticalSection name
+    → IfSome (slice_get elements n) (λ e. IfSome (lock_name e) (λ name. lock ≡ lock_of elements name)) → lock ≡ lock_of elements name
+lock_at elements n e name lock there kind h =
+    let at : IfSome (lock_name e) (λ name. lock ≡ lock_of elements name) = rw there at h in
+    subst (λ k. IfSome (lock_of_kind k) (λ name. lock ≡ lock_of elements name)) kind at
+
+by_cursor : (elements : List Element) (n count : ℕ) (k : Kind) (c : Cursor) → FitsKind n count k c → ((name : List ℕ) → k ≡ kinds.CriticalSection name → ⊥) → KeepsLock elements k (shut_of c)
+by_cursor elements n count k (Section c) fits other = absurd (other fits.1.0 fits.1.1)
+by_cursor elements n count k c fits other = tt
+
+-- an element that is no critical section has no lock
+pub no_lock : (elements : List Element) (n count : ℕ) (k : Kind) (x : Entered) → EnteredFits n count k x → ((name : List ℕ) → k ≡ kinds.CriticalSection name → ⊥) → EntersLock elements k x
+no_lock elements n count k Nothing fits other = tt
+no_lock elements n count k Sampler fits other = tt
+no_lock elements n count k (Open c) fits other = by_cursor elements n count k c fits.0 other

@@ -1,35 +1,25 @@
 -- Open elements that hear a sampler's sample.
 use Rattle.std.proofs.Common.{◌≡◌, ℕ, ◌+◌, ◌<◌, ◌≤◌, Bool, true, false, List, [], ◌∷◌, ◌++◌, length, take, drop, get_or, set, refl, sym, ap, ◌∙◌, subst, arith, append_assoc}
-use Rattle.std.specs.Prelude.{map, reverse, Option, Some, None, slice_get}
+use Rattle.std.specs.Prelude.{map, reverse, Option, is_some}
+use Rattle.std.specs.List.{AllByRecursion}
 use Rattle.std.proofs.lemmas.List.{reverse-append, map_push, map_more, length-map, length-take, drop_more, get_or_at, set_at}
 use Rattle.jm_base.specs.declared.types.Sample.{Sample}
-use Rattle.jm_base.specs.Run.{Run, Event, Sampled, Sampler}
-use Rattle.jm_base.specs.Outside.{Account, Goes}
-use Rattle.jm_base.proofs.RunLaws.{goes-bind}
 use Rattle.element_tree.specs.declared.kinds.Element.{Element}
 use Rattle.element_tree.specs.declared.kinds.Kind.{Kind}
-use Rattle.element_tree.specs.Tree.{Tree}
+use Rattle.element_tree.specs.Tree.{Tree, Apart}
 use Rattle.jm_meaning.specs.declared.signal.Signal.{Signal}
-use Rattle.jm_meaning.specs.declared.transaction.Tally.{Tally}
-use Rattle.jm_meaning.specs.State.{Ending, and_then}
 use Rattle.jm_meaning.specs.Sampling.{after_sample}
-use Rattle.jm_meaning.specs.Transactions.{counting, counted}
-use Rattle.jm_meaning.proofs.TransactionLaws.{goes-inside}
-use Rattle.jm_meaning.specs.Children.{Below}
-use Rattle.jm_meaning.specs.Meaning.{Here, children_in, meaning}
 use Rattle.jm_meaning.specs.Beginning.{max_rounds}
 use Rattle.control_machine.specs.declared.cursor.Cursor.{Cursor}
 use Rattle.control_machine.specs.declared.cursor.Cursor.TheVariants.{Transaction}
 use Rattle.control_machine.specs.declared.stack.Frame.{Frame}
-use Rattle.control_machine.specs.declared.machine.Group.{Group}
 use Rattle.control_machine.specs.declared.machine.Machine.{Machine}
-use Rattle.control_machine.specs.Cursors.{cursor_left, tally_in, begun_of, FitsKind}
-use Rattle.control_machine.specs.Left.{label_at, closing, frame_left, rest_of, left_in, IsOpen, AreOpen, IsOut, StandsIn}
+use Rattle.control_machine.specs.Cursors.{shut_of, lock_in, begun_of, FitsKind}
+use Rattle.control_machine.specs.Left.{KeepsLock, open_lock, IsAlone, IsOpen, AreOpen, AreApart, IsOut, StandsIn}
 use Rattle.control_machine.specs.declared.moves.Leave.{Leave}
 use Rattle.control_machine.specs.declared.moves.Leave.TheVariants as leaves
 use Rattle.control_machine.specs.Turns.{signal_left}
 use Rattle.control_machine.specs.Hearing.{hearing, frame_hearing, all_hearing, told}
-use Rattle.control_machine.proofs.ClosingLaws.{goes_closing_by}
 
 -- ---- one after another
 
@@ -65,6 +55,10 @@ begun_hearing : (sample : Sample) (c : Cursor) → begun_of (hearing sample c) �
 begun_hearing sample (Transaction c) = refl
 begun_hearing sample c = refl
 
+keeps_hearing : (sample : Sample) (elements : List Element) (k : Kind) (c : Cursor) → KeepsLock elements k (shut_of c) → KeepsLock elements k (shut_of (hearing sample c))
+keeps_hearing sample elements k (Transaction c) h = tt
+keeps_hearing sample elements k c h = h
+
 open_hearing : (sample : Sample) (elements : List Element) (limit left : ℕ) (f : Frame) → IsOpen elements limit left f → IsOpen elements limit left (frame_hearing sample f)
 open_hearing sample elements limit left f o = record {
   element = o.element;
@@ -73,11 +67,37 @@ open_hearing sample elements limit left f o = record {
   below = o.below;
   depth = o.depth;
   bound = subst (λ n. n + left ≤ limit) (sym (begun_hearing sample f.cursor)) o.bound;
+  lock = keeps_hearing sample elements o.element.kind f.cursor o.lock;
 }
 
 all_open_hearing : (sample : Sample) (elements : List Element) (left : ℕ) (fs : List Frame) → AreOpen elements left fs → AreOpen elements left (all_hearing sample fs)
 all_open_hearing sample elements left [] h = tt
 all_open_hearing sample elements left (f ∷ fs) h = (open_hearing sample elements max_rounds left f h.0, all_open_hearing sample elements left fs h.1)
+
+-- the section that is open stays open
+lock_hearing : (sample : Sample) (c : Cursor) (outer : Option ℕ) → lock_in (shut_of (hearing sample c)) outer ≡ lock_in (shut_of c) outer
+lock_hearing sample (Transaction c) outer = refl
+lock_hearing sample c outer = refl
+
+pub open_lock_hearing : (sample : Sample) (fs : List Frame) → open_lock (all_hearing sample fs) ≡ open_lock fs
+open_lock_hearing sample [] = refl
+open_lock_hearing sample (f ∷ fs) = lock_hearing sample f.cursor (open_lock (all_hearing sample fs)) ∙ ap (lock_in (shut_of f.cursor)) (open_lock_hearing sample fs)
+
+alone_hearing : (sample : Sample) (c : Cursor) (outer after : Option ℕ) → after ≡ outer → IsAlone (shut_of c) outer → IsAlone (shut_of (hearing sample c)) after
+alone_hearing sample (Transaction c) outer after same alone = tt
+alone_hearing sample c outer after same alone = subst (IsAlone (shut_of c)) (sym same) alone
+
+all_apart_hearing : (sample : Sample) (elements : List Element) (fs : List Frame) → AreApart elements fs → AreApart elements (all_hearing sample fs)
+all_apart_hearing sample elements [] h = tt
+all_apart_hearing sample elements (f ∷ fs) h = (
+  record {
+    element = h.0.element;
+    there = h.0.there;
+    below = subst (λ o. AllByRecursion (Apart f.depth (is_some o) elements) h.0.element.children) (sym (open_lock_hearing sample (f ∷ fs))) h.0.below;
+    alone = alone_hearing sample f.cursor (open_lock fs) (open_lock (all_hearing sample fs)) (open_lock_hearing sample fs) h.0.alone;
+  },
+  all_apart_hearing sample elements fs h.1,
+)
 
 out_after : (ok : Bool) (failure : Signal) → IsOut failure → IsOut (after_sample ok failure)
 out_after true failure h = tt
@@ -87,6 +107,7 @@ pub told_stands : (plan : Tree) (sample : Sample) (m : Machine) → StandsIn pla
 told_stands plan sample m s = record {
   group = s.group;
   open_ = all_open_hearing sample plan.elements m.rounds m.stack.frames s.open_;
+  apart = all_apart_hearing sample plan.elements m.stack.frames s.apart;
   failure = s.failure;
   signal = out_after sample.ok m.at_failure s.failure;
 }
@@ -97,52 +118,4 @@ out_left leaves.StopThread = tt
 out_left leaves.StopTest = tt
 
 pub left_stands : (plan : Tree) (how : Leave) (m : Machine) → StandsIn plan m → StandsIn plan (record m { signal = signal_left how })
-left_stands plan how m s = record { group = s.group; open_ = s.open_; failure = s.failure; signal = out_left how }
-
--- ---- what is left goes on
-
--- the cursor's element goes on as before
-left_hearing : (sample : Sample) (below : Below) (round : ℕ) (children : List ℕ) (e : Element) (c : Cursor) → cursor_left below round children e (hearing sample c) ≡ cursor_left below round children e c
-left_hearing sample below round children e (Transaction c) = refl
-left_hearing sample below round children e c = refl
-
--- a transaction counts the sample
-goes_closing_hearing : (label : ℕ) (sample : Sample) (c : Cursor) {a b : Account} {x y : Run Ending} → Goes a x (Sampled Sampler sample ∷ []) y b
-    → Goes a (closing label (tally_in c) x) (Sampled Sampler sample ∷ []) (closing label (tally_in (hearing sample c)) y) b
-unfolding counted
-goes_closing_hearing label sample (Transaction c) g = goes-inside label c.tally g
-goes_closing_hearing label sample c g = g
-
-frame_left_hearing : (sample : Sample) (here : Here) (f : Frame) (o : Option Element) → frame_left here (frame_hearing sample f) o ≡ frame_left here f o
-frame_left_hearing sample here f None = refl
-frame_left_hearing sample here f (Some e) = left_hearing sample (meaning here f.depth) f.round (children_in here e) e f.cursor
-
-module _ (here : Here) (sample : Sample) where
-  goes_inside_hearing : (fs : List Frame) {a b : Account} {x y : Run Ending} → Goes a x (Sampled Sampler sample ∷ []) y b
-      → Goes a (rest_of here fs x) (Sampled Sampler sample ∷ []) (rest_of here (all_hearing sample fs) y) b
-  unfolding rest_of
-  goes_inside_hearing [] g = g
-  goes_inside_hearing (f ∷ fs) {a = a} {b = b} {x = x} {y = y} g =
-      goes_inside_hearing fs
-      (subst (λ next. Goes a (closing (label_at here.plan.elements f.element) (tally_in f.cursor) (and_then x (frame_left here f (slice_get here.plan.elements f.element)))) (Sampled Sampler sample ∷ [])
-      (closing (label_at here.plan.elements f.element) (tally_in (hearing sample f.cursor)) (and_then y next)) b)
-      (sym (frame_left_hearing sample here f (slice_get here.plan.elements f.element)))
-      (goes_closing_hearing (label_at here.plan.elements f.element) sample f.cursor (goes-bind _ g)))
-
-  -- a sampler's sample
-  pub goes_left_hearing : (g : Group) (fs : List Frame) {a b : Account} {x y : Run Ending} → Goes a x (Sampled Sampler sample ∷ []) y b
-      → Goes a (left_in here g fs x) (Sampled Sampler sample ∷ []) (left_in here g (all_hearing sample fs) y) b
-  unfolding left_in
-  goes_left_hearing g fs go = goes-bind _ (goes-bind _ (goes-bind _ (goes_inside_hearing fs go)))
-
-module _ (here : Here) (e : Event) (none : (t : Tally) → counting t e ≡ t) where
-  goes_inside_by : (fs : List Frame) {a b : Account} {x y : Run Ending} → Goes a x (e ∷ []) y b → Goes a (rest_of here fs x) (e ∷ []) (rest_of here fs y) b
-  unfolding rest_of
-  goes_inside_by [] g = g
-  goes_inside_by (f ∷ fs) g = goes_inside_by fs (goes_closing_by (label_at here.plan.elements f.element) (tally_in f.cursor) e none (goes-bind _ g))
-
-  -- an event that no transaction counts
-  pub goes_left_by : (g : Group) (fs : List Frame) {a b : Account} {x y : Run Ending} → Goes a x (e ∷ []) y b
-      → Goes a (left_in here g fs x) (e ∷ []) (left_in here g fs y) b
-  unfolding left_in
-  goes_left_by g fs go = goes-bind _ (goes-bind _ (goes-bind _ (goes_inside_by fs go)))
+left_stands plan how m s = record { group = s.group; open_ = s.open_; apart = s.apart; failure = s.failure; signal = out_left how }

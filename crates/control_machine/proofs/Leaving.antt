@@ -1,5 +1,6 @@
 -- Ways out: an open element is left, or the way out is over.
 use Rattle.std.proofs.Common.{◌≡◌, ℕ, List, [], ◌∷◌, refl, sym, ap, ◌∙◌, subst}
+use Rattle.std.specs.Prelude.{Result, Ok, Err, IfOk}
 use Rattle.jm_base.specs.declared.types.End.{End}
 use Rattle.jm_base.specs.Run.{over}
 use Rattle.element_tree.specs.declared.kinds.Element.{Element}
@@ -11,10 +12,12 @@ use Rattle.jm_meaning.specs.State.{Own, state_of, at_rounds, normal}
 use Rattle.control_machine.specs.declared.stack.Frame.{Frame}
 use Rattle.control_machine.specs.declared.machine.Group.{Group}
 use Rattle.control_machine.specs.declared.machine.Machine.{Machine}
+use Rattle.control_machine.specs.declared.machine.Went.{Went}
+use Rattle.control_machine.specs.declared.machine.Went.TheVariants.{On, To}
 use Rattle.control_machine.specs.declared.moves.Move.{Move}
 use Rattle.control_machine.specs.declared.moves.Move.TheVariants.{Iteration, RunSampler, EnterSection, LeaveSection, TransactionSample, Finished}
-use Rattle.control_machine.specs.Left.{here_in, left_in, left_of, ended, AreOpen, GroupIsOpen, IsOut, StandsIn}
-use Rattle.control_machine.specs.Turns.{went, closing_of, IsNormalAt}
+use Rattle.control_machine.specs.Left.{here_in, left_in, left_of, ended, AreOpen, AreApart, GroupIsOpen, IsOut, StandsIn}
+use Rattle.control_machine.specs.Turns.{went, closing_of, IsNormalAt, IsNormalOn}
 use Rattle.control_machine.proofs.Answered.{out, out_of_one, all_out, next_loop, round_over}
 
 pub stop_same : (plan : Tree) (m : Machine) (end : End) (user : UserState) (own : Own) → m.stack.frames ≡ [] → m.signal ≡ Stop end → StandsIn plan m → own.rounds ≡ m.rounds
@@ -37,23 +40,24 @@ loop_same plan m user own empty away other =
     ∙ ap (λ fs. left_in (here_in plan m) (round_over m.group) fs (over (normal (state_of user own)))) (sym empty)
 
 pub loop_group : (elements : List Element) (left : ℕ) (g : Group) → GroupIsOpen elements left g → GroupIsOpen elements left (round_over g)
-loop_group elements left g o = record { element = o.element; there = o.there; below = o.below; pass = o.pass; bound = o.bound }
+loop_group elements left g o = record { element = o.element; there = o.there; below = o.below; apart = o.apart; pass = o.pass; bound = o.bound }
 
 pub loop_stands : (plan : Tree) (m m' : Machine) → m.stack.frames ≡ [] → StandsIn plan m → GroupIsOpen plan.elements m'.rounds m'.group
     → (m'.stack ≡ m.stack) × (m'.signal ≡ Normal) → m'.at_failure ≡ m.at_failure → StandsIn plan m'
 loop_stands plan m m' empty stands group rest failure = record {
   group = group;
   open_ = subst (AreOpen plan.elements m'.rounds) (sym (ap (λ s. s.frames) rest.0 ∙ empty)) tt;
+  apart = subst (AreApart plan.elements) (sym (ap (λ s. s.frames) rest.0 ∙ empty)) tt;
   failure = subst IsOut (sym failure) stands.failure;
   signal = subst IsOut (sym rest.1) tt;
 }
 
 -- an element that was taken out of the open ones, on a way out
 pub popped_same : (plan : Tree) (m m' : Machine) (f : Frame) (user : UserState) (own : Own) → m.stack.frames ≡ f ∷ m'.stack.frames → (m.signal ≡ Normal → ⊥)
-    → m'.group ≡ m.group → m'.at_failure ≡ m.at_failure → m'.signal ≡ m.signal → StandsIn plan m → (k : ℕ) → k ≡ own.rounds
-    → left_of plan m (state_of user own) ≡ went plan m' (state_of user (at_rounds own k)) (closing_of f)
-popped_same plan m m' f user own frames away group failure signal stands k same =
-    out_of_one plan m m' f user own away frames group failure signal k same stands.signal
+    → m'.group ≡ m.group → m'.at_failure ≡ m.at_failure → m'.signal ≡ m.signal → (k : ℕ) → k ≡ own.rounds
+    → left_of plan m (state_of user own) ≡ went plan m' (state_of user (at_rounds own k)) (closing_of m'.signal f)
+popped_same plan m m' f user own frames away group failure signal k same =
+    out_of_one plan m m' f user own away frames group failure signal k same
 
 pub at_normal : (move : Move) (signal : Signal) → signal ≡ Normal → IsNormalAt move signal
 at_normal (Iteration index) signal is = is
@@ -62,3 +66,11 @@ at_normal (EnterSection lock) signal is = tt
 at_normal (LeaveSection lock) signal is = tt
 at_normal (TransactionSample element tally) signal is = tt
 at_normal (Finished end) signal is = tt
+
+normal_on : (w : Went) (signal : Signal) → signal ≡ Normal → IsNormalOn w signal
+normal_on On signal is = tt
+normal_on (To move) signal is = at_normal move signal is
+
+pub of_normal : {E : Type 0} (res : Result Went E) (signal : Signal) → signal ≡ Normal → IfOk res (λ w. IsNormalOn w signal)
+of_normal (Ok w) signal is = normal_on w signal is
+of_normal (Err e) signal is = tt

@@ -1,47 +1,48 @@
 -- A machine stands in its plan after each turn.
-use Rattle.std.proofs.Common.{◌≡◌, inr, ℕ, zero, suc, ◌+◌, ◌-◌, ◌≤◌, ◌<◌, Bool, true, false, List, [], ◌∷◌, length, take, Option, Some, None, refl, sym, subst, arith}
-use Rattle.std.specs.Prelude.{if◌then◌else◌, slice_get, Result, Ok, Err, MatchResult, IfOk, IfSome}
+use Rattle.std.proofs.Common.{◌≡◌, ◌∙◌, ap, inr, ℕ, zero, suc, ◌+◌, ◌-◌, ◌≤◌, ◌<◌, Bool, true, false, List, [], ◌∷◌, length, take, Option, Some, None, refl, sym, subst, arith}
+use Rattle.std.specs.Prelude.{◌||◌, ◌&&◌, not, is_some, IsTrue, if◌then◌else◌, slice_get, Result, Ok, Err, MatchResult, IfOk, IfSome}
 use Rattle.std.specs.List.{AllByRecursion, filter}
 use Rattle.std.proofs.lemmas.Option.{slice_get_within}
 use Rattle.element_tree.specs.declared.kinds.Element.{Element}
 use Rattle.element_tree.specs.declared.kinds.Kind.{Kind}
 use Rattle.element_tree.specs.declared.package.Turn.{Turn}
 use Rattle.element_tree.specs.declared.package.Turn.TheVariants.{Child, Round, Over}
-use Rattle.element_tree.specs.Tree.{Tree, Nests}
+use Rattle.element_tree.specs.declared.kinds.Kind.TheVariants as kinds
+use Rattle.element_tree.specs.Types.{is_section}
+use Rattle.element_tree.specs.Tree.{Tree, Nests, Apart}
 use Rattle.logic_controllers.specs.ControllerRounds.{begun_after}
 use Rattle.jm_meaning.specs.Children.{children_of}
 use Rattle.jm_meaning.specs.Beginning.{max_rounds}
 use Rattle.control_machine.specs.declared.cursor.Cursor.{Cursor}
-use Rattle.control_machine.specs.declared.cursor.Cursor.TheVariants.{Simple, Once, Loop, If, While, Each, Interleave, Random, Order, Switch, Transaction}
+use Rattle.control_machine.specs.declared.cursor.Cursor.TheVariants.{Simple, Once, Loop, If, While, Each, Interleave, Random, Order, Switch, Transaction, Section}
 use Rattle.control_machine.specs.declared.stack.Frame.{Frame}
 use Rattle.control_machine.specs.declared.machine.Group.{Group}
-use Rattle.control_machine.specs.Cursors.{FitsKind, begun_of}
+use Rattle.control_machine.specs.Cursors.{Shut, Plain, Summing, Leaving, shut_of, lock_in, FitsKind, begun_of}
 use Rattle.control_machine.specs.declared.machine.Machine.{Machine}
 use Rattle.control_machine.specs.declared.machine.Went.{Went}
-use Rattle.control_machine.specs.declared.machine.Went.TheVariants.{On}
 use Rattle.var_functions.specs.declared.error.VarError.{VarError}
 use Rattle.var_functions.specs.declared.error.VarError.TheVariants.{NoMemory}
 use Rattle.cursor_steps.specs.RunningChildren.{is_run_at, runs_of}
 use Rattle.control_machine.specs.Load.{children_count, waiting, children_left}
-use Rattle.control_machine.specs.Left.{IsOpen, AreOpen, GroupIsOpen, IsOut, StandsIn}
-use Rattle.control_machine.specs.Turns.{IsOpened, IsRoundless, IsRoundIn}
+use Rattle.control_machine.specs.Left.{KeepsLock, open_lock, IsAlone, IsApart, AreApart, IsOpen, AreOpen, GroupIsOpen, IsOut, StandsIn}
+use Rattle.control_machine.specs.Turns.{IsWent, IsOpened, IsRoundless, IsRoundIn, IsNormalOn, MovesLockOn, opening_move}
 use Rattle.control_machine.proofs.LoadLaws.{few_runs}
 
 -- with fewer rounds left
 pub fewer_open : (elements : List Element) (m n : ℕ) (fs : List Frame) → m ≤ n → AreOpen elements n fs → AreOpen elements m fs
 fewer_open elements m n [] le h = tt
 fewer_open elements m n (f ∷ fs) le h =
-    (record { element = h.0.element; there = h.0.there; fits = h.0.fits; below = h.0.below; depth = h.0.depth; bound = omega (arith, h.0.bound, le) }, fewer_open elements m n fs le h.1)
+    (record { element = h.0.element; there = h.0.there; fits = h.0.fits; below = h.0.below; depth = h.0.depth; bound = omega (arith, h.0.bound, le); lock = h.0.lock }, fewer_open elements m n fs le h.1)
 
 pub fewer_group : (elements : List Element) (m n : ℕ) (g h : Group) → h ≡ g → m ≤ n → GroupIsOpen elements n g → GroupIsOpen elements m h
 fewer_group elements m n g h is le o =
-    subst (GroupIsOpen elements m) (sym is) (record { element = o.element; there = o.there; below = o.below; pass = o.pass; bound = omega (arith, o.bound, le) })
+    subst (GroupIsOpen elements m) (sym is) (record { element = o.element; there = o.there; below = o.below; apart = o.apart; pass = o.pass; bound = omega (arith, o.bound, le) })
 
 -- an element that has answered Round is open in it
 pub round_open : (elements : List Element) (left k : ℕ) (f : Frame) (turn : Turn) → turn ≡ Round → (left ≡ 0 → ⊥) → k ≡ left - 1 → IsOpen elements (begun_after max_rounds turn) left f → IsOpen elements max_rounds k f
 round_open elements left k f turn is some less o =
     let b : begun_of f.cursor + left ≤ max_rounds + 1 = subst (λ t. begun_of f.cursor + left ≤ begun_after max_rounds t) is o.bound in
-    record { element = o.element; there = o.there; fits = o.fits; below = o.below; depth = o.depth; bound = omega (arith, b, some, less) }
+    record { element = o.element; there = o.there; fits = o.fits; below = o.below; depth = o.depth; bound = omega (arith, b, some, less); lock = o.lock }
 
 pub child_open : (elements : List Element) (left place : ℕ) (f : Frame) (turn : Turn) → turn ≡ Child place → IsOpen elements (begun_after max_rounds turn) left f → IsOpen elements max_rounds left f
 child_open elements left place f turn is o = subst (λ t. IsOpen elements (begun_after max_rounds t) left f) is o
@@ -49,9 +50,9 @@ child_open elements left place f turn is o = subst (λ t. IsOpen elements (begun
 -- an element after its answer
 pub answered_open : (elements : List Element) (left : ℕ) (f : Frame) (c : Cursor) (turn : Turn) (o : IsOpen elements max_rounds left f)
     → FitsKind f.element (length (children_of elements o.element)) o.element.kind c → begun_of c ≤ begun_after (begun_of f.cursor) turn
-    → IsOpen elements (begun_after max_rounds turn) left (record { element = f.element; round = f.round; depth = f.depth; cursor = c })
-answered_open elements left f c turn o fits begun =
-    record { element = o.element; there = o.there; fits = fits; below = o.below; depth = o.depth; bound = by_turn turn begun } where
+    → shut_of c ≡ shut_of f.cursor → IsOpen elements (begun_after max_rounds turn) left (record { element = f.element; round = f.round; depth = f.depth; cursor = c })
+answered_open elements left f c turn o fits begun shut =
+    record { element = o.element; there = o.there; fits = fits; below = o.below; depth = o.depth; bound = by_turn turn begun; lock = subst (KeepsLock elements o.element.kind) (sym shut) o.lock } where
       by_turn : (turn : Turn) → begun_of c ≤ begun_after (begun_of f.cursor) turn → begun_of c + left ≤ begun_after max_rounds turn
       by_turn (Child place) h = let b = o.bound in omega (arith, h, b)
       by_turn Round h = let b = o.bound in omega (arith, h, b)
@@ -83,6 +84,7 @@ few_in_pass n count k (Random c) h = few_chosen count c.chosen h.2
 few_in_pass n count k (Order c) h = let e = h.2 in omega (arith, e)
 few_in_pass n count k (Switch c) h = few_chosen count c.chosen h.2
 few_in_pass n count k (Transaction c) h = let e = h.2 in omega (arith, e)
+few_in_pass n count k (Section c) h = let e = h.2 in omega (arith, e)
 
 -- an open element has no more children left than all elements have children
 pub few_left : (elements : List Element) (limit left : ℕ) (f : Frame) → IsOpen elements limit left f → children_left f.cursor ≤ children_count elements
@@ -105,27 +107,90 @@ all_take P zero xs all = tt
 all_take P (suc n) [] all = tt
 all_take P (suc n) (x ∷ xs) all = (all.0, all_take P n xs all.1)
 
+child_has : (P : ℕ → Type 0) (elements : List Element) (place child : ℕ) (e : Element) → AllByRecursion P e.children → slice_get (children_of elements e) place ≡ Some child → P child
+child_has P elements place child e below found =
+    all_at P (children_of elements e) place child (all_take P 65535 (runs_of elements e) (all_filter P (is_run_at elements) e.children below)) found
+
 pub child_nests : (elements : List Element) (depth place child : ℕ) (e : Element) → AllByRecursion (Nests depth elements) e.children → slice_get (children_of elements e) place ≡ Some child → Nests depth elements child
-child_nests elements depth place child e below found =
-    all_at (Nests depth elements) (children_of elements e) place child
-    (all_take (Nests depth elements) 65535 (runs_of elements e) (all_filter (Nests depth elements) (is_run_at elements) e.children below)) found
+child_nests elements depth place child e below found = child_has (Nests depth elements) elements place child e below found
+
+pub child_apart : (elements : List Element) (depth place child : ℕ) (inside : Bool) (e : Element) → AllByRecursion (Apart depth inside elements) e.children → slice_get (children_of elements e) place ≡ Some child
+    → Apart depth inside elements child
+child_apart elements depth place child inside e below found = child_has (Apart depth inside elements) elements place child e below found
+
+-- ---- sections stand in none
+
+-- an element whose cursor has moved on
+pub apart_on : (elements : List Element) (fs : List Frame) (f : Frame) (c : Cursor) → shut_of c ≡ shut_of f.cursor → IsApart elements fs f
+    → IsApart elements fs (record { element = f.element; round = f.round; depth = f.depth; cursor = c })
+apart_on elements fs f c shut h = record {
+  element = h.element;
+  there = h.there;
+  below = subst (λ o. AllByRecursion (Apart f.depth (is_some (lock_in o (open_lock fs))) elements) h.element.children) (sym shut) h.below;
+  alone = subst (λ o. IsAlone o (open_lock fs)) (sym shut) h.alone;
+}
+
+-- a cursor is that of a section exactly at a critical section
+section_is : (n count : ℕ) (k : Kind) (c : Cursor) → FitsKind n count k c → is_some (lock_in (shut_of c) None) ≡ is_section k
+section_is n count k (Simple c) h = sym (ap is_section h.1)
+section_is n count k (Once c) h = sym (ap is_section h.1)
+section_is n count k (Loop c) h = sym (ap is_section h.1.1)
+section_is n count k (If c) h = sym (ap is_section h.1.2)
+section_is n count k (While c) h = sym (ap is_section h.1.1)
+section_is n count k (Each c) h = sym (ap is_section h.1.2)
+section_is n count k (Interleave c) h = sym (ap is_section h.1)
+section_is n count k (Random c) h = sym (ap is_section h.1)
+section_is n count k (Order c) h = sym (ap is_section h.1)
+section_is n count k (Switch c) h = sym (ap is_section h.1.1)
+section_is n count k (Transaction c) h = sym (ap is_section h.1)
+section_is n count k (Section c) h = sym (ap is_section h.1.1)
+
+within : (o : Shut) (outer : Option ℕ) (b : Bool) → is_some (lock_in o None) ≡ b → is_some (lock_in o outer) ≡ (is_some outer || b)
+within o None b is = is
+within Plain (Some lock) b is = refl
+within (Summing tally) (Some lock) b is = refl
+within (Leaving inner) (Some lock) b is = refl
+
+not_both : not (true && true) ≡ true → ⊥
+not_both h = let i : false ≡ true = h in cc
+
+alone_by : (o : Shut) (outer : Option ℕ) (b : Bool) → is_some (lock_in o None) ≡ b → not (is_some outer && b) ≡ true → IsAlone o outer
+alone_by Plain outer b is free = tt
+alone_by (Summing tally) outer b is free = tt
+alone_by (Leaving lock) None b is free = refl
+alone_by (Leaving lock) (Some other) b is free = absurd (not_both (subst (λ b. not (true && b) ≡ true) (sym is) free))
+
+-- an element that is opened inside these
+pub opened_apart : (elements : List Element) (fs : List Frame) (n round depth : ℕ) (c : Cursor) (e : Element) → slice_get elements n ≡ Some e → FitsKind n (length (children_of elements e)) e.kind c
+    → not (is_some (open_lock fs) && is_section e.kind) ≡ true → AllByRecursion (Apart (depth - 1) (is_some (open_lock fs) || is_section e.kind) elements) e.children
+    → IsApart elements fs (record { element = n; round = round; depth = depth - 1; cursor = c })
+opened_apart elements fs n round depth c e there fits free below =
+    let is : is_some (lock_in (shut_of c) None) ≡ is_section e.kind = section_is n (length (children_of elements e)) e.kind c fits in
+    record {
+      element = e;
+      there = there;
+      below = subst (λ b. AllByRecursion (Apart (depth - 1) b elements) e.children) (sym (within (shut_of c) (open_lock fs) (is_section e.kind) is)) below;
+      alone = alone_by (shut_of c) (open_lock fs) (is_section e.kind) is free;
+    }
 
 -- ---- where a cursor was pushed
 
 abbrev pub Pushed : Machine → Machine → Frame → Result Went VarError → Type 0
-Pushed m m' f res = MatchResult res (λ w. (w ≡ On) × (m'.stack.frames ≡ f ∷ m.stack.frames)) (λ e. e ≡ NoMemory)
+Pushed m m' f res = MatchResult res (λ w. (w ≡ opening_move (shut_of f.cursor)) × (m'.stack.frames ≡ f ∷ m.stack.frames)) (λ e. e ≡ NoMemory)
 
 abbrev pub IsRest : Machine → Machine → Type 0
 IsRest m m' = (m'.group ≡ m.group) × (m'.rounds ≡ m.rounds) × (m'.at_failure ≡ m.at_failure) × (m'.signal ≡ m.signal)
 
-pub pushed_stands : (plan : Tree) (m m' : Machine) (f : Frame) (res : Result Went VarError) → Pushed m m' f res → IsRest m m' → IsOpen plan.elements max_rounds m.rounds f → StandsIn plan m → IfOk res (λ w. StandsIn plan m')
-pushed_stands plan m m' f (Ok w) pushed rest open' stands = record {
+pub pushed_stands : (plan : Tree) (m m' : Machine) (f : Frame) (res : Result Went VarError) → Pushed m m' f res → IsRest m m' → IsOpen plan.elements max_rounds m.rounds f
+    → IsApart plan.elements m.stack.frames f → StandsIn plan m → IfOk res (λ w. StandsIn plan m')
+pushed_stands plan m m' f (Ok w) pushed rest open' apart stands = record {
   group = fewer_group plan.elements m'.rounds m.rounds m.group m'.group rest.0 (let r = rest.1 in omega (arith, r)) stands.group;
   open_ = subst (λ fs. AreOpen plan.elements m'.rounds fs) (sym pushed.1) (subst (λ n. AreOpen plan.elements n (f ∷ m.stack.frames)) (sym rest.1) (open', stands.open_));
+  apart = subst (AreApart plan.elements) (sym pushed.1) (apart, stands.apart);
   failure = subst IsOut (sym rest.2) stands.failure;
   signal = subst IsOut (sym rest.3) stands.signal;
 }
-pushed_stands plan m m' f (Err e) pushed rest open' stands = tt
+pushed_stands plan m m' f (Err e) pushed rest open' apart stands = tt
 
 pub pushed_opens : (plan : Tree) (m m' : Machine) (n round depth : ℕ) (c : Cursor) (e : Element) → slice_get plan.elements n ≡ Some e → FitsKind n (length (children_of plan.elements e)) e.kind c → (res : Result Went VarError)
     → Pushed m m' (record { element = n; round = round; depth = depth - 1; cursor = c }) res → IfOk res (λ w. IsOpened plan.elements depth m.stack.frames m'.stack.frames)
@@ -136,9 +201,44 @@ pushed_opens plan m m' n round depth c e there fits (Ok w) pushed =
 pushed_opens plan m m' n round depth c e there fits (Err error) pushed = tt
 
 pub pushed_rounds : (m m' : Machine) (f : Frame) (res : Result Went VarError) → Pushed m m' f res → m'.rounds ≡ m.rounds → IfOk res (λ w. IsRoundless w m.rounds m'.rounds)
-pushed_rounds m m' f (Ok w) pushed same = rw pushed.0 (omega (arith, same))
+pushed_rounds m m' f (Ok w) pushed same = rw pushed.0 (by_shut (shut_of f.cursor)) where
+  by_shut : (o : Shut) → IsRoundless (opening_move o) m.rounds m'.rounds
+  by_shut Plain = omega (arith, same)
+  by_shut (Summing tally) = omega (arith, same)
+  by_shut (Leaving lock) = omega (arith, same)
 pushed_rounds m m' f (Err e) pushed same = tt
 
 pub pushed_begins : (m m' : Machine) (f : Frame) (res : Result Went VarError) → Pushed m m' f res → IfOk res (λ w. IsRoundIn w m'.group)
-pushed_begins m m' f (Ok w) pushed = rw pushed.0 tt
+pushed_begins m m' f (Ok w) pushed = rw pushed.0 (by_shut (shut_of f.cursor)) where
+  by_shut : (o : Shut) → IsRoundIn (opening_move o) m'.group
+  by_shut Plain = tt
+  by_shut (Summing tally) = tt
+  by_shut (Leaving lock) = tt
 pushed_begins m m' f (Err e) pushed = tt
+
+pub pushed_normal : (m m' : Machine) (f : Frame) (res : Result Went VarError) → Pushed m m' f res → IfOk res (λ w. IsNormalOn w m'.signal)
+pushed_normal m m' f (Ok w) pushed = rw pushed.0 (by_shut (shut_of f.cursor)) where
+  by_shut : (o : Shut) → IsNormalOn (opening_move o) m'.signal
+  by_shut Plain = tt
+  by_shut (Summing tally) = tt
+  by_shut (Leaving lock) = tt
+pushed_normal m m' f (Err e) pushed = tt
+
+-- a section that is entered is the one that is open then
+pub pushed_lock : (m m' : Machine) (f : Frame) (res : Result Went VarError) → Pushed m m' f res → IsAlone (shut_of f.cursor) (open_lock m.stack.frames)
+    → IfOk res (λ w. MovesLockOn w (open_lock m.stack.frames) (open_lock m'.stack.frames))
+pushed_lock m m' f (Ok w) pushed alone = rw (pushed.0, pushed.1) (by_shut (shut_of f.cursor) alone) where
+  by_shut : (o : Shut) → IsAlone o (open_lock m.stack.frames) → MovesLockOn (opening_move o) (open_lock m.stack.frames) (lock_in o (open_lock m.stack.frames))
+  by_shut Plain alone = refl
+  by_shut (Summing tally) alone = refl
+  by_shut (Leaving lock) alone = (alone, refl)
+pushed_lock m m' f (Err e) pushed alone = tt
+
+pub pushed_given : (elements : List Element) (n : ℕ) (e : Element) (m m' : Machine) (f : Frame) (res : Result Went VarError) → slice_get elements n ≡ Some e → KeepsLock elements e.kind (shut_of f.cursor)
+    → Pushed m m' f res → IfOk res (IsWent elements)
+pushed_given elements n e m m' f (Ok w) there keeps pushed = rw pushed.0 (by_shut (shut_of f.cursor) keeps) where
+  by_shut : (o : Shut) → KeepsLock elements e.kind o → IsWent elements (opening_move o)
+  by_shut Plain keeps = tt
+  by_shut (Summing tally) keeps = tt
+  by_shut (Leaving lock) keeps = record { number = n; element = e; there = there; name = keeps.0; kind = keeps.1; lock_is = keeps.2 }
+pushed_given elements n e m m' f (Err error) there keeps pushed = tt

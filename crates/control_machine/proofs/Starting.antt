@@ -19,7 +19,7 @@ use Rattle.jm_meaning.specs.Children.{children_of}
 use Rattle.jm_meaning.specs.Meaning.{Here, here_at, meaning, signal_of, failure_in, failure_of, group_rounds, group_meaning, group_part}
 use Rattle.control_machine.specs.Opened.{Opened}
 use Rattle.control_machine.specs.declared.machine.Machine.{Machine}
-use Rattle.control_machine.specs.Left.{left_in, rest_of, left_of, children_at, AreOpen, IsOut, StandsIn}
+use Rattle.control_machine.specs.Left.{left_in, rest_of, left_of, children_at, AreOpen, AreApart, IsOut, StandsIn}
 use Rattle.control_machine.proofs.PassLaws.{none-left, count-is}
 use Rattle.control_machine.proofs.CameSteps.{same_element}
 
@@ -50,10 +50,12 @@ new_stands plan number e loops on_error children stack places failure group ther
         element = group.element;
         there = group.there;
         below = group.nests;
+        apart = group.apart;
         pass = count ∙ ap (run_count plan.elements) (sym d) ∙ sym (count-is plan.elements group.element);
         bound = omega arith;
       };
       open_ = subst (AreOpen plan.elements 16777216) (sym empty) tt;
+      apart = subst (AreApart plan.elements) (sym empty) tt;
       failure = subst IsOut (sym action) (action_out on_error);
       signal = tt;
     }

@@ -26,7 +26,7 @@ use Rattle.jm_meaning.specs.Choices.{chosen}
 use Rattle.jm_meaning.specs.declared.transaction.Tally.{Tally}
 use Rattle.jm_meaning.specs.Beginning.{max_rounds}
 use Rattle.control_machine.specs.declared.cursor.Cursor.{Cursor}
-use Rattle.control_machine.specs.declared.cursor.Cursor.TheVariants.{Simple, Once, Loop, If, While, Each, Interleave, Random, Order, Switch, Transaction}
+use Rattle.control_machine.specs.declared.cursor.Cursor.TheVariants.{Simple, Once, Loop, If, While, Each, Interleave, Random, Order, Switch, Transaction, Section}
 use Rattle.control_machine.specs.Moves.{pass_left}
 
 abbrev pub simple_left : Below → ℕ → List ℕ → SimpleCursor → Part
@@ -109,11 +109,25 @@ cursor_left below round children e (Random c) = random_left below round children
 cursor_left below round children e (Order c) = order_left below round children c
 cursor_left below round children e (Switch c) = switch_left below round children c
 cursor_left below round children e (Transaction c) = simple_left below round children c.children
+cursor_left below round children e (Section c) = simple_left below round children c.children
 
--- what a transaction has counted of the samples in it; the other controllers count none
-abbrev pub tally_in : Cursor → Option Tally
-tally_in (Transaction c) = Some c.tally
-tally_in c = None
+-- what comes when an element is left: nothing, the sample of a transaction that has counted this, or that the section of a
+-- lock is left
+pub data Shut : Type 0 where
+  Plain : Shut
+  Summing : Tally → Shut
+  Leaving : ℕ → Shut
+
+abbrev pub shut_of : Cursor → Shut
+shut_of (Transaction c) = Summing c.tally
+shut_of (Section c) = Leaving c.lock
+shut_of c = Plain
+
+-- the lock of the section that is open, where this is inside the element or is the section itself
+abbrev pub lock_in : Shut → Option ℕ → Option ℕ
+lock_in Plain outer = outer
+lock_in (Summing tally) outer = outer
+lock_in (Leaving lock) outer = Some lock
 
 -- how many rounds have begun
 abbrev pub begun_of : Cursor → ℕ
@@ -128,6 +142,7 @@ begun_of (Random c) = 0
 begun_of (Order c) = 0
 begun_of (Switch c) = 0
 begun_of (Transaction c) = 0
+begun_of (Section c) = 0
 
 -- the round that the children are in, from 0: that of the element itself where it has rounds
 abbrev pub round_in : ℕ → Cursor → ℕ
@@ -142,6 +157,7 @@ round_in round (Random c) = round
 round_in round (Order c) = round
 round_in round (Switch c) = round
 round_in round (Transaction c) = round
+round_in round (Section c) = round
 
 -- A cursor stands at the element of this number, which is of its kind and has that many children that run.
 abbrev pub FitsKind : ℕ → ℕ → Kind → Cursor → Type 0
@@ -156,3 +172,4 @@ FitsKind n count k (Random c) = (c.element ≡ n) × (k ≡ kinds.Random) × IfS
 FitsKind n count k (Order c) = (c.element ≡ n) × (k ≡ kinds.RandomOrder) × (length (order_of c) ≤ count)
 FitsKind n count k (Switch c) = (c.element ≡ n) × ((t : Pieces) × (k ≡ kinds.Switch t)) × IfSome c.chosen (λ place. place < count)
 FitsKind n count k (Transaction c) = (c.children.element ≡ n) × (k ≡ kinds.Transaction) × (c.children.pass.children ≤ count)
+FitsKind n count k (Section c) = (c.children.element ≡ n) × ((name : List ℕ) × (k ≡ kinds.CriticalSection name)) × (c.children.pass.children ≤ count)

@@ -1,14 +1,15 @@
 -- What is left of a thread's run, seen from its innermost open element.
-use Rattle.std.specs.Prelude.{◌≡◌, ℕ, ◌+◌, ◌-◌, ◌≤◌, List, [], ◌∷◌, length, Option, Some, None, slice_get, unwrap_or}
+use Rattle.std.specs.Prelude.{◌≡◌, ℕ, ◌+◌, ◌-◌, ◌≤◌, List, [], ◌∷◌, length, Option, Some, None, Bool, false, is_some, slice_get, unwrap_or}
 use Rattle.std.specs.Option.{option_map}
 use Rattle.std.specs.List.{AllByRecursion}
 use Rattle.jm_base.specs.declared.types.End.{End}
 use Rattle.jm_base.specs.declared.types.End.TheVariants.{Completed, StopThread, StopTest, Stopped, SampleLimit, RoundLimit, ValueLimit, NoMemory}
-use Rattle.jm_base.specs.Run.{Run, over}
+use Rattle.jm_base.specs.Run.{Run, over, give, Entered as EnteredEvent, Left as LeftEvent}
 use Rattle.element_tree.specs.declared.kinds.Element.{Element}
 use Rattle.element_tree.specs.declared.kinds.Kind.{Kind}
-use Rattle.element_tree.specs.declared.kinds.Kind.TheVariants.{Script, Transaction}
-use Rattle.element_tree.specs.Tree.{Tree, Nests}
+use Rattle.element_tree.specs.declared.kinds.Kind.TheVariants.{Script, Transaction, CriticalSection}
+use Rattle.element_tree.specs.Names.{lock_of}
+use Rattle.element_tree.specs.Tree.{Tree, Nests, Apart}
 use Rattle.var_functions.specs.declared.state.UserState.{UserState}
 pub use Rattle.sampler_pipeline.specs.SamplerPipeline.{label_at}
 use Rattle.jm_meaning.specs.declared.signal.Signal.{Signal}
@@ -18,7 +19,7 @@ use Rattle.jm_meaning.specs.Rounds.{round_of_group, round_start}
 use Rattle.jm_meaning.specs.Children.{children_of, in_order}
 use Rattle.jm_meaning.specs.Sampling.{sampling}
 use Rattle.jm_meaning.specs.Transactions.{with_own_sample, transaction_from}
-use Rattle.jm_meaning.specs.declared.transaction.Tally.{Tally}
+use Rattle.jm_meaning.specs.Sections.{leaving}
 use Rattle.jm_meaning.specs.Beginning.{max_rounds}
 use Rattle.jm_meaning.specs.Meaning.{Here, children_in, meaning, group_rounds}
 use Rattle.control_machine.specs.declared.stack.Frame.{Frame}
@@ -27,20 +28,22 @@ use Rattle.control_machine.specs.declared.machine.Machine.{Machine}
 use Rattle.control_machine.specs.declared.moves.Move.{Move}
 use Rattle.control_machine.specs.declared.moves.Move.TheVariants.{Iteration, RunSampler, EnterSection, LeaveSection, TransactionSample, Finished}
 use Rattle.control_machine.specs.Moves.{pass_left}
-use Rattle.control_machine.specs.Cursors.{cursor_left, tally_in, begun_of, FitsKind}
+use Rattle.control_machine.specs.Cursors.{cursor_left, Shut, Plain, Summing, Leaving, shut_of, lock_in, begun_of, FitsKind}
 
 -- what an open element gives after the child that is open
 abbrev pub frame_left : Here → Frame → Option Element → Part
 frame_left here f None s = over (normal s)
 frame_left here f (Some e) s = cursor_left (meaning here f.depth) f.round (children_in here e) e f.cursor s
 
--- what an open element makes of the run in it: a transaction counts the samples, and gives its own after them
-abbrev pub closing : ℕ → Option Tally → Run Ending → Run Ending
-closing label None inner = inner
-closing label (Some tally) inner = transaction_from label tally inner
+-- what an open element makes of the run in it: a transaction counts the samples, and gives its own after them; a section is
+-- left after it
+abbrev pub closing : ℕ → Shut → Run Ending → Run Ending
+closing label Plain inner = inner
+closing label (Summing tally) inner = transaction_from label tally inner
+closing label (Leaving lock) inner = leaving lock inner
 
 abbrev pub closed : Here → Frame → Run Ending → Run Ending
-closed here f inner = closing (label_at here.plan.elements f.element) (tally_in f.cursor) inner
+closed here f inner = closing (label_at here.plan.elements f.element) (shut_of f.cursor) inner
 
 abbrev pub around : Here → Frame → Run Ending → Run Ending
 around here f inner = closed here f (and_then inner (frame_left here f (slice_get here.plan.elements f.element)))
@@ -49,6 +52,11 @@ around here f inner = closed here f (and_then inner (frame_left here f (slice_ge
 unfoldable pub rest_of : Here → List Frame → Run Ending → Run Ending
 rest_of here [] inner = inner
 rest_of here (f ∷ fs) inner = rest_of here fs (around here f inner)
+
+-- the lock of the section that is open, if one is
+abbrev pub open_lock : List Frame → Option ℕ
+open_lock [] = None
+open_lock (f ∷ fs) = lock_in (shut_of f.cursor) (open_lock fs)
 
 -- the children of the element at this place that run
 abbrev pub children_at : List Element → ℕ → List ℕ
@@ -103,12 +111,12 @@ abbrev pub ended : End → State → Ending
 ended Completed s = normal s
 ended end s = stopped end s
 
--- what is left after a move; sections come to no move yet
+-- what is left after a move
 abbrev pub moved : Tree → Machine → State → Move → Run Ending
 moved plan m s (Iteration index) = left_after plan m (round_start plan.elements m.group.element s)
 moved plan m s (RunSampler number) = left_after plan m (sampler_part (here_in plan m) number (slice_get plan.elements number) s)
-moved plan m s (EnterSection lock) = left_of plan m s
-moved plan m s (LeaveSection lock) = left_of plan m s
+moved plan m s (EnterSection lock) = with_unit s (λ s. give (EnteredEvent lock) (left_of plan m s))
+moved plan m s (LeaveSection lock) = give (LeftEvent lock) (left_of plan m s)
 moved plan m s (TransactionSample element tally) =
     left_after plan m (with_own_sample (label_at plan.elements element) tally (record { state = s; signal = m.signal }))
 moved plan m s (Finished end) = over (ended end s)
@@ -140,12 +148,27 @@ pub record IsTransaction (elements : List Element) (number : ℕ) : Type 0 where
   pub there : slice_get elements number ≡ Some element
   pub kind : element.kind ≡ Transaction
 
+-- a section keeps the lock of its element
+abbrev pub KeepsLock : List Element → Kind → Shut → Type 0
+KeepsLock elements k Plain = Unit {0}
+KeepsLock elements k (Summing tally) = Unit {0}
+KeepsLock elements k (Leaving lock) = (name : List ℕ) × (k ≡ CriticalSection name) × (lock ≡ lock_of elements name)
+
+-- the number is that of the lock of a critical section
+pub record IsLock (elements : List Element) (lock : ℕ) : Type 0 where
+  pub number : ℕ
+  pub element : Element
+  pub there : slice_get elements number ≡ Some element
+  pub name : List ℕ
+  pub kind : element.kind ≡ CriticalSection name
+  pub lock_is : lock ≡ lock_of elements name
+
 -- the moves that a machine makes
 abbrev pub IsMove : List Element → Move → Type 0
 IsMove elements (Iteration index) = Unit {0}
 IsMove elements (RunSampler number) = IsSampler elements number
-IsMove elements (EnterSection lock) = ⊥
-IsMove elements (LeaveSection lock) = ⊥
+IsMove elements (EnterSection lock) = IsLock elements lock
+IsMove elements (LeaveSection lock) = IsLock elements lock
 IsMove elements (TransactionSample element tally) = IsTransaction elements element
 IsMove elements (Finished end) = IsFinish end
 
@@ -160,16 +183,35 @@ pub record IsOpen (elements : List Element) (limit left : ℕ) (f : Frame) : Typ
   pub below : AllByRecursion (Nests f.depth elements) element.children
   pub depth : f.depth ≤ 29
   pub bound : begun_of f.cursor + left ≤ limit
+  pub lock : KeepsLock elements element.kind (shut_of f.cursor)
 
 abbrev pub AreOpen : List Element → ℕ → List Frame → Type 0
 AreOpen elements left [] = Unit {0}
 AreOpen elements left (f ∷ fs) = IsOpen elements max_rounds left f × AreOpen elements left fs
+
+-- a section is open inside no other
+abbrev pub IsAlone : Shut → Option ℕ → Type 0
+IsAlone Plain outer = Unit {0}
+IsAlone (Summing tally) outer = Unit {0}
+IsAlone (Leaving lock) outer = outer ≡ None
+
+-- an open element inside these: no critical section stands below one that is open
+pub record IsApart (elements : List Element) (fs : List Frame) (f : Frame) : Type 0 where
+  pub element : Element
+  pub there : slice_get elements f.element ≡ Some element
+  pub below : AllByRecursion (Apart f.depth (is_some (open_lock (f ∷ fs))) elements) element.children
+  pub alone : IsAlone (shut_of f.cursor) (open_lock fs)
+
+abbrev pub AreApart : List Element → List Frame → Type 0
+AreApart elements [] = Unit {0}
+AreApart elements (f ∷ fs) = IsApart elements fs f × AreApart elements fs
 
 -- the group, with children that nest at most that deep, and rounds within the limit
 pub record GroupIsOpen (elements : List Element) (left : ℕ) (g : Group) : Type 0 where
   pub element : Element
   pub there : slice_get elements g.element ≡ Some element
   pub below : AllByRecursion (Nests 30 elements) element.children
+  pub apart : AllByRecursion (Apart 30 false elements) element.children
   pub pass : g.pass.children ≡ length (children_of elements element)
   pub bound : g.begun + left ≤ max_rounds
 
@@ -179,11 +221,13 @@ IsOut Normal = Unit {0}
 IsOut NextLoop = Unit {0}
 IsOut (Stop StopThread) = Unit {0}
 IsOut (Stop StopTest) = Unit {0}
+IsOut (Stop RoundLimit) = Unit {0}
 IsOut (Stop end) = ⊥
 
 -- a machine stands in the plan for which it was made
 pub record StandsIn (plan : Tree) (m : Machine) : Type 0 where
   pub group : GroupIsOpen plan.elements m.rounds m.group
   pub open_ : AreOpen plan.elements m.rounds m.stack.frames
+  pub apart : AreApart plan.elements m.stack.frames
   pub failure : IsOut m.at_failure
   pub signal : IsOut m.signal

@@ -6,7 +6,7 @@ use Rattle.element_tree.specs.declared.package.Turn.TheVariants as turns
 use Rattle.cursor_steps.specs.declared.pass.Pass.{Pass}
 use Rattle.choice_controllers.specs.RandomOrderController.{order_of}
 use Rattle.control_machine.specs.declared.cursor.Cursor.{Cursor}
-use Rattle.control_machine.specs.declared.cursor.Cursor.TheVariants.{Simple, Once, Loop, If, While, Each, Interleave, Random, Order, Switch, Transaction}
+use Rattle.control_machine.specs.declared.cursor.Cursor.TheVariants.{Simple, Once, Loop, If, While, Each, Interleave, Random, Order, Switch, Transaction, Section}
 use Rattle.control_machine.specs.declared.stack.Frame.{Frame}
 use Rattle.control_machine.specs.declared.machine.Machine.{Machine}
 
@@ -41,6 +41,7 @@ children_left (Random c) = waiting c.chosen
 children_left (Order c) = length (order_of c) - c.next
 children_left (Switch c) = waiting c.chosen
 children_left (Transaction c) = remaining c.children.pass
+children_left (Section c) = remaining c.children.pass
 
 -- an element that answers a child has fewer of them left
 abbrev pub TakesChild : ℕ → ℕ → Turn → Type 0

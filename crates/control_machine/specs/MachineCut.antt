@@ -12,7 +12,7 @@ use Rattle.jm_meaning.specs.Meaning.{meaning}
 use Rattle.jm_meaning.specs.Cut.{StandsLater}
 use Rattle.control_machine.specs.declared.cursor.Cursor.{Cursor}
 use Rattle.control_machine.specs.declared.machine.Machine.{Machine}
-use Rattle.control_machine.specs.Cursors.{cursor_left, tally_in}
+use Rattle.control_machine.specs.Cursors.{cursor_left, shut_of}
 use Rattle.control_machine.specs.Left.{Beside, left_of, left_after, here_in, state_at}
 
 -- where a thread stands in its run: between two turns, or before an element is entered at which elements nest that deep
@@ -40,7 +40,7 @@ pub record IsCut (plan : Tree) (before : Account) (run : Beside → Run Ending) 
 pub record IsCutIn (e : Element) (old : Cursor) (before new : UserState) : Type 0 where
   pub cursor : Cursor
   pub between : UserState
-  pub tally : tally_in cursor ≡ tally_in old
+  pub shut : shut_of cursor ≡ shut_of old
   pub same : (below : Below) (round : ℕ) (children : List ℕ) (own : Own)
       → cursor_left below round children e old (state_of before own) ≡ cursor_left below round children e cursor (state_of between own)
   pub stands : StandsLater between new

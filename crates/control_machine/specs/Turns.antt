@@ -1,5 +1,5 @@
 -- What one turn of a machine comes to.
-use Rattle.std.specs.Prelude.{◌≡◌, ◌⊎◌, ℕ, ◌+◌, ◌-◌, ◌*◌, ◌<◌, ◌≤◌, List, ◌∷◌, Option, Some, None, nat_lt, if◌then◌else◌}
+use Rattle.std.specs.Prelude.{◌≡◌, ◌⊎◌, ℕ, ◌+◌, ◌-◌, ◌*◌, ◌<◌, ◌≤◌, List, ◌∷◌, Option, Some, None, Bool, ◌&&◌, nat_lt, if◌then◌else◌}
 use Rattle.jm_base.specs.declared.types.End.TheVariants.{StopThread, StopTest}
 use Rattle.jm_base.specs.Run.{Run}
 use Rattle.element_tree.specs.declared.kinds.Element.{Element}
@@ -16,12 +16,12 @@ use Rattle.control_machine.specs.declared.machine.Machine.{Machine}
 use Rattle.control_machine.specs.declared.machine.Went.{Went}
 use Rattle.control_machine.specs.declared.machine.Went.TheVariants.{On, To}
 use Rattle.control_machine.specs.declared.moves.Move.{Move}
-use Rattle.control_machine.specs.declared.moves.Move.TheVariants.{Iteration, RunSampler, TransactionSample}
+use Rattle.control_machine.specs.declared.moves.Move.TheVariants.{Iteration, RunSampler, EnterSection, LeaveSection, TransactionSample, Finished}
 use Rattle.control_machine.specs.declared.moves.Leave.{Leave}
 use Rattle.control_machine.specs.declared.moves.Leave.TheVariants as leaves
-use Rattle.jm_meaning.specs.declared.transaction.Tally.{Tally}
+use Rattle.jm_meaning.specs.Transactions.{gives_sample}
 use Rattle.control_machine.specs.Moves.{turned}
-use Rattle.control_machine.specs.Cursors.{cursor_left, round_in, tally_in}
+use Rattle.control_machine.specs.Cursors.{cursor_left, round_in, Shut, Plain, Summing, Leaving, shut_of}
 use Rattle.control_machine.specs.Left.{left_of, left_in, left_after, closed, here_in, moved, IsMove}
 use Rattle.control_machine.specs.Load.{children_count, scale, load, remaining, children_left}
 
@@ -34,13 +34,21 @@ abbrev pub IsWent : List Element → Went → Type 0
 IsWent elements On = Unit {0}
 IsWent elements (To move) = IsMove elements move
 
--- what an element that is left comes to: a transaction that has counted samples gives its own
-abbrev pub closing_move : ℕ → Option Tally → Went
-closing_move element None = On
-closing_move element (Some tally) = if nat_lt 0 tally.samples then To (TransactionSample element tally) else On
+-- what an element that is opened comes to: a section is entered
+abbrev pub opening_move : Shut → Went
+opening_move Plain = On
+opening_move (Summing tally) = On
+opening_move (Leaving lock) = To (EnterSection lock)
 
-abbrev pub closing_of : Frame → Went
-closing_of f = closing_move f.element (tally_in f.cursor)
+-- What an element that is left comes to: a transaction that has counted samples gives its own, where the signal is one that
+-- gives samples, and a section is left.
+abbrev pub closing_move : ℕ → Shut → Bool → Went
+closing_move element Plain gives = On
+closing_move element (Summing tally) gives = if gives && nat_lt 0 tally.samples then To (TransactionSample element tally) else On
+closing_move element (Leaving lock) gives = To (LeaveSection lock)
+
+abbrev pub closing_of : Signal → Frame → Went
+closing_of signal f = closing_move f.element (shut_of f.cursor) (gives_sample signal)
 
 -- a turn that goes on has lightened the load
 abbrev pub Lightens : Went → ℕ → ℕ → Type 0
@@ -99,3 +107,15 @@ IsRoundOf move g = Unit {0}
 abbrev pub IsRoundIn : Went → Group → Type 0
 IsRoundIn On g = Unit {0}
 IsRoundIn (To move) g = IsRoundOf move g
+
+-- what a move makes of the lock of the section that is open: a section is entered where none is open, the open one is left,
+-- and at the end none is open
+abbrev pub MovesLock : Move → Option ℕ → Option ℕ → Type 0
+MovesLock (EnterSection lock) old new = (old ≡ None) × (new ≡ Some lock)
+MovesLock (LeaveSection lock) old new = (old ≡ Some lock) × (new ≡ None)
+MovesLock (Finished end) old new = (old ≡ None) × (new ≡ None)
+MovesLock move old new = new ≡ old
+
+abbrev pub MovesLockOn : Went → Option ℕ → Option ℕ → Type 0
+MovesLockOn On old new = new ≡ old
+MovesLockOn (To move) old new = MovesLock move old new

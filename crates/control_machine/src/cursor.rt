@@ -9,11 +9,12 @@ ghost use Rattle.jm_meaning.specs.State.{Own, state_of};
 ghost use Rattle.jm_meaning.specs.Children.{Below, children_of};
 ghost use Rattle.jm_meaning.specs.Beginning.{max_rounds};
 ghost use Rattle.control_machine.specs.Moves.{turned, past};
-ghost use Rattle.control_machine.specs.Cursors.{cursor_left, tally_in, begun_of, round_in, FitsKind};
+ghost use Rattle.control_machine.specs.Cursors.{cursor_left, shut_of, begun_of, round_in, FitsKind};
 ghost use Rattle.control_machine.specs.Load.{children_left, TakesChild};
 ghost use Rattle.control_machine.specs.Hearing.{hearing};
 ghost use Rattle.control_machine.specs.MachineCut.{IsCutIn};
 
+use crate::section::OpenSection;
 use crate::transaction::OpenTransaction;
 use choice_controllers::{InterleaveCursor, OrderCursor, RandomCursor, SwitchCursor};
 use element_tree::{Plan, Turn};
@@ -36,6 +37,7 @@ pub enum Cursor {
     Order(OrderCursor),
     Switch(SwitchCursor),
     Transaction(OpenTransaction),
+    Section(OpenSection),
 }
 
 impl Cursor {
@@ -52,7 +54,7 @@ impl Cursor {
             Cursor::Interleave(_) | Cursor::Random(_) | Cursor::Order(_) | Cursor::Switch(_) => {
                 round
             }
-            Cursor::Transaction(_) => round,
+            Cursor::Transaction(_) | Cursor::Section(_) => round,
         }
     }
 
@@ -74,7 +76,7 @@ impl Cursor {
             (past (state_of state.new own)) result }
         ensures begun { IfOk result (λ turn. begun_of self.new ≤ begun_after (begun_of self.old) turn) }
         ensures pass { IfOk result (TakesChild (children_left self.old) (children_left self.new)) }
-        ensures tally { tally_in self.new ≡ tally_in self.old }
+        ensures shut { shut_of self.new ≡ shut_of self.old }
         ensures fits { (e : Element) (n : ℕ) → slice_get plan.now.elements n ≡ Some e
             → FitsKind n (length (children_of plan.now.elements e)) e.kind self.old → FitsKind n (length (children_of plan.now.elements e)) e.kind self.new }
         // After every answer, out of memory too.
@@ -94,6 +96,7 @@ impl Cursor {
             Cursor::Order(cursor) => cursor.next(alloc, plan, round, state, outside),
             Cursor::Switch(cursor) => cursor.next(alloc, plan, round, state, outside),
             Cursor::Transaction(open) => open.children.next(alloc, plan, round, state, outside),
+            Cursor::Section(open) => open.children.next(alloc, plan, round, state, outside),
         }
     }
 

@@ -12,9 +12,10 @@ ghost use Rattle.jm_meaning.specs.Meaning.{kind_meaning};
 ghost use Rattle.jm_meaning.specs.Cut.{StandsLater};
 ghost use Rattle.jm_meaning.specs.declared.signal.Signal.{Signal};
 ghost use Rattle.control_machine.specs.Moves.{past};
-ghost use Rattle.control_machine.specs.Entering.{here_with, entered, EnteredFits};
+ghost use Rattle.control_machine.specs.Entering.{here_with, entered, EnteredFits, EntersLock};
 
 use crate::cursor::Cursor;
+use crate::section::OpenSection;
 use crate::transaction::OpenTransaction;
 use choice_controllers::{InterleaveCursor, OrderCursor, RandomCursor, SwitchCursor};
 use cursor_steps::{Pass, run_count};
@@ -280,9 +281,26 @@ fn enter_transaction(plan: &Plan, child: u16, element: &Element) -> Entered
     }))
 }
 
-/// Enters the element of this number: a Loop, a Switch or an If without `all` expands its text, and the controllers that
-/// choose choose their child, by which an Interleave's place moves on. No variable is set.
-pub fn enter<O: Outside>(
+// A critical section is entered under its lock, and begins a pass over its children.
+fn enter_section(plan: &Plan, child: u16, element: &Element) -> Entered
+    requires there { (name : List ℕ) × IsThere plan.now.elements child element.now (Kind.CriticalSection name) }
+    ensures came { (failure : Signal) (below : Below) (round : ℕ) (s : State) → kind_meaning (here_with plan.now failure) below child element.now element.now.kind round s
+        ≡ entered (here_with plan.now failure) below child round element.now s result }
+    ensures fits { EnteredFits child (length (children_of plan.now.elements element.now)) element.now.kind result }
+    ensures lock { EntersLock plan.now.elements element.now.kind result }
+{
+    let lock = plan.lock_of(child);
+    Entered::Open(Cursor::Section(OpenSection {
+        children: SimpleCursor {
+            element: child,
+            pass: Pass::over(run_count(plan, element)),
+        },
+        lock,
+    }))
+}
+
+// Enters an element that is no critical section.
+fn enter_other<O: Outside>(
     alloc: Global,
     plan: &Plan,
     child: u16,
@@ -290,6 +308,7 @@ pub fn enter<O: Outside>(
     state: &mut UserState,
     outside: &mut O,
 ) -> Result<Entered, VarError>
+    requires other { (e : Element) → slice_get plan.now.elements child ≡ Some e → (name : List ℕ) → e.kind ≡ Kind.CriticalSection name → ⊥ }
     ensures came { (e : Element) (failure : Signal) (below : Below) (round : ℕ) (own : Own) → slice_get plan.now.elements child ≡ Some e
         → CameTo (O.account outside.old) (kind_meaning (here_with plan.now failure) below child e e.kind round (state_of state.old (at_places own places.old))) (O.account outside.new)
         (entered (here_with plan.now failure) below child round e (state_of state.new (at_places own places.new))) (past (state_of state.new (at_places own places.new))) result }
@@ -314,5 +333,33 @@ pub fn enter<O: Outside>(
         Kind::Switch { .. } => enter_switch(alloc, plan, child, state, outside),
         Kind::Transaction => Ok(enter_transaction(plan, child, element)),
         _ => Ok(Entered::Nothing),
+    }
+}
+
+/// Enters the element of this number: a Loop, a Switch or an If without `all` expands its text, and the controllers that
+/// choose choose their child, by which an Interleave's place moves on. A critical section is named by the number of its
+/// lock. No variable is set.
+pub fn enter<O: Outside>(
+    alloc: Global,
+    plan: &Plan,
+    child: u16,
+    places: &mut Places,
+    state: &mut UserState,
+    outside: &mut O,
+) -> Result<Entered, VarError>
+    ensures came { (e : Element) (failure : Signal) (below : Below) (round : ℕ) (own : Own) → slice_get plan.now.elements child ≡ Some e
+        → CameTo (O.account outside.old) (kind_meaning (here_with plan.now failure) below child e e.kind round (state_of state.old (at_places own places.old))) (O.account outside.new)
+        (entered (here_with plan.now failure) below child round e (state_of state.new (at_places own places.new))) (past (state_of state.new (at_places own places.new))) result }
+    ensures fits { IfOk result (λ x. (e : Element) → slice_get plan.now.elements child ≡ Some e
+        → EnteredFits child (length (children_of plan.now.elements e)) e.kind x) }
+    ensures lock { IfOk result (λ x. (e : Element) → slice_get plan.now.elements child ≡ Some e → EntersLock plan.now.elements e.kind x) }
+    ensures stands { StandsLater state.old state.new }
+{
+    let Some(element) = plan.element(child) else {
+        return Ok(Entered::Nothing);
+    };
+    match &element.kind {
+        Kind::CriticalSection { .. } => Ok(enter_section(plan, child, element)),
+        _ => enter_other(alloc, plan, child, places, state, outside),
     }
 }

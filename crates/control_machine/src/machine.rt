@@ -1,16 +1,17 @@
 // The machine: the group's rounds, and the elements that are open in its round.
 
-ghost use Rattle.std.specs.Prelude.{◌≡◌, ◌<◌, slice_get, length, IfOk, OnErr};
+ghost use Rattle.std.specs.Prelude.{◌≡◌, ◌<◌, None, slice_get, length, IfOk, OnErr};
 ghost use Rattle.element_tree.specs.Tree.{Tree, threads_of, group_of};
 ghost use Rattle.var_functions.specs.Came.{CameTo};
 ghost use Rattle.var_functions.specs.FunctionState.{IsLater};
 ghost use Rattle.jm_meaning.specs.State.{Own, state_of};
 ghost use Rattle.jm_meaning.specs.Sampling.{after_sample};
+ghost use Rattle.jm_meaning.specs.Sections.{leaving_open};
 ghost use Rattle.jm_meaning.specs.Meaning.{group_part, here_at, failure_of};
 ghost use Rattle.jm_meaning.specs.Beginning.{max_rounds, first_places};
 ghost use Rattle.control_machine.specs.Moves.{past};
-ghost use Rattle.control_machine.specs.Left.{Beside, StandsIn, left_of, state_at, moved, IsMove};
-ghost use Rattle.control_machine.specs.Turns.{Lightens, TakesRound, IsRoundless, IsNormalAt, IsNormalOn, IsRoundOf, IsRoundIn, went, IsWent, signal_left};
+ghost use Rattle.control_machine.specs.Left.{Beside, StandsIn, left_of, state_at, moved, IsMove, open_lock};
+ghost use Rattle.control_machine.specs.Turns.{Lightens, TakesRound, IsRoundless, IsNormalAt, IsNormalOn, IsRoundOf, IsRoundIn, MovesLock, MovesLockOn, went, IsWent, signal_left};
 ghost use Rattle.control_machine.specs.Load.{load_of};
 ghost use Rattle.control_machine.specs.Hearing.{told};
 ghost use Rattle.control_machine.specs.MachineCut.{IsCut};
@@ -68,6 +69,7 @@ impl Machine {
         ensures rounds { IfOk result (λ m. m.rounds ≡ max_rounds) }
         ensures places { IfOk result (λ m. m.places ≡ first_places plan.now.elements) }
         ensures group { IfOk result (λ m. m.group.element ≡ group_of plan.now thread) }
+        ensures lock { IfOk result (λ m. open_lock m.stack.frames ≡ None) }
     {
         let number = plan.group_of(thread);
         let Some(element) = plan.element(number) else {
@@ -101,8 +103,11 @@ impl Machine {
         })
     }
 
-    /// The next move. `ValueLimit` comes where a text, a value or the variables would pass their limit on the way. After a
-    /// refusal and after `Finished` the machine is spent. A refusal leaves the variables as the steps before it left them.
+    /// The next move. On a way out the open transactions give their samples and the open section is left, the innermost
+    /// first; where no round is left for an element that would begin one, the way out gives no sample. `ValueLimit` comes
+    /// where a text, a value or the variables would pass their limit on the way. After a refusal and after `Finished` the
+    /// machine is spent, and the open section is the caller's to leave. A refusal leaves the variables as the steps before
+    /// it left them.
     pub fn next<O: Outside>(
         &mut self,
         alloc: Global,
@@ -114,10 +119,11 @@ impl Machine {
         ensures came { (beside : Beside)
             → CameTo (O.account outside.old) (left_of plan.now self.old (state_at self.old beside state.old)) (O.account outside.new)
             (moved plan.now self.new (state_at self.new beside state.new))
-            (past (state_at self.new beside state.new)) result }
+            (leaving_open (open_lock self.old.stack.frames) (past (state_at self.new beside state.new))) result }
         ensures given { IfOk result (IsMove plan.now.elements) }
         ensures stands { IfOk result (λ m. StandsIn plan.now self.new) }
         ensures normal { IfOk result (λ m. IsNormalAt m self.new.signal) }
+        ensures lock { IfOk result (λ m. MovesLock m (open_lock self.old.stack.frames) (open_lock self.new.stack.frames)) }
         ensures rounds { IfOk result (λ m. TakesRound m self.old.rounds self.new.rounds) }
         ensures index { IfOk result (λ m. IsRoundOf m self.new.group) }
         ensures thread { (self.new.group.element ≡ self.old.group.element) × (self.new.at_failure ≡ self.old.at_failure) }
@@ -139,6 +145,7 @@ impl Machine {
     pub fn after(&mut self, sample: &Sample)
         ensures told { self.new ≡ told sample.now self.old }
         ensures stands { (plan : Tree) → StandsIn plan self.old → StandsIn plan self.new }
+        ensures lock { open_lock self.new.stack.frames ≡ open_lock self.old.stack.frames }
     {
         self.stack.hear(sample);
         self.signal = signal_after(sample.ok, self.at_failure);
@@ -164,11 +171,12 @@ impl Machine {
         ensures came { (beside : Beside)
             → CameTo (O.account outside.old) (left_of plan.now self.old (state_at self.old beside state.old)) (O.account outside.new)
             (went plan.now self.new (state_at self.new beside state.new))
-            (past (state_at self.new beside state.new)) result }
+            (leaving_open (open_lock self.old.stack.frames) (past (state_at self.new beside state.new))) result }
         ensures given { IfOk result (IsWent plan.now.elements) }
         ensures stands { IfOk result (λ w. StandsIn plan.now self.new) }
         ensures lighter { IfOk result (λ w. Lightens w (load_of plan.now.elements self.old) (load_of plan.now.elements self.new)) }
         ensures normal { IfOk result (λ w. IsNormalOn w self.new.signal) }
+        ensures lock { IfOk result (λ w. MovesLockOn w (open_lock self.old.stack.frames) (open_lock self.new.stack.frames)) }
         ensures rounds { IfOk result (λ w. IsRoundless w self.old.rounds self.new.rounds) }
         ensures index { IfOk result (λ w. IsRoundIn w self.new.group) }
         ensures thread { (self.new.group.element ≡ self.old.group.element) × (self.new.at_failure ≡ self.old.at_failure) }

@@ -1,10 +1,10 @@
 // The turns of a machine.
 
-ghost use Rattle.std.specs.Prelude.{◌≡◌, ◌+◌, ◌-◌, ◌≤◌, ◌<◌, slice_get, Some, List, [], ◌∷◌, IfOk, OnErr, MatchResult};
+ghost use Rattle.std.specs.Prelude.{◌≡◌, is_some, ◌+◌, ◌-◌, ◌≤◌, ◌<◌, slice_get, Some, List, [], ◌∷◌, IfOk, OnErr, MatchResult};
 ghost use Rattle.std.specs.List.{filter};
 ghost use Rattle.cursor_steps.specs.RunningChildren.{is_run_at};
 ghost use Rattle.element_tree.specs.declared.kinds.Element.{Element};
-ghost use Rattle.element_tree.specs.Tree.{Tree, Nests};
+ghost use Rattle.element_tree.specs.Tree.{Tree, Nests, Apart};
 ghost use Rattle.jm_base.specs.Run.{over};
 ghost use Rattle.var_functions.specs.Came.{CameTo};
 ghost use Rattle.var_functions.specs.FunctionState.{IsLater};
@@ -12,11 +12,14 @@ ghost use Rattle.logic_controllers.specs.ControllerRounds.{begun_after};
 ghost use Rattle.jm_meaning.specs.State.{normal};
 ghost use Rattle.jm_meaning.specs.Children.{children_of};
 ghost use Rattle.jm_meaning.specs.Meaning.{meaning};
+ghost use Rattle.jm_meaning.specs.Sections.{leaving_open};
+ghost use Rattle.jm_meaning.specs.Transactions;
 ghost use Rattle.jm_meaning.specs.Beginning.{max_rounds};
 ghost use Rattle.jm_meaning.specs.declared.signal.Signal.{Signal};
 ghost use Rattle.control_machine.specs.Moves.{past};
-ghost use Rattle.control_machine.specs.Left.{Beside, StandsIn, GroupIsOpen, IsOpen, left_of, left_after, state_at, moved, IsMove, here_in};
-ghost use Rattle.control_machine.specs.Turns.{Lightens, TakesRound, IsRoundless, IsNormalAt, IsNormalOn, IsRoundOf, IsRoundIn, went, IsWent, closing_of, left_from, left_answered, load_in, IsOpened};
+ghost use Rattle.control_machine.specs.Left.{Beside, StandsIn, GroupIsOpen, IsOpen, IsApart, left_of, left_after, state_at, moved, IsMove, here_in, open_lock};
+ghost use Rattle.control_machine.specs.Turns.{Lightens, TakesRound, IsRoundless, IsNormalAt, IsNormalOn, IsRoundOf, IsRoundIn, MovesLock, MovesLockOn, went, IsWent, opening_move, closing_move, closing_of, left_from, left_answered, load_in, IsOpened};
+ghost use Rattle.control_machine.specs.Cursors.{shut_of, Summing};
 ghost use Rattle.control_machine.specs.Load.{children_left, TakesChild, load_of};
 ghost use Rattle.control_machine.specs.MachineCut.{IsCut};
 
@@ -28,7 +31,7 @@ use crate::stack::Frame;
 use cursor_steps::is_run_at;
 use element_tree::{Plan, Turn};
 use jm_base::{End, Outside};
-use jm_meaning::Signal;
+use jm_meaning::{Signal, Tally, gives_sample};
 use logic_controllers::round_begins;
 use std::alloc::Global;
 use var_functions::{UserState, VarError};
@@ -43,12 +46,13 @@ impl Machine {
         ensures stands { (plan : Tree) → StandsIn plan self.old → StandsIn plan self.new }
         ensures lighter { (elements : List Element) → Lightens result (load_of elements self.old) (load_of elements self.new) }
         ensures normal { (plan : Tree) → StandsIn plan self.old → IsNormalOn result self.new.signal }
+        ensures lock { (plan : Tree) → StandsIn plan self.old → MovesLockOn result (open_lock self.old.stack.frames) (open_lock self.new.stack.frames) }
         ensures rounds { IsRoundless result self.old.rounds self.new.rounds }
         ensures index { IsRoundIn result self.new.group }
         ensures thread { (self.new.group.element ≡ self.old.group.element) × (self.new.at_failure ≡ self.old.at_failure) }
     {
         match self.stack.pop() {
-            Some(frame) => close(&frame),
+            Some(frame) => close(&frame, self.signal),
             None => Went::To(self.leave_round()),
         }
     }
@@ -62,6 +66,7 @@ impl Machine {
         ensures given { (plan : Tree) → StandsIn plan self.old → (self.old.signal ≡ Signal.Normal → ⊥) → IsMove plan.elements result }
         ensures stands { (plan : Tree) → StandsIn plan self.old → StandsIn plan self.new }
         ensures normal { IsNormalAt result self.new.signal }
+        ensures lock { MovesLock result (open_lock self.old.stack.frames) (open_lock self.new.stack.frames) }
         ensures rounds { TakesRound result self.old.rounds self.new.rounds }
         ensures index { IsRoundOf result self.new.group }
         ensures thread { (self.new.group.element ≡ self.old.group.element) × (self.new.at_failure ≡ self.old.at_failure) }
@@ -83,6 +88,7 @@ impl Machine {
         ensures given { (elements : List Element) → IsMove elements result }
         ensures group { (elements : List Element) → GroupIsOpen elements self.old.rounds self.old.group → GroupIsOpen elements self.new.rounds self.new.group }
         ensures rest { (self.new.stack ≡ self.old.stack) × (self.new.signal ≡ self.old.signal) }
+        ensures lock { self.old.stack.frames ≡ [] → MovesLock result (open_lock self.old.stack.frames) (open_lock self.new.stack.frames) }
         ensures rounds { TakesRound result self.old.rounds self.new.rounds }
         ensures index { IsRoundOf result self.new.group }
         ensures thread { (self.new.group.element ≡ self.old.group.element) × (self.new.at_failure ≡ self.old.at_failure) }
@@ -113,11 +119,12 @@ impl Machine {
         ensures came { (beside : Beside)
             → CameTo (O.account outside.old) (left_of plan.now self.old (state_at self.old beside state.old)) (O.account outside.new)
             (went plan.now self.new (state_at self.new beside state.new))
-            (past (state_at self.new beside state.new)) result }
+            (leaving_open (open_lock self.old.stack.frames) (past (state_at self.new beside state.new))) result }
         ensures given { IfOk result (IsWent plan.now.elements) }
         ensures stands { IfOk result (λ w. StandsIn plan.now self.new) }
         ensures lighter { IfOk result (λ w. Lightens w (load_of plan.now.elements self.old) (load_of plan.now.elements self.new)) }
-        ensures signal { IfOk result (λ w. self.new.signal ≡ Signal.Normal) }
+        ensures normal { IfOk result (λ w. IsNormalOn w self.new.signal) }
+        ensures lock { IfOk result (λ w. MovesLockOn w (open_lock self.old.stack.frames) (open_lock self.new.stack.frames)) }
         ensures rounds { IfOk result (λ w. IsRoundless w self.old.rounds self.new.rounds) }
         ensures index { IfOk result (λ w. IsRoundIn w self.new.group) }
         ensures thread { (self.new.group.element ≡ self.old.group.element) × (self.new.at_failure ≡ self.old.at_failure) }
@@ -142,15 +149,17 @@ impl Machine {
         requires stands { StandsIn plan.now self.old }
         requires normal { self.old.signal ≡ Signal.Normal }
         requires open { IsOpen plan.now.elements max_rounds self.old.rounds frame }
+        requires apart { IsApart plan.now.elements self.old.stack.frames frame }
         requires room { 0 < self.old.stack.room }
         ensures came { (beside : Beside)
             → CameTo (O.account outside.old) (left_from plan.now self.old frame (over (normal (state_at self.old beside state.old)))) (O.account outside.new)
             (went plan.now self.new (state_at self.new beside state.new))
-            (past (state_at self.new beside state.new)) result }
+            (leaving_open (open_lock (frame ∷ self.old.stack.frames)) (past (state_at self.new beside state.new))) result }
         ensures given { IfOk result (IsWent plan.now.elements) }
         ensures stands { IfOk result (λ w. StandsIn plan.now self.new) }
         ensures lighter { IfOk result (λ w. Lightens w (load_in plan.now.elements self.old (frame ∷ self.old.stack.frames)) (load_of plan.now.elements self.new)) }
-        ensures signal { IfOk result (λ w. self.new.signal ≡ Signal.Normal) }
+        ensures normal { IfOk result (λ w. IsNormalOn w self.new.signal) }
+        ensures lock { IfOk result (λ w. MovesLockOn w (open_lock (frame ∷ self.old.stack.frames)) (open_lock self.new.stack.frames)) }
         ensures rounds { IfOk result (λ w. IsRoundless w self.old.rounds self.new.rounds) }
         ensures index { IfOk result (λ w. IsRoundIn w self.new.group) }
         ensures thread { (self.new.group.element ≡ self.old.group.element) × (self.new.at_failure ≡ self.old.at_failure) }
@@ -185,17 +194,19 @@ impl Machine {
         requires stands { StandsIn plan.now self.old }
         requires normal { self.old.signal ≡ Signal.Normal }
         requires open { IsOpen plan.now.elements (begun_after max_rounds turn) self.old.rounds frame }
+        requires apart { IsApart plan.now.elements self.old.stack.frames frame }
         requires room { 0 < self.old.stack.room }
         ensures came { (e : Element) (beside : Beside) → slice_get plan.now.elements frame.element ≡ Some e
             → CameTo (O.account outside.old)
             (left_answered plan.now self.old frame e turn (state_at self.old beside state.old)) (O.account outside.new)
             (went plan.now self.new (state_at self.new beside state.new))
-            (past (state_at self.new beside state.new)) result }
+            (leaving_open (open_lock (frame ∷ self.old.stack.frames)) (past (state_at self.new beside state.new))) result }
         ensures given { IfOk result (IsWent plan.now.elements) }
         ensures stands { IfOk result (λ w. StandsIn plan.now self.new) }
         ensures lighter { IfOk result (λ w. (old : Frame) → old.depth ≡ frame.depth → TakesChild (children_left old.cursor) (children_left frame.cursor) turn
             → Lightens w (load_in plan.now.elements self.old (old ∷ self.old.stack.frames)) (load_of plan.now.elements self.new)) }
-        ensures signal { IfOk result (λ w. self.new.signal ≡ Signal.Normal) }
+        ensures normal { IfOk result (λ w. IsNormalOn w self.new.signal) }
+        ensures lock { IfOk result (λ w. MovesLockOn w (open_lock (frame ∷ self.old.stack.frames)) (open_lock self.new.stack.frames)) }
         ensures rounds { IfOk result (λ w. IsRoundless w self.old.rounds self.new.rounds) }
         ensures index { IfOk result (λ w. IsRoundIn w self.new.group) }
         ensures thread { (self.new.group.element ≡ self.old.group.element) × (self.new.at_failure ≡ self.old.at_failure) }
@@ -204,10 +215,11 @@ impl Machine {
             → OnErr result (IsCut plan.now (O.account outside.old) (λ beside. left_answered plan.now self.old frame e turn (state_at self.old beside state.old)) (O.account outside.new) state.new) }
     {
         match turn {
-            Turn::Over => Ok(close(&frame)),
+            Turn::Over => Ok(close(&frame, self.signal)),
             Turn::Round => {
                 if self.rounds == 0 {
-                    return Ok(Went::To(Move::Finished(End::RoundLimit)));
+                    self.signal = Signal::Stop(End::RoundLimit);
+                    return Ok(close(&frame, self.signal));
                 }
                 self.rounds -= 1;
                 self.stack.put(frame);
@@ -239,11 +251,12 @@ impl Machine {
         ensures came { (beside : Beside)
             → CameTo (O.account outside.old) (left_of plan.now self.old (state_at self.old beside state.old)) (O.account outside.new)
             (went plan.now self.new (state_at self.new beside state.new))
-            (past (state_at self.new beside state.new)) result }
+            (leaving_open (open_lock self.old.stack.frames) (past (state_at self.new beside state.new))) result }
         ensures given { IfOk result (IsWent plan.now.elements) }
         ensures stands { IfOk result (λ w. StandsIn plan.now self.new) }
         ensures lighter { IfOk result (λ w. Lightens w (load_of plan.now.elements self.old) (load_of plan.now.elements self.new)) }
-        ensures signal { IfOk result (λ w. self.new.signal ≡ Signal.Normal) }
+        ensures normal { IfOk result (λ w. IsNormalOn w self.new.signal) }
+        ensures lock { IfOk result (λ w. MovesLockOn w (open_lock self.old.stack.frames) (open_lock self.new.stack.frames)) }
         ensures rounds { IfOk result (λ w. IsRoundless w self.old.rounds self.new.rounds) }
         ensures index { IfOk result (λ w. IsRoundIn w self.new.group) }
         ensures thread { (self.new.group.element ≡ self.old.group.element) × (self.new.at_failure ≡ self.old.at_failure) }
@@ -276,14 +289,16 @@ impl Machine {
         requires stands { StandsIn plan.now self.old }
         requires normal { self.old.signal ≡ Signal.Normal }
         requires nests { Nests depth plan.now.elements child }
+        requires apart { Apart depth (is_some (open_lock self.old.stack.frames)) plan.now.elements child }
         requires depth { depth ≤ 30 }
         ensures came { (beside : Beside)
             → CameTo (O.account outside.old) (left_after plan.now self.old (meaning (here_in plan.now self.old) depth child round (state_at self.old beside state.old))) (O.account outside.new)
             (went plan.now self.new (state_at self.new beside state.new))
-            (past (state_at self.new beside state.new)) result }
+            (leaving_open (open_lock self.old.stack.frames) (past (state_at self.new beside state.new))) result }
         ensures given { IfOk result (IsWent plan.now.elements) }
         ensures stands { IfOk result (λ w. StandsIn plan.now self.new) }
         ensures rest { (self.new.group ≡ self.old.group) × (self.new.rounds ≡ self.old.rounds) × (self.new.at_failure ≡ self.old.at_failure) × (self.new.signal ≡ self.old.signal) }
+        ensures lock { IfOk result (λ w. MovesLockOn w (open_lock self.old.stack.frames) (open_lock self.new.stack.frames)) }
         ensures load { IfOk result (λ w. IsOpened plan.now.elements depth self.old.stack.frames self.new.stack.frames) }
         ensures rounds { IfOk result (λ w. IsRoundless w self.old.rounds self.new.rounds) }
         ensures index { IfOk result (λ w. IsRoundIn w self.new.group) }
@@ -309,11 +324,12 @@ impl Machine {
     ) -> Result<Went, VarError>
         requires { 1 ≤ depth }
         ensures pushed { MatchResult result
-            (λ w. (w ≡ Went.On) × (self.new.stack.frames ≡ record { element = element; round = round; depth = depth - 1; cursor = cursor } ∷ self.old.stack.frames))
+            (λ w. (w ≡ opening_move (shut_of cursor)) × (self.new.stack.frames ≡ record { element = element; round = round; depth = depth - 1; cursor = cursor } ∷ self.old.stack.frames))
             (λ e. e ≡ VarError.NoMemory) }
         ensures rest { (self.new.group ≡ self.old.group) × (self.new.rounds ≡ self.old.rounds) × (self.new.at_failure ≡ self.old.at_failure) × (self.new.signal ≡ self.old.signal) }
         ensures places { self.new.places ≡ self.old.places }
     {
+        let went = opening_move(&cursor);
         let frame = Frame {
             element,
             round,
@@ -321,26 +337,42 @@ impl Machine {
             cursor,
         };
         match self.stack.push(frame) {
-            Ok(()) => Ok(Went::On),
+            Ok(()) => Ok(went),
             Err(_) => Err(VarError::NoMemory),
         }
     }
 }
 
-// What an element that is left comes to: a transaction that has counted samples gives its own.
-fn close(frame: &Frame) -> Went
-    ensures { result ≡ closing_of frame.now }
+// What an element that is opened comes to: a section is entered.
+fn opening_move(cursor: &Cursor) -> Went
+    ensures { result ≡ opening_move (shut_of cursor.now) }
 {
-    let Cursor::Transaction(open) = &frame.cursor else {
-        return Went::On;
-    };
-    if open.tally.samples == 0 {
+    match cursor {
+        Cursor::Section(open) => Went::To(Move::EnterSection(open.lock)),
+        _ => Went::On,
+    }
+}
+
+// What an element that is left under this signal comes to: a transaction that has counted samples gives its own, unless a
+// limit ends the thread, and a section is left.
+fn close(frame: &Frame, signal: Signal) -> Went
+    ensures { result ≡ closing_of signal frame.now }
+{
+    match &frame.cursor {
+        Cursor::Section(open) => Went::To(Move::LeaveSection(open.lock)),
+        Cursor::Transaction(open) => close_transaction(frame.element, open.tally, signal),
+        _ => Went::On,
+    }
+}
+
+// The transaction of this number is left under this signal.
+fn close_transaction(element: u16, tally: Tally, signal: Signal) -> Went
+    ensures { result ≡ closing_move element (Summing tally) (Transactions.gives_sample signal) }
+{
+    if !gives_sample(signal) || tally.samples == 0 {
         return Went::On;
     }
-    Went::To(Move::TransactionSample {
-        element: frame.element,
-        tally: open.tally,
-    })
+    Went::To(Move::TransactionSample { element, tally })
 }
 
 // The child at this place among those of the element that run.

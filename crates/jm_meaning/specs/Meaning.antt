@@ -5,12 +5,12 @@ use Rattle.jm_base.specs.declared.types.End.TheVariants.{Completed, StopThread, 
 use Rattle.jm_base.specs.Run.{Run, over, give, wait, ◌>>=◌, Waited, Ended}
 use Rattle.element_tree.specs.declared.kinds.Element.{Element}
 use Rattle.element_tree.specs.declared.kinds.Kind.{Kind}
-use Rattle.element_tree.specs.declared.kinds.Kind.TheVariants.{ThreadGroup, Simple, OnceOnly, Loop, If, While, ForEach, Switch, Interleave, Random, RandomOrder, Transaction, Script}
+use Rattle.element_tree.specs.declared.kinds.Kind.TheVariants.{ThreadGroup, Simple, OnceOnly, Loop, If, While, ForEach, Switch, Interleave, Random, RandomOrder, Transaction, CriticalSection, Script}
 use Rattle.element_tree.specs.declared.kinds.Loops.{Loops}
 use Rattle.element_props.specs.declared.choices.OnError.{OnError}
 use Rattle.element_props.specs.declared.choices.OnError.TheVariants as on_error
 use Rattle.element_tree.specs.Tree.{Tree, group_of}
-use Rattle.element_tree.specs.Names.{label_of}
+use Rattle.element_tree.specs.Names.{label_of, lock_of}
 use Rattle.logic_controllers.specs.LoopController.{loops_of}
 use Rattle.choice_controllers.specs.SwitchController.{run_names}
 use Rattle.jm_meaning.specs.declared.signal.Signal.{Signal}
@@ -20,6 +20,7 @@ use Rattle.jm_meaning.specs.Rounds.{rounds, loop_turns, while_turns, each_turns,
 use Rattle.jm_meaning.specs.Children.{Below, children_of, in_order, once_only, if_part}
 use Rattle.jm_meaning.specs.Choices.{switch, interleave, random, random_order}
 use Rattle.jm_meaning.specs.Transactions.{transaction}
+use Rattle.jm_meaning.specs.Sections.{section}
 use Rattle.jm_meaning.specs.Sampling.{sampling}
 use Rattle.jm_meaning.specs.Beginning.{Options, max_rounds, first_of, set_first}
 use Rattle.jm_meaning.specs.RampUp.{pause_of}
@@ -60,6 +61,8 @@ kind_meaning here below number e Random round s = random below round (children_i
 kind_meaning here below number e RandomOrder round s = random_order below round (children_in here e) s
 kind_meaning here below number e Transaction round s =
     transaction (label_of here.plan.elements e.name) (in_order below round (children_in here e)) s
+kind_meaning here below number e (CriticalSection lock) round s =
+    section (lock_of here.plan.elements lock) (in_order below round (children_in here e)) s
 kind_meaning here below number e (Script replies request) round s =
     with_unit s (sampling here.plan.elements number here.at_failure)
 kind_meaning here below number e kind round s = over (normal s)

@@ -1,10 +1,10 @@
 -- What of a plan runs now.
 use Rattle.std.specs.Prelude.{Bool, true, false}
 use Rattle.element_tree.specs.declared.kinds.Kind.{Kind}
-use Rattle.element_tree.specs.declared.kinds.Kind.TheVariants.{TestPlan, ThreadGroup, Simple, OnceOnly, Loop, If, While, ForEach, Switch, Interleave, Random, RandomOrder, Transaction, Script, UserVariables, Counter, DataSet, UserParameters, ConstantTimer, UniformTimer, RegexExtractor, JsonExtractor, BoundaryExtractor, ResponseAssertion, DurationAssertion, SizeAssertion, Listener}
+use Rattle.element_tree.specs.declared.kinds.Kind.TheVariants.{TestPlan, ThreadGroup, Simple, OnceOnly, Loop, If, While, ForEach, Switch, Interleave, Random, RandomOrder, Transaction, CriticalSection, Script, UserVariables, Counter, DataSet, UserParameters, ConstantTimer, UniformTimer, RegexExtractor, JsonExtractor, BoundaryExtractor, ResponseAssertion, DurationAssertion, SizeAssertion, Listener}
 
 -- Whether elements of this kind run now: the test plan, thread groups, Simple, Once Only, Loop, If, While, ForEach,
--- Switch, Interleave, Random, Random Order and Transaction Controllers, Script samplers, User Defined Variables, Counters,
+-- Switch, Interleave, Random, Random Order, Transaction and Critical Section Controllers, Script samplers, User Defined Variables, Counters,
 -- data sets, User Parameters, timers, extractors, assertions and listeners.
 abbrev pub runs : Kind → Bool
 runs (TestPlan version) = true
@@ -20,6 +20,7 @@ runs Interleave = true
 runs Random = true
 runs RandomOrder = true
 runs Transaction = true
+runs (CriticalSection lock) = true
 runs (Script replies request) = true
 runs (UserVariables vars) = true
 runs (Counter increment maximum start var) = true

@@ -16,4 +16,4 @@ pub use places::Places;
 pub use ramp_up::ramp_up_pause;
 pub use running::runs;
 pub use signal::{Signal, signal_of};
-pub use transaction::Tally;
+pub use transaction::{Tally, gives_sample};

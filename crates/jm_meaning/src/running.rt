@@ -24,6 +24,7 @@ pub fn runs(kind: &Kind) -> bool
             | Kind::Random
             | Kind::RandomOrder
             | Kind::Transaction
+            | Kind::CriticalSection { .. }
             | Kind::Script { .. }
             | Kind::UserVariables { .. }
             | Kind::Counter { .. }

@@ -3,8 +3,9 @@
 ghost use Rattle.std.specs.Prelude.{◌≡◌, [], IfOk};
 ghost use Rattle.jm_meaning.specs.Transactions.{tally_of, with_sample, message_of, sample_by};
 
+use crate::signal::Signal;
 use itoa::Buffer;
-use jm_base::{M, Sample, Text};
+use jm_base::{End, M, Sample, Text};
 use std::alloc::Global;
 
 /// The samples of a transaction's samplers: the stamp of the first, how many there are and how many failed, and the sums of
@@ -16,6 +17,17 @@ pub struct Tally {
     pub failed: u32,
     pub elapsed: u32,
     pub bytes: u32,
+}
+
+/// Whether a transaction with samples that ends so gives its own: it gives none where a limit ends the thread.
+pub fn gives_sample(signal: Signal) -> bool
+    ensures { result ≡ Rattle.jm_meaning.specs.Transactions.gives_sample signal }
+{
+    match signal {
+        Signal::Normal | Signal::NextLoop => true,
+        Signal::Stop(End::StopThread) | Signal::Stop(End::StopTest) => true,
+        Signal::Stop(_) => false,
+    }
 }
 
 impl Tally {

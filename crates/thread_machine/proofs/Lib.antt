@@ -1,10 +1,13 @@
 pub mod StackLaws
 pub mod FirstLaws
 pub mod Labels
+pub mod SectionLaws
 pub mod Steps
+pub mod Going
 pub mod Samplers
 pub mod Summing
 pub mod Ends
 pub mod Sound
 pub mod Intervals
 pub mod Counts
+pub mod PlaceLaws

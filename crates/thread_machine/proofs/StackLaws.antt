@@ -9,10 +9,11 @@ use Rattle.jm_meaning.specs.Meaning.{Here}
 use Rattle.control_machine.specs.declared.stack.Frame.{Frame}
 use Rattle.control_machine.specs.declared.machine.Group.{Group}
 use Rattle.control_machine.specs.Moves.{past}
-use Rattle.control_machine.specs.Left.{left_in}
+use Rattle.jm_meaning.specs.Sections.{leaving_open}
+use Rattle.control_machine.specs.Left.{left_in, open_lock, AreApart}
 use Rattle.control_machine.proofs.StackLaws.{goes_left, refused_left}
 
-pub came_left : {B : Type 0} (here : Here) (g : Group) (fs : List Frame) (a b : Account) (x : Run Ending) (on : B → Run Ending) (s : State) (res : Result B VarError)
-    → CameTo a x b on (past s) res → CameTo a (left_in here g fs x) b (λ y. left_in here g fs (on y)) (past s) res
-came_left here g fs a b x on s (Ok y) h = goes_left here g fs h
-came_left here g fs a b x on s (Err e) h = refused_left here g fs h
+pub came_left : {B : Type 0} (here : Here) (g : Group) (fs : List Frame) (a b : Account) (x : Run Ending) (on : B → Run Ending) (s : State) (res : Result B VarError) → AreApart here.plan.elements fs
+    → CameTo a x b on (past s) res → CameTo a (left_in here g fs x) b (λ y. left_in here g fs (on y)) (leaving_open (open_lock fs) (past s)) res
+came_left here g fs a b x on s (Ok y) apart h = goes_left here g fs h
+came_left here g fs a b x on s (Err e) apart h = refused_left here g fs apart h

@@ -1,10 +1,11 @@
 -- What the trace of a thread that has ended says.
-use Rattle.std.specs.Prelude.{◌≡◌, ℕ, List, [], ◌∷◌, ◌++◌, map, Some}
+use Rattle.std.specs.Prelude.{◌≡◌, ◌⊎◌, ℕ, List, [], ◌∷◌, ◌++◌, map, All, Some, None}
 use Rattle.jm_base.specs.declared.types.End.{End}
 use Rattle.jm_base.specs.declared.types.End.TheVariants.{Completed, StopThread, StopTest, Stopped, SampleLimit, RoundLimit, ValueLimit, NoMemory}
 use Rattle.jm_base.specs.declared.types.Heard.{Heard}
-use Rattle.jm_base.specs.Run.{over_value}
-use Rattle.jm_base.specs.Outside.{Account, Scripts, list_form, script_form}
+use Rattle.jm_base.specs.Run.{Run, Event, give, over_value}
+use Rattle.jm_base.specs.Outside.{Account, Scripts, list_form, script_form, Path}
+use Rattle.jm_meaning.specs.declared.item.Item.TheVariants.{Ended}
 use Rattle.element_tree.specs.Tree.{Tree}
 use Rattle.jm_meaning.specs.Beginning.{Options}
 use Rattle.jm_meaning.specs.Meaning.{events}
@@ -12,6 +13,7 @@ use Rattle.jm_meaning.specs.TraceShown.{shown}
 use Rattle.thread_machine.specs.declared.trace.TraceItem.{TraceItem}
 use Rattle.thread_machine.specs.declared.trace.TraceItem.TheVariants.{Ended as EndedItem}
 use Rattle.thread_machine.specs.Bare.{bare}
+use Rattle.thread_machine.specs.SectionOrder.{open_from, left_items, IsNoEnd}
 
 -- The bare trace is the events of the thread over what was told, and all of that is used.
 pub record FollowsWhole (plan : Tree) (thread : ℕ) (options : Options) (told : List Heard) (trace : List TraceItem) : Type 0 where
@@ -29,6 +31,36 @@ pub record Follows (start now : Account) (plan : Tree) (thread : ℕ) (options :
   pub last : (prefix : List TraceItem) × (trace ≡ prefix ++ EndedItem end ∷ [])
   pub told : start.told ≡ Some [] → (told : List Heard) × (now.told ≡ Some told) × FollowsWhole plan thread options told trace
   pub scripted : (v : Scripts) → start.value ≡ Some v → IsScripted plan thread options v trace
+
+-- Hearing all of this list the run gives these events, and it hears nothing after the last of them.
+abbrev pub UsesAll : Run (Unit {0}) → List Heard → List Event → Run (Unit {0}) → Type 0
+UsesAll run told events left =
+    ((told ≡ []) × (events ≡ []) × (left ≡ run))
+    ⊎ ((earlier : List Event) × (last : Event) × (events ≡ earlier ++ last ∷ []) × Path run told earlier (give last left))
+
+-- The thread was stopped. Its run has given a prefix of its events over what was told, and these used all of that. The bare
+-- trace is what they show, then that the open section was left, then this end; before them no end stands in the trace.
+pub record FollowsStopped (plan : Tree) (thread : ℕ) (options : Options) (told : List Heard) (trace : List TraceItem) : Type 0 where
+  pub given : List Event
+  pub more : List Event
+  pub left : Run (Unit {0})
+  pub prefix : (over_value list_form (events plan thread options) told).events ≡ given ++ more
+  pub used : UsesAll (events plan thread options) told given left
+  pub items : bare trace ≡ map shown given ++ (left_items (open_from None (map shown given)) ++ Ended Stopped ∷ [])
+  pub last : (before : List TraceItem) × (trace ≡ before ++ EndedItem Stopped ∷ []) × All IsNoEnd before
+
+-- the same over the replies of a plan, which show a prefix of its events
+pub record IsScriptedStop (plan : Tree) (thread : ℕ) (options : Options) (v : Scripts) (trace : List TraceItem) : Type 0 where
+  pub given : List Event
+  pub more : List Event
+  pub prefix : (over_value script_form (events plan thread options) v).events ≡ given ++ more
+  pub items : bare trace ≡ map shown given ++ (left_items (open_from None (map shown given)) ++ Ended Stopped ∷ [])
+
+-- The trace of a stopped thread follows what its outside was told since the thread began, and its replies, where it has them.
+pub record WasStopped (start now : Account) (plan : Tree) (thread : ℕ) (options : Options) (trace : List TraceItem) : Type 0 where
+  pub last : (before : List TraceItem) × (trace ≡ before ++ EndedItem Stopped ∷ []) × All IsNoEnd before
+  pub told : start.told ≡ Some [] → (told : List Heard) × (now.told ≡ Some told) × FollowsStopped plan thread options told trace
+  pub scripted : (v : Scripts) → start.value ≡ Some v → IsScriptedStop plan thread options v trace
 
 -- how the trace of a thread with this end stands; of one that was cut, out of memory, nothing but its end is said
 abbrev pub HasRun : Account → Account → Tree → ℕ → Options → List TraceItem → End → Type 0

@@ -1,5 +1,6 @@
 pub mod Recorded
 pub mod Bare
+pub mod SectionOrder
 pub mod Standing
 pub mod Stepped
 pub mod Follows

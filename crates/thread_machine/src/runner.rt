@@ -11,15 +11,17 @@ ghost use Rattle.config_elements.specs.RoundStart.{feeds_of};
 ghost use Rattle.sampler_pipeline.specs.SamplerPipeline.{pipeline, label_at};
 ghost use Rattle.sampler_pipeline.specs.KeptPackages.{Keeps};
 ghost use Rattle.jm_meaning.specs.Rounds.{round_start};
+ghost use Rattle.jm_meaning.specs.Sections.{leaving_open};
 ghost use Rattle.jm_meaning.specs.Meaning.{and_end};
 ghost use Rattle.control_machine.specs.Moves.{past};
 ghost use Rattle.control_machine.specs.Hearing.{told};
-ghost use Rattle.control_machine.specs.Left.{StandsIn, left_of, left_after, state_at, moved, IsSampler, IsTransaction};
-ghost use Rattle.control_machine.specs.Turns.{IsNormalAt};
-ghost use Rattle.thread_machine.specs.Inside.{standing_of, GoesOn};
+ghost use Rattle.control_machine.specs.Left.{StandsIn, left_of, left_after, state_at, moved, open_lock, IsSampler, IsTransaction, IsLock};
+ghost use Rattle.control_machine.specs.Turns.{IsNormalAt, MovesLock};
+ghost use Rattle.thread_machine.specs.Inside.{standing_of, IsLimit, MovesOn, GoesOn};
 ghost use Rattle.thread_machine.specs.Standing.{IsAtStart, rest, state_in};
 ghost use Rattle.thread_machine.specs.Stepped.{entry_of, trace_paused, Gives, Steps};
-ghost use Rattle.thread_machine.specs.Ran.{left_to, IsTaken, IsRefusedAt, IsBegun, IsCutAt, IsCutAfter, GoesOnAfter, is_end};
+ghost use Rattle.thread_machine.specs.Ran.{left_to, IsTaken, IsRefusedAt, IsBegun, IsCutAt, IsCutAfter, EndsBy, GoesOnAfter, is_end};
+ghost use Rattle.thread_machine.specs.SectionOrder.{left_traced};
 
 use crate::step::Step;
 use crate::trace::{Trace, TraceItem};
@@ -35,7 +37,8 @@ use var_functions::{FnState, Props, UserState, VarError, Vars};
 /// A thread: its plan and number, the pause before its first variables that is still to come, whether those are set, its
 /// variables and what functions keep, what it keeps of Counters and data sets, the packages of the samplers that have run and
 /// the elements that took part in the last one, the machine of moves, the units left of its sample budget, the sample that is
-/// still to be noted, and its trace.
+/// still to be noted, the lock of the section that is still to be entered and of the one that is open, the end that comes
+/// after a section was left for a limit, and its trace.
 #[derive(Drop)]
 pub struct Runner<'p> {
     pub plan: &'p Plan,
@@ -49,13 +52,16 @@ pub struct Runner<'p> {
     pub machine: Machine,
     pub units: u32,
     pub owed: Option<Sample>,
+    pub entering: Option<u16>,
+    pub section: Option<u16>,
+    pub last: Option<End>,
     pub trace: Trace,
     pub alloc: Global,
 }
 
 impl<'p> Runner<'p> {
-    /// A thread before its first step. `seed` is that of the run's random words, `budget` is how many units its samplers and
-    /// transactions may use.
+    /// A thread before its first step. `seed` is that of the run's random words, `budget` is how many units its samplers,
+    /// transactions and sections may use.
     pub fn new(
         alloc: Global,
         plan: &'p Plan,
@@ -84,20 +90,57 @@ impl<'p> Runner<'p> {
             machine: Machine::new(alloc, plan, thread)?,
             units: budget,
             owed: None,
+            entering: None,
+            section: None,
+            last: None,
             trace: Trace::new(alloc)?,
             alloc,
         })
     }
 
-    /// A step. Out of memory, the thread stays as it was cut, with room for its end.
+    /// A step. Out of memory, the thread stays as it was cut, with room for a section that is left and for its end.
     pub fn try_step<O: Outside>(&mut self, outside: &mut O) -> M<Step>
         requires owed { self.old.owed ≡ None }
+        requires entering { self.old.entering ≡ None }
         requires on { GoesOn self.old }
         ensures steps { IfOk result (λ step. Steps (O.account outside.old) (O.account outside.new)
             (standing_of self.old false) (standing_of self.new (is_end step)) step) }
         ensures on { IfOk result (GoesOnAfter self.new) }
         ensures cut { OnErr result (IsCutAfter (O.account outside.old) (O.account outside.new) self.old self.new) }
-        ensures room { OnErr result (1 ≤ self.new.trace.room) }
+        ensures room { OnErr result (2 ≤ self.new.trace.room) }
+    {
+        match self.last {
+            Some(end) => Ok(self.finish(end)),
+            None => self.next_step(outside),
+        }
+    }
+
+    /// The thread ends at once: the open section is left, and the trace says how the thread ended.
+    pub fn cut(&mut self, end: End)
+        requires { 2 ≤ self.old.trace.room }
+        ensures items { self.new.trace.items ≡ self.old.trace.items ++ (left_traced self.old.section ++ TraceItem.Ended end ∷ []) }
+        ensures kept { self.new ≡ record self.old { section = None; trace = self.new.trace } }
+    {
+        match self.section {
+            Some(lock) => {
+                let _left = self.leave(lock);
+                self.trace.put(TraceItem::Ended(end));
+            }
+            None => self.trace.put(TraceItem::Ended(end)),
+        }
+    }
+
+    // A step of a thread that makes more moves.
+    fn next_step<O: Outside>(&mut self, outside: &mut O) -> M<Step>
+        requires owed { self.old.owed ≡ None }
+        requires entering { self.old.entering ≡ None }
+        requires last { self.old.last ≡ None }
+        requires on { GoesOn self.old }
+        ensures steps { IfOk result (λ step. Steps (O.account outside.old) (O.account outside.new)
+            (standing_of self.old false) (standing_of self.new (is_end step)) step) }
+        ensures on { IfOk result (GoesOnAfter self.new) }
+        ensures cut { OnErr result (IsCutAfter (O.account outside.old) (O.account outside.new) self.old self.new) }
+        ensures room { OnErr result (2 ≤ self.new.trace.room) }
     {
         self.trace.make_room()?;
         self.pause_first(outside)?;
@@ -106,9 +149,10 @@ impl<'p> Runner<'p> {
 
     // The pause before the first variables, if it is still to come.
     fn pause_first<O: Outside>(&mut self, outside: &mut O) -> M<()>
-        requires room { 4 ≤ self.old.trace.room }
+        requires room { 5 ≤ self.old.trace.room }
+        requires last { self.old.last ≡ None }
         ensures begun { OnOk result (IsBegun (O.account outside.old) (O.account outside.new) self.old self.new) }
-        ensures room { 3 ≤ self.new.trace.room }
+        ensures room { 4 ≤ self.new.trace.room }
         ensures still { OnErr result (TellsNothing (O.account outside.old) (O.account outside.new)) }
         ensures kept { OnErr result (self.new ≡ self.old) }
     {
@@ -124,20 +168,50 @@ impl<'p> Runner<'p> {
     // What comes next after the pause: a sampler runs, or the thread ends. A limit ends it.
     fn go_on<O: Outside>(&mut self, outside: &mut O) -> M<Step>
         requires owed { self.old.owed ≡ None }
+        requires entering { self.old.entering ≡ None }
+        requires last { self.old.last ≡ None }
         requires pause { self.old.pause ≡ 0 }
         requires on { GoesOn self.old }
-        requires room { 3 ≤ self.old.trace.room }
+        requires room { 4 ≤ self.old.trace.room }
         ensures gives { IfOk result (λ step. Gives (O.account outside.old) (O.account outside.new) (rest (standing_of self.old false))
             (standing_of self.old false) (standing_of self.new (is_end step)) step) }
         ensures on { IfOk result (GoesOnAfter self.new) }
         ensures cut { OnErr result (IsCutAt (O.account outside.old) (O.account outside.new) self.old self.new) }
-        ensures room { OnErr result (1 ≤ self.new.trace.room) }
+        ensures room { OnErr result (2 ≤ self.new.trace.room) }
     {
         match self.move_on(outside) {
             Ok(step) => Ok(step),
-            Err(VarError::ValueLimit) => Ok(self.finish(End::ValueLimit)),
+            Err(VarError::ValueLimit) => Ok(self.end_by(End::ValueLimit)),
             Err(VarError::NoMemory) => Err(NoMemory),
         }
+    }
+
+    // A limit ends the thread: where a section is open it is left, and the end comes next.
+    fn end_by(&mut self, end: End) -> Step
+        requires room { 1 ≤ self.old.trace.room }
+        ensures ends { EndsBy self.old.section self.old self.new end result }
+        ensures room { self.old.trace.room ≤ self.new.trace.room + 1 }
+    {
+        match self.section {
+            Some(lock) => {
+                self.last = Some(end);
+                self.leave(lock)
+            }
+            None => self.finish(end),
+        }
+    }
+
+    // The open section is left, and the trace says so.
+    fn leave(&mut self, lock: u16) -> Step
+        requires room { 1 ≤ self.old.trace.room }
+        ensures step { result ≡ Step.Leave lock }
+        ensures items { self.new.trace.items ≡ self.old.trace.items ++ TraceItem.Left lock ∷ [] }
+        ensures room { self.old.trace.room ≤ self.new.trace.room + 1 }
+        ensures kept { self.new ≡ record self.old { section = None; trace = self.new.trace } }
+    {
+        self.section = None;
+        self.trace.put(TraceItem::Left { lock });
+        Step::Leave(lock)
     }
 
     // The thread ends, and its trace says so.
@@ -145,20 +219,23 @@ impl<'p> Runner<'p> {
         requires room { 1 ≤ self.old.trace.room }
         ensures step { result ≡ Step.Ended end }
         ensures items { self.new.trace.items ≡ self.old.trace.items ++ TraceItem.Ended end ∷ [] }
+        ensures room { self.old.trace.room ≤ self.new.trace.room + 1 }
         ensures kept { self.new ≡ record self.old { trace = self.new.trace } }
     {
         self.trace.put(TraceItem::Ended(end));
         Step::Ended(end)
     }
 
-    // The next move is made: a sampler runs, a transaction gives its sample, or the thread's rounds are over.
+    // The next move is made: a sampler runs, a transaction gives its sample, a section is entered or left, or the thread's
+    // rounds are over.
     fn move_on<O: Outside>(&mut self, outside: &mut O) -> Result<Step, VarError>
         requires owed { self.old.owed ≡ None }
+        requires entering { self.old.entering ≡ None }
+        requires last { self.old.last ≡ None }
         requires pause { self.old.pause ≡ 0 }
-        requires stands { StandsIn self.old.plan.now self.old.machine }
-        requires feeds { self.old.config.feeds ≡ feeds_of self.old.plan.now.elements self.old.machine.group.element }
-        requires keeps { Keeps self.old.plan.now.elements self.old.packages }
-        requires room { 3 ≤ self.old.trace.room }
+        requires moves { MovesOn self.old }
+        requires known { IfSome self.old.section (IsLock self.old.plan.now.elements) }
+        requires room { 4 ≤ self.old.trace.room }
         ensures gives { IfOk result (λ step. Gives (O.account outside.old) (O.account outside.new) (and_end (left_to self.old))
             (standing_of self.old false) (standing_of self.new (is_end step)) step) }
         ensures on { IfOk result (GoesOnAfter self.new) }
@@ -167,6 +244,8 @@ impl<'p> Runner<'p> {
         match self.next_move(outside) {
             Ok(Move::RunSampler(number)) => self.sample(number, outside),
             Ok(Move::TransactionSample { element, tally }) => self.sum_up(element, tally),
+            Ok(Move::EnterSection(lock)) => Ok(self.enter(lock)),
+            Ok(Move::LeaveSection(lock)) => Ok(self.leave(lock)),
             Ok(Move::Finished(end)) => Ok(self.finish(end)),
             Ok(_) => unreachable!(),
             Err(error) => Err(error),
@@ -176,12 +255,15 @@ impl<'p> Runner<'p> {
     // The next move that ends a step. The first variables are set before the first one.
     fn next_move<O: Outside>(&mut self, outside: &mut O) -> Result<Move, VarError>
         requires stands { StandsIn self.old.plan.now self.old.machine }
+        requires lock { self.old.section ≡ open_lock self.old.machine.stack.frames }
+        requires first { self.old.begun ≡ false → self.old.section ≡ None }
         requires feeds { self.old.config.feeds ≡ feeds_of self.old.plan.now.elements self.old.machine.group.element }
         ensures came { CameTo (O.account outside.old) (left_to self.old) (O.account outside.new)
             (moved self.new.plan.now self.new.machine (state_in (standing_of self.new false)))
-            (past (state_in (standing_of self.new false))) result }
+            (leaving_open self.old.section (past (state_in (standing_of self.new false)))) result }
         ensures given { IfOk result (IsTaken self.new.plan.now.elements) }
         ensures stands { IfOk result (λ m. StandsIn self.new.plan.now self.new.machine) }
+        ensures lock { IfOk result (λ m. MovesLock m self.old.section (open_lock self.new.machine.stack.frames)) }
         ensures normal { IfOk result (λ m. IsNormalAt m self.new.machine.signal) }
         ensures feeds { IfOk result (λ m. self.new.config.feeds ≡ feeds_of self.new.plan.now.elements self.new.machine.group.element) }
         ensures begun { IfOk result (λ m. self.new.begun ≡ true) }
@@ -202,9 +284,10 @@ impl<'p> Runner<'p> {
 
     // The first variables are set, if they are still to be.
     fn set_out<O: Outside>(&mut self, outside: &mut O) -> Result<(), VarError>
+        requires { self.old.begun ≡ false → self.old.section ≡ None }
         ensures came { CameTo (O.account outside.old) (left_to self.old) (O.account outside.new)
             (λ u. left_of self.new.plan.now self.new.machine (state_in (standing_of self.new false)))
-            (past (state_in (standing_of self.new false))) result }
+            (leaving_open self.old.section (past (state_in (standing_of self.new false)))) result }
         ensures begun { IfOk result (λ u. self.new.begun ≡ true) }
         ensures kept { self.new ≡ record self.old { begun = self.new.begun; user = self.new.user } }
     {
@@ -223,13 +306,14 @@ impl<'p> Runner<'p> {
     // A unit is used, and the sampler of this number runs.
     fn sample<O: Outside>(&mut self, number: u16, outside: &mut O) -> Result<Step, VarError>
         requires owed { self.old.owed ≡ None }
+        requires entering { self.old.entering ≡ None }
+        requires last { self.old.last ≡ None }
         requires pause { self.old.pause ≡ 0 }
         requires begun { self.old.begun ≡ true }
-        requires stands { StandsIn self.old.plan.now self.old.machine }
-        requires feeds { self.old.config.feeds ≡ feeds_of self.old.plan.now.elements self.old.machine.group.element }
-        requires keeps { Keeps self.old.plan.now.elements self.old.packages }
+        requires moves { MovesOn self.old }
+        requires known { IfSome self.old.section (IsLock self.old.plan.now.elements) }
         requires normal { IsNormalAt (Move.RunSampler number) self.old.machine.signal }
-        requires room { 3 ≤ self.old.trace.room }
+        requires room { 4 ≤ self.old.trace.room }
         requires there { IsSampler self.old.plan.now.elements number }
         ensures gives { IfOk result (λ step. Gives (O.account outside.old) (O.account outside.new)
             (and_end (moved self.old.plan.now self.old.machine (state_in (standing_of self.old false)) (Move.RunSampler number)))
@@ -240,7 +324,7 @@ impl<'p> Runner<'p> {
             (O.account outside.new) self.old self.new) }
     {
         if self.units == 0 {
-            return Ok(self.finish(End::SampleLimit));
+            return Ok(self.end_by(End::SampleLimit));
         }
         self.units -= 1;
         match self.run_sampler(number, outside) {
@@ -298,6 +382,7 @@ impl<'p> Runner<'p> {
         ensures step { result ≡ Step.Sampled (entry_of sample) }
         ensures new { self.new ≡ record self.old { owed = Some sample; machine = told sample self.old.machine } }
         ensures stands { StandsIn self.old.plan.now self.old.machine → StandsIn self.new.plan.now self.new.machine }
+        ensures lock { open_lock self.new.machine.stack.frames ≡ open_lock self.old.machine.stack.frames }
     {
         self.machine.after(&sample);
         self.owe(sample)
@@ -316,12 +401,13 @@ impl<'p> Runner<'p> {
     // A unit is used, and the transaction of this number gives its sample.
     fn sum_up(&mut self, element: u16, tally: Tally) -> Result<Step, VarError>
         requires owed { self.old.owed ≡ None }
+        requires entering { self.old.entering ≡ None }
+        requires last { self.old.last ≡ None }
         requires pause { self.old.pause ≡ 0 }
         requires begun { self.old.begun ≡ true }
-        requires stands { StandsIn self.old.plan.now self.old.machine }
-        requires feeds { self.old.config.feeds ≡ feeds_of self.old.plan.now.elements self.old.machine.group.element }
-        requires keeps { Keeps self.old.plan.now.elements self.old.packages }
-        requires room { 3 ≤ self.old.trace.room }
+        requires moves { MovesOn self.old }
+        requires known { IfSome self.old.section (IsLock self.old.plan.now.elements) }
+        requires room { 4 ≤ self.old.trace.room }
         requires there { IsTransaction self.old.plan.now.elements element }
         ensures gives { (a : Account) → IfOk result (λ step. Gives a a
             (and_end (moved self.old.plan.now self.old.machine (state_in (standing_of self.old false)) (Move.TransactionSample element tally)))
@@ -332,7 +418,7 @@ impl<'p> Runner<'p> {
             a self.old self.new) }
     {
         if self.units == 0 {
-            return Ok(self.finish(End::SampleLimit));
+            return Ok(self.end_by(End::SampleLimit));
         }
         let label = self.plan.label_of(element);
         let Ok(sample) = tally.sample(self.alloc, label) else {
@@ -340,6 +426,33 @@ impl<'p> Runner<'p> {
         };
         self.units -= 1;
         Ok(self.owe(sample))
+    }
+
+    // A unit is used, and the section of this lock is to be entered.
+    fn enter(&mut self, lock: u16) -> Step
+        requires owed { self.old.owed ≡ None }
+        requires last { self.old.last ≡ None }
+        requires pause { self.old.pause ≡ 0 }
+        requires begun { self.old.begun ≡ true }
+        requires entering { self.old.entering ≡ None }
+        requires none_open { self.old.section ≡ None }
+        requires held { open_lock self.old.machine.stack.frames ≡ Some lock }
+        requires stands { StandsIn self.old.plan.now self.old.machine }
+        requires feeds { self.old.config.feeds ≡ feeds_of self.old.plan.now.elements self.old.machine.group.element }
+        requires keeps { Keeps self.old.plan.now.elements self.old.packages }
+        requires room { 3 ≤ self.old.trace.room }
+        requires there { IsLock self.old.plan.now.elements lock }
+        ensures gives { (a : Account) → Gives a a
+            (and_end (moved self.old.plan.now self.old.machine (state_in (standing_of self.old false)) (Move.EnterSection lock)))
+            (standing_of self.old false) (standing_of self.new (is_end result)) result }
+        ensures on { GoesOnAfter self.new result }
+    {
+        if self.units == 0 {
+            return self.finish(End::SampleLimit);
+        }
+        self.units -= 1;
+        self.entering = Some(lock);
+        Step::Enter(lock)
     }
 }
 
@@ -357,10 +470,11 @@ fn walk<O: Outside>(
     ensures came { (units : ℕ)
         → CameTo (O.account outside.old) (left_of plan.now machine.old (state_at machine.old (record { units = units; config = config.old.places }) user.old)) (O.account outside.new)
         (moved plan.now machine.new (state_at machine.new (record { units = units; config = config.new.places }) user.new))
-        (past (state_at machine.new (record { units = units; config = config.new.places }) user.new)) result }
+        (leaving_open (open_lock machine.old.stack.frames) (past (state_at machine.new (record { units = units; config = config.new.places }) user.new))) result }
     ensures given { IfOk result (IsTaken plan.now.elements) }
     ensures stands { IfOk result (λ m. StandsIn plan.now machine.new) }
     ensures feeds { IfOk result (λ m. config.new.feeds ≡ feeds_of plan.now.elements machine.new.group.element) }
+    ensures lock { IfOk result (λ m. MovesLock m (open_lock machine.old.stack.frames) (open_lock machine.new.stack.frames)) }
     ensures normal { IfOk result (λ m. IsNormalAt m machine.new.signal) }
 {
     'moves: loop {
@@ -388,13 +502,14 @@ fn feed<O: Outside>(
 ) -> Result<(), VarError>
     requires feeds { config.old.feeds ≡ feeds_of plan.now.elements machine.old.group.element }
     requires normal { machine.old.signal ≡ Signal.Normal }
+    requires stands { StandsIn plan.now machine.old }
     ensures came { (units : ℕ)
         → CameTo (O.account outside.old)
         (left_after plan.now machine.old (round_start plan.now.elements machine.old.group.element (state_at machine.old (record { units = units; config = config.old.places }) user.old)))
         (O.account outside.new)
         (λ u. left_of plan.now machine.new (state_at machine.new (record { units = units; config = config.new.places }) user.new))
-        (past (state_at machine.new (record { units = units; config = config.new.places }) user.new)) result }
-    ensures stands { StandsIn plan.now machine.old → StandsIn plan.now machine.new }
+        (leaving_open (open_lock machine.old.stack.frames) (past (state_at machine.new (record { units = units; config = config.new.places }) user.new))) result }
+    ensures stands { StandsIn plan.now machine.new }
     ensures feeds { config.new.feeds ≡ config.old.feeds }
     ensures kept { machine.new ≡ record machine.old { signal = machine.new.signal } }
 {

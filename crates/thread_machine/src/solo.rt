@@ -1,12 +1,13 @@
 // One thread of a plan from its start to its end, where no one counts its samples.
 
-ghost use Rattle.std.specs.Prelude.{◌≡◌, ◌<◌, ◌≤◌, ◌+◌, All, length, IfOk, false, None};
+ghost use Rattle.std.specs.Prelude.{◌≡◌, ◌<◌, ◌≤◌, ◌+◌, ◌^◌, [], All, length, replicate, slice_index, slice_set, IfOk, false, None};
 ghost use Rattle.element_tree.specs.Tree.{threads_of};
-ghost use Rattle.element_tree.specs.Names.{labels_of};
+ghost use Rattle.element_tree.specs.Names.{labels_of, locks_of};
 ghost use Rattle.jm_base.specs.Outside.{Account};
 ghost use Rattle.jm_meaning.specs.Beginning.{Options};
 ghost use Rattle.thread_machine.specs.Bare.{IsCountedIn, IsLabelled};
 ghost use Rattle.thread_machine.specs.SampleCounts.{samples_in};
+ghost use Rattle.thread_machine.specs.SectionOrder.{sections_in, PlacedAfter};
 ghost use Rattle.thread_machine.specs.Standing.{Stands};
 ghost use Rattle.thread_machine.specs.Follows.{HasRun};
 
@@ -25,8 +26,9 @@ pub struct FinishedThread {
     pub end: End,
 }
 
-/// Runs a thread of the plan over an outside that has told nothing, from its start to its end. Every sample is counted in interval 0.
-/// `seed` is that of the run's random words, and `budget` is how many samplers the thread may run at most.
+/// Runs a thread of the plan over an outside that has told nothing, from its start to its end. Every sample is counted in
+/// interval 0, and the sections of each lock are numbered from 0. `seed` is that of the run's random words, and `budget` is
+/// how many units the thread's samplers, transactions and sections may use.
 pub fn run_alone<O: Outside>(
     alloc: Global,
     plan: &Plan,
@@ -41,32 +43,52 @@ pub fn run_alone<O: Outside>(
         plan.now thread (record { seed = seed; props = props.now; budget = budget }) solo.trace.items solo.end) }
     ensures labels { IfOk result (λ solo. All (IsLabelled (length (labels_of plan.now.elements))) solo.trace.items) }
     ensures intervals { IfOk result (λ solo. All (IsCountedIn 0) solo.trace.items) }
-    ensures count { IfOk result (λ solo. samples_in solo.trace.items ≤ budget) }
+    ensures count { IfOk result (λ solo. samples_in solo.trace.items + sections_in solo.trace.items ≤ budget) }
+    ensures places { IfOk result (λ solo. PlacedAfter [] solo.trace.items) }
 {
+    let mut places = Vec::from_elem(alloc, 0u64, usize::from(plan.locks()))?;
     let mut worker = Worker::new(alloc, plan, thread, seed, props, budget)?;
-    let end = run_to_end(&mut worker, outside);
+    let end = run_to_end(&mut worker, places.as_mut_slice(), outside);
     Ok(FinishedThread {
         trace: worker.into_trace(),
         end,
     })
 }
 
-// Steps until the thread has ended.
-fn run_to_end<O: Outside>(worker: &mut Worker<'_>, outside: &mut O) -> End
+// Steps until the thread has ended. The place that comes next for a lock is how many of its sections there were.
+fn run_to_end<O: Outside>(worker: &mut Worker<'_>, places: &mut [u64], outside: &mut O) -> End
     requires owed { worker.old.owed ≡ None }
+    requires entering { worker.old.entering ≡ None }
+    requires places { places.old ≡ replicate (length (locks_of worker.old.plan.elements)) 0 }
+    requires no_items { worker.old.trace ≡ [] }
+    requires few { worker.old.units < 2 ^ 32 }
     requires going { worker.old.ended ≡ false }
     ensures has_run { (start : Account) (options : Options) → Stands start (O.account outside.old) options worker.old
         → HasRun start (O.account outside.new) worker.old.plan worker.old.thread options worker.new.trace result }
     ensures plan { worker.new.plan ≡ worker.old.plan }
     ensures intervals { All (IsCountedIn 0) worker.old.trace → All (IsCountedIn 0) worker.new.trace }
-    ensures count { samples_in worker.new.trace ≤ samples_in worker.old.trace + worker.old.units }
+    ensures count { samples_in worker.new.trace + sections_in worker.new.trace ≤ worker.old.units }
+    ensures places { PlacedAfter [] worker.new.trace }
 {
     'steps: loop {
         match worker.step(outside) {
             Step::Ended(end) => return end,
             Step::Sampled(_) => worker.noted(0),
             Step::Null => {}
-            Step::Enter(_) | Step::Leave(_) => unreachable!(),
+            Step::Enter(lock) => worker.entered(next_place(places, lock)),
+            Step::Leave(_) => {}
         }
     }
+}
+
+// The place of the next section of the lock, which is counted.
+fn next_place(places: &mut [u64], lock: u16) -> u64
+    requires lock { lock < length places.old }
+    requires few { slice_index places.old lock < 2 ^ 32 }
+    ensures place { result ≡ slice_index places.old lock }
+    ensures counted { places.new ≡ slice_set places.old lock (slice_index places.old lock + 1) }
+{
+    let place = places[usize::from(lock)];
+    places[usize::from(lock)] = place + 1;
+    place
 }

@@ -9,9 +9,9 @@ pub enum Step {
     Sampled(Entry),
     /// A sampler gave no sample.
     Null,
-    /// The section of this lock is to be entered.
+    /// The section of this lock is to be entered. The caller owes `Worker::entered`.
     Enter(u16),
-    /// The section of this lock was left.
+    /// The section of this lock was left: the trace says so, and the caller leaves it.
     Leave(u16),
     /// The thread has ended.
     Ended(End),

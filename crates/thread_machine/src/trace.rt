@@ -39,23 +39,23 @@ impl Model for Trace {
 }
 
 impl Trace {
-    /// An empty trace with room for the thread's end.
+    /// An empty trace with room for a section that is left and for the thread's end.
     pub fn new(alloc: Global) -> M<Trace>
-        ensures { IfOk result (λ t. (t.items ≡ []) × (1 ≤ t.room)) }
+        ensures { IfOk result (λ t. (t.items ≡ []) × (2 ≤ t.room)) }
     {
         let mut items = Vec::new(alloc);
-        items.reserve(1)?;
+        items.reserve(2)?;
         Ok(Trace { items })
     }
 
-    /// Takes room for four items: a pause before the first variables, one of a sampler's timers, what comes after them, and the
-    /// thread's end.
+    /// Takes room for five items: a pause before the first variables, one of a sampler's timers, what comes after them, a
+    /// section that is left, and the thread's end.
     pub fn make_room(&mut self) -> M<()>
-        ensures ok { OnOk result (4 ≤ self.new.room) }
+        ensures ok { OnOk result (5 ≤ self.new.room) }
         ensures kept { self.old.room ≤ self.new.room }
         ensures same { self.new.items ≡ self.old.items }
     {
-        self.items.reserve(4)?;
+        self.items.reserve(5)?;
         Ok(())
     }
 

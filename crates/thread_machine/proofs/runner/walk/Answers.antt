@@ -1,8 +1,8 @@
-use Rattle.std.proofs.Common.{◌∙◌, ap, sym}
+use Rattle.std.proofs.Common.{◌∙◌, ap, sym, refl}
 use Rattle.jm_base.proofs.RunLaws.{goes-append, goes-nothing}
 use Rattle.var_functions.proofs.CameLaws.{refused-first}
 use Rattle.config_elements.specs.RoundStart.{feeds_of}
-use Rattle.control_machine.specs.Left.{left_of, state_at}
+use Rattle.control_machine.specs.Left.{left_of, state_at, open_lock}
 use Rattle.thread_machine.proofs.Steps.{round_goes, taken}
 use Rattle.thread_machine.proofs.runner.walk.Goals as goal
 
@@ -10,13 +10,15 @@ pub moves-init : goal.moves-init
 moves-init g c = record {
   stands = c.requires.stands;
   feeds = c.requires.feeds;
+  lock = refl;
   goes = λ units. goes-nothing _ _;
 }
 
 pub moves-preserved : goal.moves-preserved
 moves-preserved g c = record {
-  stands = c.feed.ensures.stands c.in-Ok.ensures.stands;
+  stands = c.feed.ensures.stands;
   feeds = c.feed.ensures.feeds ∙ c.moves.invariant.feeds ∙ ap (feeds_of c.args.plan.now.elements) (sym (ap (λ m. m.group.element) c.feed.ensures.kept ∙ c.next.ensures.thread.0));
+  lock = ap (λ m. open_lock m.stack.frames) c.feed.ensures.kept ∙ (rw c.in-Iteration.is at c.in-Ok.ensures.lock) ∙ c.moves.invariant.lock;
   goes = λ units. goes-append (c.moves.invariant.goes units)
       (goes-append (round_goes _ _ c.args.plan.now c.next.new.self (state_at c.next.new.self (record { units = units; config = c.moves.config.places }) c.next.new.state)
       (left_of c.args.plan.now c.moves.machine (state_at c.moves.machine (record { units = units; config = c.moves.config.places }) c.moves.user))
@@ -25,11 +27,13 @@ moves-preserved g c = record {
 }
 
 pub returns-in-Err-feed-clause-came : goal.returns-in-Err-feed-clause-came
-returns-in-Err-feed-clause-came g c = λ units. refused-first (c.moves.invariant.goes units)
+returns-in-Err-feed-clause-came g c = λ units.
+    let lock = (rw c.in-Iteration.is at c.in-Ok.ensures.lock) ∙ c.moves.invariant.lock in
+    refused-first (c.moves.invariant.goes units)
     (refused-first (round_goes _ _ c.args.plan.now c.next.new.self (state_at c.next.new.self (record { units = units; config = c.moves.config.places }) c.next.new.state)
     (left_of c.args.plan.now c.moves.machine (state_at c.moves.machine (record { units = units; config = c.moves.config.places }) c.moves.user))
     c.in-Ok.next c.in-Iteration.field-0 c.in-Iteration.is (c.in-Ok.ensures.came (record { units = units; config = c.moves.config.places })))
-    (c.in-Err-feed.ensures.came units))
+    (rw lock at (c.in-Err-feed.ensures.came units)))
 
 pub returns-in_default : goal.returns-in_default
 returns-in_default g c = record {
@@ -37,8 +41,10 @@ returns-in_default g c = record {
   given = taken c.args.plan.now.elements c.in-Ok.next c.in-Ok.ensures.given c.in_default.not-Iteration;
   stands = c.in-Ok.ensures.stands;
   feeds = c.moves.invariant.feeds ∙ ap (feeds_of c.args.plan.now.elements) (sym c.next.ensures.thread.0);
+  lock = rw c.moves.invariant.lock at c.in-Ok.ensures.lock;
   normal = c.in-Ok.ensures.normal;
 }
 
 pub returns-in-Err-clause-came : goal.returns-in-Err-clause-came
-returns-in-Err-clause-came g c = λ units. refused-first (c.moves.invariant.goes units) (c.in-Err.ensures.came (record { units = units; config = c.moves.config.places }))
+returns-in-Err-clause-came g c = λ units.
+    refused-first (c.moves.invariant.goes units) (rw c.moves.invariant.lock at (c.in-Err.ensures.came (record { units = units; config = c.moves.config.places })))

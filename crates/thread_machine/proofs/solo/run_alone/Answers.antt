@@ -1,4 +1,4 @@
-use Rattle.thread_machine.proofs.Counts.{from_start}
+use Rattle.std.proofs.Common.{arith}
 use Rattle.thread_machine.proofs.solo.run_alone.Goals as goal
 
 pub returns-clause-has_run : goal.returns-clause-has_run
@@ -8,4 +8,4 @@ returns-clause-has_run g c =
     (c.run_to_end-end.ensures.has_run _ (record { seed = c.args.seed; props = c.args.props.now; budget = c.args.budget }) (c.in_ok-worker.ensures.stands _))
 
 pub returns-clause-count : goal.returns-clause-count
-returns-clause-count g c = rw c.into_trace.ensures.items (from_start _ _ _ _ c.run_to_end-end.new.worker c.in_ok-worker.ensures.start c.run_to_end-end.ensures.count)
+returns-clause-count g c = rw c.into_trace.ensures.items (let u = c.in_ok-worker.ensures.start.units_are in let k = c.run_to_end-end.ensures.count in omega (arith, u, k))

@@ -210,3 +210,23 @@ returns-in-Each-clause-cut g c = λ e n there fits.
     rw c.in-Each.is (on_err_weaker c.next-in-Each.result
     (cut_each e f.1.0 f.1.1 c.in-Each.cursor c.next-in-Each.new.self c.args.state.now c.next-in-Each.new.state f.1.2 (later_of c.args.state.now.fns c.next-in-Each.new.state.fns c.next-in-Each.ensures.fns))
     (c.next-in-Each.ensures.kept e f.1.0 f.1.1 (there_at c.args.plan.now.elements c.in-Each.cursor.element n e (kind_of f.1.0 f.1.1) f.0 there f.1.2)))
+
+pub returns-in-Section-clause-came : goal.returns-in-Section-clause-came
+returns-in-Section-clause-came g c = λ e n below own there fits bound.
+    let f = rw c.in-Section.is at fits in
+    rw c.in-Section.is (came-step (g.O.Outside.account c.args.outside.now) (g.O.Outside.account c.next-in-Section.new.outside) below (λ d. c.args.round) (children_of c.args.plan.now.elements e) (simple_left below c.args.round (children_of c.args.plan.now.elements e)) own _ _ c.next-in-Section.new.self c.next-in-Section.new.state c.next-in-Section.result
+    (simple-law below c.args.round (children_of c.args.plan.now.elements e) c.in-Section.open.children (state_of c.args.state.now own) f.2) (c.next-in-Section.ensures.came))
+
+pub returns-in-Section-clause-fits : goal.returns-in-Section-clause-fits
+returns-in-Section-clause-fits g c = λ e n there fits.
+    let f = rw c.in-Section.is at fits in
+    (c.next-in-Section.ensures.same ∙ f.0, f.1, rw c.next-in-Section.ensures.children f.2)
+
+pub returns-in-Section-clause-pass : goal.returns-in-Section-clause-pass
+returns-in-Section-clause-pass g c = rw c.in-Section.is (of_answer c.next-in-Section.result _ _ (passes_fewer c.in-Section.open.children.pass c.next-in-Section.new.self.pass) c.next-in-Section.ensures.pass)
+
+pub returns-in-Section-clause-later : goal.returns-in-Section-clause-later
+returns-in-Section-clause-later g c = later_as c.args.state.now c.next-in-Section.new.state c.next-in-Section.ensures.state
+
+pub returns-in-Section-clause-cut : goal.returns-in-Section-clause-cut
+returns-in-Section-clause-cut g c = λ e n there fits. on_err c.next-in-Section.result _ (cut_same e c.args.self.now c.args.state.now c.next-in-Section.new.state c.next-in-Section.ensures.state)

@@ -1,5 +1,8 @@
-use Rattle.control_machine.proofs.HearingLaws.{told_stands}
+use Rattle.control_machine.proofs.HearingLaws.{told_stands, open_lock_hearing}
 use Rattle.control_machine.proofs.machine.Machine.after.Goals as goal
 
 pub returns-clause-stands : goal.returns-clause-stands
 returns-clause-stands c = λ plan stands. rw (c.hear.ensures, c.signal_after-self.ensures) (told_stands plan c.args.sample.now c.args.self.now stands)
+
+pub returns-clause-lock : goal.returns-clause-lock
+returns-clause-lock c = rw c.hear.ensures (open_lock_hearing c.args.sample.now c.args.self.now.stack.frames)

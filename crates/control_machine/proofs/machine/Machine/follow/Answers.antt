@@ -1,12 +1,17 @@
-use Rattle.std.proofs.Common.{◌-◌, sym, refl, arith}
+use Rattle.std.proofs.Common.{◌-◌, ◌∷◌, sym, ap, ◌∙◌, subst, refl, arith}
+use Rattle.var_functions.specs.Came.{CameTo}
 use Rattle.std.proofs.lemmas.Result.{IfOk-weaker, on_err_weaker}
 use Rattle.control_machine.specs.Moves.{past}
-use Rattle.control_machine.specs.Left.{own_at, state_at}
+use Rattle.jm_base.specs.declared.types.End.TheVariants.{RoundLimit}
+use Rattle.jm_meaning.specs.declared.signal.Signal.TheVariants.{Stop}
+use Rattle.jm_meaning.specs.Sections.{leaving_open}
+use Rattle.control_machine.specs.Left.{own_at, state_at, open_lock}
 use Rattle.control_machine.specs.Turns.{went, left_answered}
 use Rattle.control_machine.proofs.OpenLaws.{goes_as}
-use Rattle.control_machine.proofs.Closed.{closed_given, closed_lightens, closed_rounds, closed_index}
+use Rattle.control_machine.proofs.Closed.{closed_given, closed_lightens, closed_normal, closed_rounds, closed_index, closed_lock}
 use Rattle.control_machine.proofs.Answered.{came_as, is_over, no_round_left, round_taken, child_next, no_child}
-use Rattle.control_machine.proofs.Standing.{fewer_group, fewer_open, round_open, child_nests, few_left}
+use Rattle.control_machine.proofs.Standing.{fewer_group, fewer_open, round_open, child_nests, child_apart, few_left}
+use Rattle.control_machine.proofs.Leaving.{of_normal}
 use Rattle.control_machine.proofs.Lightening.{over_lighter, round_lighter, child_lighter, none_lighter}
 use Rattle.control_machine.proofs.Opening.{nests_at}
 use Rattle.control_machine.proofs.CutLaws.{cut_as}
@@ -18,20 +23,44 @@ returns-in-Over-clause-came g c = λ e beside there.
     rw c.close.ensures (goes_as _ _ _ (is_over c.args.plan.now c.args.self.now c.args.frame e c.args.state.now (own_at c.args.self.now beside) there c.args.turn c.in-Over.is c.requires.normal c.args.self.now.rounds refl))
 
 pub returns-in-Over-clause-given : goal.returns-in-Over-clause-given
-returns-in-Over-clause-given g c = rw c.close.ensures (closed_given c.args.plan.now.elements _ c.args.self.now.rounds c.args.frame c.requires.open)
+returns-in-Over-clause-given g c = rw c.close.ensures (closed_given c.args.plan.now.elements _ c.args.self.now.rounds c.args.self.now.signal c.args.frame c.requires.open)
 
 pub returns-in-Over-clause-rounds : goal.returns-in-Over-clause-rounds
-returns-in-Over-clause-rounds g c = rw c.close.ensures (closed_rounds c.args.frame c.args.self.now.rounds)
+returns-in-Over-clause-rounds g c = rw c.close.ensures (closed_rounds c.args.self.now.signal c.args.frame c.args.self.now.rounds)
 
 pub returns-in-Over-clause-index : goal.returns-in-Over-clause-index
-returns-in-Over-clause-index g c = rw c.close.ensures (closed_index c.args.frame c.args.self.now.group)
+returns-in-Over-clause-index g c = rw c.close.ensures (closed_index c.args.self.now.signal c.args.frame c.args.self.now.group)
 
 pub returns-in-Over-clause-lighter : goal.returns-in-Over-clause-lighter
-returns-in-Over-clause-lighter g c = λ old depth takes. rw c.close.ensures (closed_lightens c.args.frame _ _ (over_lighter c.args.plan.now.elements c.args.self.now old))
+returns-in-Over-clause-lighter g c = λ old depth takes. rw c.close.ensures (closed_lightens c.args.self.now.signal c.args.frame _ _ (over_lighter c.args.plan.now.elements c.args.self.now old))
+
+pub returns-in-Over-clause-normal : goal.returns-in-Over-clause-normal
+returns-in-Over-clause-normal g c = rw c.close.ensures (closed_normal c.args.self.now.signal c.args.frame c.args.self.now.signal)
+
+pub returns-in-Over-clause-lock : goal.returns-in-Over-clause-lock
+returns-in-Over-clause-lock g c = rw c.close.ensures (closed_lock c.args.self.now.signal c.args.frame (open_lock c.args.self.now.stack.frames) c.requires.apart.alone)
 
 pub returns-then-self-eq0-clause-came : goal.returns-then-self-eq0-clause-came
 returns-then-self-eq0-clause-came g c = λ e beside there.
-    goes_as _ _ _ (no_round_left c.args.plan.now c.args.self.now c.args.frame e c.args.state.now (own_at c.args.self.now beside) there c.args.turn c.in-Round.is (omega (arith, c.if-self-eq0.true)) c.args.self.now.rounds refl)
+    rw c.close-then-self-eq0.ensures (goes_as _ _ _ (no_round_left c.args.plan.now c.args.self.now c.args.frame e c.args.state.now (own_at c.args.self.now beside) there c.args.turn c.in-Round.is (omega (arith, c.if-self-eq0.true)) c.args.self.now.rounds refl))
+
+pub returns-then-self-eq0-clause-given : goal.returns-then-self-eq0-clause-given
+returns-then-self-eq0-clause-given g c = rw c.close-then-self-eq0.ensures (closed_given c.args.plan.now.elements _ c.args.self.now.rounds (Stop RoundLimit) c.args.frame c.requires.open)
+
+pub returns-then-self-eq0-clause-rounds : goal.returns-then-self-eq0-clause-rounds
+returns-then-self-eq0-clause-rounds g c = rw c.close-then-self-eq0.ensures (closed_rounds (Stop RoundLimit) c.args.frame c.args.self.now.rounds)
+
+pub returns-then-self-eq0-clause-index : goal.returns-then-self-eq0-clause-index
+returns-then-self-eq0-clause-index g c = rw c.close-then-self-eq0.ensures (closed_index (Stop RoundLimit) c.args.frame c.args.self.now.group)
+
+pub returns-then-self-eq0-clause-lighter : goal.returns-then-self-eq0-clause-lighter
+returns-then-self-eq0-clause-lighter g c = λ old depth takes. rw c.close-then-self-eq0.ensures (closed_lightens (Stop RoundLimit) c.args.frame _ _ (over_lighter c.args.plan.now.elements c.args.self.now old))
+
+pub returns-then-self-eq0-clause-normal : goal.returns-then-self-eq0-clause-normal
+returns-then-self-eq0-clause-normal g c = rw c.close-then-self-eq0.ensures (closed_normal (Stop RoundLimit) c.args.frame (Stop RoundLimit))
+
+pub returns-then-self-eq0-clause-lock : goal.returns-then-self-eq0-clause-lock
+returns-then-self-eq0-clause-lock g c = rw c.close-then-self-eq0.ensures (closed_lock (Stop RoundLimit) c.args.frame (open_lock c.args.self.now.stack.frames) c.requires.apart.alone)
 
 pub returns-else-self-eq0-clause-came : goal.returns-else-self-eq0-clause-came
 returns-else-self-eq0-clause-came g c = λ e beside there.
@@ -44,6 +73,7 @@ returns-else-self-eq0-clause-stands g c =
       group = fewer_group c.args.plan.now.elements (c.args.self.now.rounds - 1) c.args.self.now.rounds c.args.self.now.group c.args.self.now.group refl (omega arith) s.group;
       open_ = rw c.put.ensures
           (round_open c.args.plan.now.elements c.args.self.now.rounds (c.args.self.now.rounds - 1) c.args.frame c.args.turn c.in-Round.is c.if-self-eq0.false refl c.requires.open, fewer_open c.args.plan.now.elements (c.args.self.now.rounds - 1) c.args.self.now.rounds c.args.self.now.stack.frames (omega arith) s.open_);
+      apart = rw c.put.ensures (c.requires.apart, s.apart);
       failure = s.failure;
       signal = s.signal;
     }
@@ -57,13 +87,24 @@ open-requires-clause-nests g c =
     let o = c.requires.open in
     child_nests c.args.plan.now.elements c.args.frame.depth c.in-Child.place c.in-Some.child o.element o.below (sym (c.in-Some.ensures o.element o.there))
 
+pub open-requires-clause-apart : goal.open-requires-clause-apart
+open-requires-clause-apart g c =
+    let o = c.requires.apart in
+    rw c.put-in-Child.ensures (child_apart c.args.plan.now.elements c.args.frame.depth c.in-Child.place c.in-Some.child _ o.element o.below (sym (c.in-Some.ensures o.element o.there)))
+
 pub returns-in-Some-clause-came : goal.returns-in-Some-clause-came
 returns-in-Some-clause-came g c = λ e beside there.
-    came_as (g.O.Outside.account c.args.outside.now) (g.O.Outside.account c.open.new.outside) _ _ (went c.args.plan.now c.open.new.self (state_at c.open.new.self beside c.open.new.state))
-    (past (state_at c.open.new.self beside c.open.new.state)) c.open.result
+    subst (λ o. CameTo (g.O.Outside.account c.args.outside.now) (left_answered c.args.plan.now c.args.self.now c.args.frame e c.args.turn (state_at c.args.self.now beside c.args.state.now))
+    (g.O.Outside.account c.open.new.outside) (went c.args.plan.now c.open.new.self (state_at c.open.new.self beside c.open.new.state))
+    (leaving_open o (past (state_at c.open.new.self beside c.open.new.state))) c.open.result) (ap open_lock c.put-in-Child.ensures)
+    (came_as (g.O.Outside.account c.args.outside.now) (g.O.Outside.account c.open.new.outside) _ _ (went c.args.plan.now c.open.new.self (state_at c.open.new.self beside c.open.new.state))
+    (leaving_open (open_lock c.put-in-Child.new.self.frames) (past (state_at c.open.new.self beside c.open.new.state))) c.open.result
     (child_next c.args.plan.now c.args.self.now c.args.frame e c.args.state.now (own_at c.args.self.now beside) there c.args.turn c.in-Child.place c.in-Some.child c.round-round.result c.in-Child.is (sym (c.in-Some.ensures e there)) c.round-round.ensures
     (record c.args.self.now { stack = c.put-in-Child.new.self }) (record { group = refl; failure = refl; signal = c.requires.normal }) c.put-in-Child.ensures)
-    (c.open.ensures.came beside)
+    (c.open.ensures.came beside))
+
+pub returns-in-Some-clause-lock : goal.returns-in-Some-clause-lock
+returns-in-Some-clause-lock g c = rw c.put-in-Child.ensures at c.open.ensures.lock
 
 pub returns-in-Some-clause-lighter : goal.returns-in-Some-clause-lighter
 returns-in-Some-clause-lighter g c = IfOk-weaker c.open.result _ _ (λ w opened old depth takes.
@@ -102,3 +143,6 @@ returns-else-self-eq0-clause-later g c = later_same c.args.state.now.fns
 
 pub returns-in-None-clause-later : goal.returns-in-None-clause-later
 returns-in-None-clause-later g c = later_same c.args.state.now.fns
+
+pub returns-in-Some-clause-normal : goal.returns-in-Some-clause-normal
+returns-in-Some-clause-normal g c = of_normal c.open.result c.open.new.self.signal (c.open.ensures.rest.3 ∙ c.requires.normal)

@@ -1,13 +1,15 @@
-use Rattle.std.proofs.Common.{sym, ap, ◌∙◌, refl}
+use Rattle.std.proofs.Common.{false, sym, ap, ◌∙◌, refl}
 use Rattle.std.proofs.lemmas.Result.{IfOk-weaker, on_err_weaker}
 use Rattle.control_machine.specs.Moves.{past}
-use Rattle.control_machine.specs.Left.{left_of, own_at, state_at}
+use Rattle.jm_meaning.specs.Sections.{leaving_open}
+use Rattle.control_machine.specs.Left.{left_of, own_at, state_at, open_lock}
 use Rattle.control_machine.specs.Turns.{went}
 use Rattle.control_machine.proofs.OpenLaws.{goes_as}
 use Rattle.control_machine.proofs.Answered.{came_as, group_child_next}
 use Rattle.control_machine.proofs.Grouping.{some_left, taken_child, no_such_child, fewer_remain}
 use Rattle.control_machine.proofs.Rounding.{all_of}
-use Rattle.control_machine.proofs.Standing.{child_nests}
+use Rattle.control_machine.proofs.Standing.{child_nests, child_apart}
+use Rattle.control_machine.proofs.Leaving.{at_normal, of_normal}
 use Rattle.control_machine.proofs.Lightening.{group_lighter}
 use Rattle.control_machine.proofs.CutLaws.{cut_as}
 use Rattle.var_functions.proofs.LaterLaws.{later_same}
@@ -18,12 +20,17 @@ open-requires-clause-nests g c =
     let o = c.requires.stands.group in
     child_nests c.args.plan.now.elements 30 c.in-Some.place c.in-Some-child_at.child o.element o.below (sym (c.in-Some-child_at.ensures o.element o.there))
 
+pub open-requires-clause-apart : goal.open-requires-clause-apart
+open-requires-clause-apart g c =
+    let o = c.requires.stands.group in
+    rw c.requires.empty (child_apart c.args.plan.now.elements 30 c.in-Some.place c.in-Some-child_at.child false o.element o.apart (sym (c.in-Some-child_at.ensures o.element o.there)))
+
 pub returns-in-Some-child_at-clause-came : goal.returns-in-Some-child_at-clause-came
 returns-in-Some-child_at-clause-came g c = λ beside.
     let o = c.requires.stands.group in
     let n = c.in-Some.ensures in
     came_as (g.O.Outside.account c.args.outside.now) (g.O.Outside.account c.open.new.outside) _ _ (went c.args.plan.now c.open.new.self (state_at c.open.new.self beside c.open.new.state))
-    (past (state_at c.open.new.self beside c.open.new.state)) c.open.result
+    (leaving_open (open_lock c.args.self.now.stack.frames) (past (state_at c.open.new.self beside c.open.new.state))) c.open.result
     (group_child_next c.args.plan.now c.args.self.now (record c.args.self.now { group = record c.args.self.now.group { pass = c.next_child.new.self } }) c.args.state.now (own_at c.args.self.now beside) c.in-Some.place c.in-Some-child_at.child c.from-round.result c.requires.normal c.requires.empty
     (some_left c.args.self.now.group.pass c.in-Some.place n.0 n.1) (all_of c.args.plan.now.elements c.args.self.now.group.element o.element c.args.self.now.group.pass.children o.there o.pass) n.0
     (taken_child c.args.plan.now.elements c.args.self.now.group.element o.element c.in-Some.place c.in-Some-child_at.child o.there (sym (c.in-Some-child_at.ensures o.element o.there)))
@@ -75,3 +82,12 @@ returns-in-None-child_at-clause-later g c = later_same c.args.state.now.fns
 
 pub returns-in-None-clause-later : goal.returns-in-None-clause-later
 returns-in-None-clause-later g c = later_same c.args.state.now.fns
+
+pub returns-in-None-clause-lock : goal.returns-in-None-clause-lock
+returns-in-None-clause-lock g c = c.next_round.ensures.lock c.requires.empty
+
+pub returns-in-None-clause-normal : goal.returns-in-None-clause-normal
+returns-in-None-clause-normal g c = at_normal c.next_round.result c.next_round.new.self.signal (c.next_round.ensures.rest.1 ∙ c.requires.normal)
+
+pub returns-in-Some-child_at-clause-normal : goal.returns-in-Some-child_at-clause-normal
+returns-in-Some-child_at-clause-normal g c = of_normal c.open.result c.open.new.self.signal (c.open.ensures.rest.3 ∙ c.requires.normal)

@@ -14,6 +14,7 @@ turns-init g c = record {
   fewer = omega arith;
   thread = (refl, refl);
   goes = λ beside. goes_as _ _ _ refl;
+  lock = refl;
   later = later_same c.args.state.now.fns;
 }
 
@@ -33,6 +34,7 @@ turns-preserved g c =
       fewer = omega (arith, i.fewer, r);
       thread = (t.thread.0 ∙ i.thread.0, t.thread.1 ∙ i.thread.1);
       goes = λ beside. goes-append (i.goes beside) (rw c.in-Ok-On.field-0-is at (t.came beside));
+      lock = (rw c.in-Ok-On.field-0-is at t.lock) ∙ i.lock;
       later = later_then c.args.state.now.fns c.turns.state.fns c.turn.new.state.fns i.later t.later;
     }
 
@@ -50,7 +52,10 @@ pub returns-in-Ok-To-clause-thread : goal.returns-in-Ok-To-clause-thread
 returns-in-Ok-To-clause-thread g c = let i = c.turns.invariant.thread in let t = c.in-Ok-To.ensures.thread in (t.0 ∙ i.0, t.1 ∙ i.1)
 
 pub returns-in-Err-clause-came : goal.returns-in-Err-clause-came
-returns-in-Err-clause-came g c = λ beside. refused-first (c.turns.invariant.goes beside) (c.in-Err.ensures.came beside)
+returns-in-Err-clause-came g c = λ beside. refused-first (c.turns.invariant.goes beside) (rw c.turns.invariant.lock at (c.in-Err.ensures.came beside))
+
+pub returns-in-Ok-To-clause-lock : goal.returns-in-Ok-To-clause-lock
+returns-in-Ok-To-clause-lock g c = rw c.turns.invariant.lock at (rw c.in-Ok-To.field-0-is at c.in-Ok-To.ensures.lock)
 
 pub returns-in-Err-clause-thread : goal.returns-in-Err-clause-thread
 returns-in-Err-clause-thread g c = let i = c.turns.invariant.thread in let t = c.in-Err.ensures.thread in (t.0 ∙ i.0, t.1 ∙ i.1)

@@ -1,7 +1,7 @@
 use Rattle.std.proofs.Common.{◌≡◌, ◌≤◌, []}
 use Rattle.jm_base.specs.Outside.{Goes}
 use Rattle.var_functions.specs.FunctionState.{IsLater}
-use Rattle.control_machine.specs.Left.{Beside, StandsIn, left_of, state_at}
+use Rattle.control_machine.specs.Left.{Beside, StandsIn, left_of, state_at, open_lock}
 use Rattle.control_machine.specs.Load.{load_of}
 use Rattle.control_machine.proofs.machine.Machine.next.Given as goal
 
@@ -12,6 +12,7 @@ invariant-turns g l = record {
   thread : (l.self.group.element ≡ l.fn.self.group.element) × (l.self.at_failure ≡ l.fn.self.at_failure);
   goes : (beside : Beside)
       → Goes (g.O.Outside.account l.fn.outside) (left_of l.plan l.fn.self (state_at l.fn.self beside l.fn.state)) [] (left_of l.plan l.self (state_at l.self beside l.state)) (g.O.Outside.account l.outside);
+  lock : open_lock l.self.stack.frames ≡ open_lock l.fn.self.stack.frames;
   later : IsLater l.fn.state.fns l.state.fns;
 }
 

@@ -14,3 +14,9 @@ returns-then-self-eq0-clause-same c = λ plan beside user open' empty signal pas
 pub returns-clause-same : goal.returns-clause-same
 returns-clause-same c = λ plan beside user open' empty signal past_all.
     round_has_begun plan c.args.self.now user (own_at c.args.self.now beside) open' empty signal past_all refl (sym c.round_begins.ensures ∙ c.if-not-round_begins.false) c.if-self-eq0.false
+
+pub returns-then-not-round_begins-clause-lock : goal.returns-then-not-round_begins-clause-lock
+returns-then-not-round_begins-clause-lock c = λ empty. rw empty (refl, refl)
+
+pub returns-then-self-eq0-clause-lock : goal.returns-then-self-eq0-clause-lock
+returns-then-self-eq0-clause-lock c = λ empty. rw empty (refl, refl)

@@ -12,6 +12,7 @@ returns-in-NextLoop g c =
       given = l.given c.args.plan.now c.requires away;
       stands = l.stands c.args.plan.now c.requires;
       lighter = l.lighter c.args.plan.now.elements;
+      lock = l.lock c.args.plan.now c.requires;
       normal = l.normal c.args.plan.now c.requires;
       rounds = l.rounds;
       index = l.index;

@@ -1,20 +1,16 @@
-use Rattle.std.proofs.Common.{◌∙◌, refl, ap}
-use Rattle.thread_machine.proofs.Steps.{cut_before, cut_at_once, cut_later, on_err}
+use Rattle.std.proofs.Common.{◌≡◌, ap, subst, None}
+use Rattle.std.specs.Prelude.{IfSome}
+use Rattle.thread_machine.specs.Inside.{IsLimit}
+use Rattle.thread_machine.proofs.Going.{has_settled}
+use Rattle.thread_machine.proofs.Steps.{ends_last}
 use Rattle.thread_machine.proofs.runner.Runner.try_step.Goals as goal
 
-pub returns-in_err-make_room-clause-cut : goal.returns-in_err-make_room-clause-cut
-returns-in_err-make_room-clause-cut g c = on_err c.from_residual.result _
-    (cut_at_once _ c.args.self.now _ (record { plan = refl; thread = refl; pause = refl; owed = refl }) c.in_err-make_room.ensures.same)
+pub returns-in-Some-clause-steps : goal.returns-in-Some-clause-steps
+returns-in-Some-clause-steps g c =
+    ends_last _ c.args.self.now c.finish.new.self c.in-Some.end c.finish.result c.in-Some.is c.requires.on.limit c.finish.ensures.step c.finish.ensures.kept c.finish.ensures.items
 
-pub returns-in_err-pause_first-clause-cut : goal.returns-in_err-pause_first-clause-cut
-returns-in_err-pause_first-clause-cut g c =
-    let kept = c.in_err-pause_first.ensures.kept in
-    on_err c.from_residual-in_err-pause_first.result _
-    (cut_before _ _ c.args.self.now c.pause_first.new.self c.in_err-pause_first.ensures.still
-    (record { plan = ap (λ n. n.plan.now) kept; thread = ap (λ n. n.thread) kept; pause = ap (λ n. n.pause) kept; owed = ap (λ n. n.owed) kept })
-    (ap (λ n. n.trace.items) kept ∙ c.in_ok-make_room.ensures.same))
-
-pub returns-clause-cut : goal.returns-clause-cut
-returns-clause-cut g c =
-    cut_later _ _ _ c.args.self.now c.make_room.new.self c.pause_first.new.self c.go_on.new.self c.go_on.result
-    c.in_ok-make_room.ensures.same c.in_ok-pause_first.ensures.begun c.go_on.ensures.cut
+pub returns-in-Some-clause-on : goal.returns-in-Some-clause-on
+returns-in-Some-clause-on g c =
+    let kept = c.finish.ensures.kept in
+    has_settled c.args.self.now c.finish.new.self c.finish.result c.in-Some.end c.finish.ensures.step (ap (λ r. r.owed) kept) (ap (λ r. r.entering) kept) (ap (λ r. r.section) kept)
+    c.requires.owed c.requires.entering (subst (λ o. IfSome o (λ end. IsLimit end × (c.args.self.now.section ≡ None))) c.in-Some.is c.requires.on.limit).1

@@ -1,8 +1,18 @@
-use Rattle.std.proofs.Common.{◌≡◌, false, ap, ◌∙◌}
+use Rattle.std.proofs.Common.{◌≡◌, ◌≤◌, ◌++◌, ◌∷◌, [], false, true, refl, ap, sym, ◌∙◌, subst, append_assoc}
+use Rattle.jm_base.specs.declared.types.End.TheVariants.{NoMemory}
+use Rattle.thread_machine.specs.declared.step.Step.TheVariants.{Ended}
+use Rattle.thread_machine.specs.Inside.{standing_of, IsSound}
+use Rattle.thread_machine.specs.Stepped.{Steps}
+use Rattle.thread_machine.proofs.Counts.{spent_behind}
 use Rattle.thread_machine.proofs.Ends.{stands_after}
 use Rattle.thread_machine.proofs.Sound.{sound_behind, sound_cut}
 use Rattle.thread_machine.proofs.Steps.{cut_ended}
 use Rattle.thread_machine.proofs.worker.Worker.step.Goals as goal
+
+pub try_step-requires-clause-on : goal.try_step-requires-clause-on
+try_step-requires-clause-on g c =
+    let going : c.self.inside.ended ≡ false = ap (λ s. s.ended) c.self.view_is ∙ c.requires.going in
+    (rw going at c.self.invariant).going refl
 
 pub invariant_of-self : goal.invariant_of-self
 invariant_of-self g c =
@@ -11,20 +21,41 @@ invariant_of-self g c =
     rw c.is_end-self-inside.ensures
     (sound_behind _ _ c.self.inside.runner c.try_step.new.self (rw going at c.self.invariant) owed c.in-Ok.step c.in-Ok.ensures.steps c.in-Ok.ensures.on)
 
+pub returns-in-Ok-clause-steps : goal.returns-in-Ok-clause-steps
+returns-in-Ok-clause-steps g c =
+    let going : c.self.inside.ended ≡ false = ap (λ s. s.ended) c.self.view_is ∙ c.requires.going in
+    rw (← c.self.view_is, going, c.is_end-self-inside.ensures) c.in-Ok.ensures.steps
+
 pub returns-in-Ok-clause-stands : goal.returns-in-Ok-clause-stands
 returns-in-Ok-clause-stands g c =
     let going : c.self.inside.ended ≡ false = ap (λ s. s.ended) c.self.view_is ∙ c.requires.going in
     let owed = ap (λ s. s.owed) c.self.view_is ∙ c.requires.owed in
+    let entering = ap (λ s. s.entering) c.self.view_is ∙ c.requires.entering in
     rw (← c.self.view_is, going, c.is_end-self-inside.ensures)
-    (λ start options stands. stands_after start _ _ options _ _ c.in-Ok.step owed c.in-Ok.ensures.steps stands)
+    (λ start options stands. stands_after start _ _ options _ _ c.in-Ok.step owed entering c.in-Ok.ensures.steps stands)
+
+pub returns-in-Ok-clause-units : goal.returns-in-Ok-clause-units
+returns-in-Ok-clause-units g c =
+    spent_behind _ _ _ _ c.in-Ok.step c.requires.owed c.requires.entering (returns-in-Ok-clause-steps g c)
 
 pub returns-in-Err-clause-steps : goal.returns-in-Err-clause-steps
 returns-in-Err-clause-steps g c =
     let going : c.self.inside.ended ≡ false = ap (λ s. s.ended) c.self.view_is ∙ c.requires.going in
-    rw (← c.self.view_is, going) (cut_ended _ _ c.self.inside.runner c.try_step.new.self c.put.new.self c.in-Err.ensures.cut c.put.ensures.items)
+    rw (← c.self.view_is, going)
+    (subst (λ r. Steps (g.O.Outside.account c.args.outside.now) (g.O.Outside.account c.try_step.new.outside) (standing_of c.self.inside.runner false) (standing_of r true) (Ended NoMemory)) (sym c.cut.ensures.kept)
+    (cut_ended _ _ c.self.inside.runner c.try_step.new.self c.cut.new.self.trace c.in-Err.ensures.cut c.cut.ensures.items))
+
+pub returns-in-Err-clause-stands : goal.returns-in-Err-clause-stands
+returns-in-Err-clause-stands g c = λ start options stands.
+    (c.try_step.new.self.trace.items ++ _, c.cut.ensures.items ∙ sym (append_assoc c.try_step.new.self.trace.items _ _))
+
+pub returns-in-Err-clause-units : goal.returns-in-Err-clause-units
+returns-in-Err-clause-units g c = spent_behind _ _ _ _ (Ended NoMemory) c.requires.owed c.requires.entering (returns-in-Err-clause-steps g c)
 
 pub invariant_of-self-in-Err : goal.invariant_of-self-in-Err
 invariant_of-self-in-Err g c =
     let going : c.self.inside.ended ≡ false = ap (λ s. s.ended) c.self.view_is ∙ c.requires.going in
     let owed = ap (λ s. s.owed) c.self.view_is ∙ c.requires.owed in
-    sound_cut _ _ c.self.inside.runner c.try_step.new.self c.put.new.self (rw going at c.self.invariant) owed c.in-Err.ensures.cut c.put.ensures.items
+    let entering = ap (λ s. s.entering) c.self.view_is ∙ c.requires.entering in
+    subst (λ r. IsSound r true) (sym c.cut.ensures.kept)
+    (sound_cut _ _ c.self.inside.runner c.try_step.new.self c.cut.new.self.trace (rw going at c.self.invariant) owed entering c.in-Err.ensures.cut c.cut.ensures.items)
