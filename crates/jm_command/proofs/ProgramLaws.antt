@@ -4,6 +4,7 @@ use Rattle.std.specs.Prelude.{◌⊎◌, Result, Ok, Err, IfErr, nat_le, if◌th
 use Rattle.std.proofs.lemmas.Bool.Decides.{nat_tests}
 use Rattle.std.proofs.lemmas.Nat.{mul-le}
 use Rattle.plan_json.specs.Place.{at}
+use Rattle.element_props.specs.declared.error.BuildError.{BuildError}
 use Rattle.element_props.specs.declared.error.BuildError.TheVariants as builds
 use Rattle.element_props.specs.declared.error.What.TheVariants as whats
 use Rattle.std.specs.Io.KnownBytes.{Keeps}
