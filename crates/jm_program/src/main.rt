@@ -34,8 +34,8 @@ fn main(rt: HostRuntime) -> ExitCode {
     let mut plan = FromRead::new(rt.stdin());
     let mut results = IntoWrite::new(rt.stdout());
     let mut reports = IntoWrite::new(rt.stderr());
-    let mut world = SocketWorld::new(&rt, alloc);
-    let mut ticker = RealTicker::new(&rt);
+    let mut world = SocketWorld::new(rt, alloc);
+    let mut ticker = RealTicker::new(rt);
     let mut patterns = RegexPatterns::new(Vec::new(alloc));
     ExitCode::from(start(
         &rt,
