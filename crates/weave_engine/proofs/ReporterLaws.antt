@@ -11,7 +11,7 @@ use Rattle.phaser_core.specs.declared.view.View.TheVariants.{Reporter, Writer, G
 use mathlib.Core.Option.{some}
 use Rattle.phaser_core.specs.declared.view.Event.TheVariants as event
 use Rattle.phaser_core.specs.Cells.{table_cells, cell_at, end_at, is_odd}
-use Rattle.phaser_core.specs.CoreMoves.{Move, swapping, gathered_if, settled}
+use Rattle.phaser_core.specs.CoreMoves.{Move, swapping, gathered_if, settled, with_seen}
 use Rattle.phaser_core.specs.Invariant.{RecorderInvariant, InTable}
 use Rattle.phaser_core.specs.CoreShape.{Shape, Shows}
 use Rattle.phaser_core.specs.Step.{next_state, given, moved, reporter_move, FitsEvent}
@@ -89,23 +89,24 @@ module _ (n : Numbers) (ws : List ℕ) (r : ReporterView) (others : List View) (
   idle_case h true = inr (inr (omega arith))
   idle_case h false = inl (ap is_idle h)
 
-  gathered_case : (c : ReporterStage) (l : List ℕ) (j : ℕ) (b : Bool) → 1000000 - j < rank c → Nears c (closing_in (some (Reporter (gathered_if b r l j))))
-  gathered_case c l j true less = inl refl
-  gathered_case c l j false less = inr (inr less)
+  gathered_case : (c : ReporterStage) (v : ReporterView) (l : List ℕ) (j : ℕ) (b : Bool) → 1000000 - j < rank c → Nears c (closing_in (some (Reporter (gathered_if b v l j))))
+  gathered_case c v l j true less = inl refl
+  gathered_case c v l j false less = inr (inr less)
 
-  look_case : (want : ℕ) → r.closing ≡ Waiting want → (b : Bool) → Nears (Waiting want) (closing_in (some (Reporter (settled r b))))
-  look_case want h true = gathered_case (Waiting want) [] 0 (0 == table_cells r.labels) (omega arith)
-  look_case want h false = inr (inl (ap is_waiting h))
+  look_case : (want : ℕ) (v : ReporterView) → v.closing ≡ Waiting want → (b : Bool) → Nears (Waiting want) (closing_in (some (Reporter (settled v b))))
+  look_case want v h true = gathered_case (Waiting want) v [] 0 (0 == table_cells v.labels) (omega arith)
+  look_case want v h false = inr (inl (ap is_waiting h))
 
   nears_by : (c : ReporterStage) → r.closing ≡ c → InTable (table_cells r.labels) c → Nears c (closing_in (get_elem? (next_state n (ws, Reporter r ∷ others) (closing_event c)).1 0))
   nears_by Idle h t = subst (λ k. Nears Idle (after_move (reporter_move event.SwapActive r k))) (sym h) (idle_case h (nat_lt r.interval 16777216))
   nears_by Swapped h t = subst (λ k. Nears Swapped (after_move (reporter_move event.ClearEnd r k))) (sym h) (inr (inr (omega arith)))
   nears_by Cleared h t = subst (λ k. Nears Cleared (after_move (reporter_move event.Flip r k))) (sym h) (inr (inr (omega arith)))
   nears_by (Waiting want) h t =
-      subst (λ k. Nears (Waiting want) (after_move (reporter_move event.Look r k))) (sym h) (look_case want h (slice_index ws (end_at (is_odd r.interval)) == want))
+      subst (λ k. Nears (Waiting want) (after_move (reporter_move event.Look r k))) (sym h)
+      (look_case want (with_seen r (slice_index ws (end_at (is_odd r.interval)))) h (slice_index ws (end_at (is_odd r.interval)) == want))
   nears_by (Harvest j) h t =
       subst (λ k. Nears (Harvest j) (after_move (reporter_move event.Take r k))) (sym h)
-      (gathered_case (Harvest j) (r.cells ++ slice_index ws (cell_at r.labels r.interval j) ∷ []) (j + 1) ((j + 1) == table_cells r.labels) (omega (arith, t, labels)))
+      (gathered_case (Harvest j) r (r.cells ++ slice_index ws (cell_at r.labels r.interval j) ∷ []) (j + 1) ((j + 1) == table_cells r.labels) (omega (arith, t, labels)))
 
   nears_all : Nears r.closing (closing_in (get_elem? (next_state n (ws, Reporter r ∷ others) (closing_event r.closing)).1 0))
   nears_all = nears_by r.closing refl within
@@ -238,13 +239,13 @@ module _ (n : Numbers) (ws : List ℕ) (r : ReporterView) (others : List View) (
   idle_comes h true = inr (omega arith)
   idle_comes h false = inl (ap is_idle h)
 
-  gathered_comes : (c : ReporterStage) (l : List ℕ) (j : ℕ) (b : Bool) → 1000000 - j < rank c → Comes c (closing_in (some (Reporter (gathered_if b r l j))))
-  gathered_comes c l j true less = inl refl
-  gathered_comes c l j false less = inr less
+  gathered_comes : (c : ReporterStage) (v : ReporterView) (l : List ℕ) (j : ℕ) (b : Bool) → 1000000 - j < rank c → Comes c (closing_in (some (Reporter (gathered_if b v l j))))
+  gathered_comes c v l j true less = inl refl
+  gathered_comes c v l j false less = inr less
 
-  look_comes : (want : ℕ) (b : Bool) → b ≡ true → Comes (Waiting want) (closing_in (some (Reporter (settled r b))))
-  look_comes want true h = gathered_comes (Waiting want) [] 0 (0 == table_cells r.labels) (omega arith)
-  look_comes want false h = absurd (cc)
+  look_comes : (want : ℕ) (v : ReporterView) (b : Bool) → b ≡ true → Comes (Waiting want) (closing_in (some (Reporter (settled v b))))
+  look_comes want v true h = gathered_comes (Waiting want) v [] 0 (0 == table_cells v.labels) (omega arith)
+  look_comes want v false h = absurd (cc)
 
   comes_by : (c : ReporterStage) → r.closing ≡ c → InTable (table_cells r.labels) c → Comes c (closing_in (get_elem? (next_state n (ws, Reporter r ∷ others) (closing_event c)).1 0))
   comes_by Idle h t = subst (λ k. Comes Idle (closing_after (reporter_move event.SwapActive r k))) (sym h) (idle_comes h (nat_lt r.interval 16777216))
@@ -252,10 +253,10 @@ module _ (n : Numbers) (ws : List ℕ) (r : ReporterView) (others : List View) (
   comes_by Cleared h t = subst (λ k. Comes Cleared (closing_after (reporter_move event.Flip r k))) (sym h) (inr (omega arith))
   comes_by (Waiting want) h t =
       subst (λ k. Comes (Waiting want) (closing_after (reporter_move event.Look r k))) (sym h)
-      (look_comes want (slice_index ws (end_at (is_odd r.interval)) == want) (let found = finds want h in grind (nat_tests, arith, found)))
+      (look_comes want (with_seen r (slice_index ws (end_at (is_odd r.interval)))) (slice_index ws (end_at (is_odd r.interval)) == want) (let found = finds want h in grind (nat_tests, arith, found)))
   comes_by (Harvest j) h t =
       subst (λ k. Comes (Harvest j) (closing_after (reporter_move event.Take r k))) (sym h)
-      (gathered_comes (Harvest j) (r.cells ++ slice_index ws (cell_at r.labels r.interval j) ∷ []) (j + 1) ((j + 1) == table_cells r.labels) (omega (arith, t, labels)))
+      (gathered_comes (Harvest j) r (r.cells ++ slice_index ws (cell_at r.labels r.interval j) ∷ []) (j + 1) ((j + 1) == table_cells r.labels) (omega (arith, t, labels)))
 
 comes_state : (n : Numbers) (core : Shape) (ws : List ℕ) (views : List View) → Shows core views → RecorderInvariant n ws views → ((p : Bool) → total (inside p) views ≡ 0)
     → Comes core.reporter.closing (closing_in (get_elem? (next_state n (ws, views) (closing_event core.reporter.closing)).1 0))
