@@ -1,8 +1,7 @@
-use Rattle.std.proofs.Common.{◌≡◌, ◌≤◌, ◌<◌, inl, sym, ap, ◌∙◌, refl, subst, arith}
+use Rattle.std.proofs.Common.{inl, sym, ◌∙◌, refl, subst, arith}
 use Rattle.phaser_core.specs.declared.view.Event.TheVariants.{LookStop}
 use Rattle.phaser_core.specs.Step.{next_state}
-use Rattle.weave_engine.specs.Turns.{lock_left}
-use Rattle.weave_engine.specs.Seats.{CoreIs, MovesOne, TurnsIn, Turned}
+use Rattle.weave_engine.specs.Seats.{CoreIs, MovesOne, Turned}
 use Rattle.weave_engine.proofs.LoadLaws.{has_settled}
 use Rattle.weave_engine.proofs.SeatLaws.{is_one, not_one}
 use Rattle.weave_engine.proofs.TurnLaws.{empty_turned, stop_turned, step_turned}
