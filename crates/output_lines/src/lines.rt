@@ -105,9 +105,7 @@ fn sample_row<'a>(
 {
     let mut rows = Rows::new(alloc);
     sample_into(&mut rows, label, name, sample, interval)?;
-    let text = rows.into_text()?;
-    out.extend_from_slice(&text)?;
-    Ok(())
+    rows.append_to(out)
 }
 
 // Adds the row of a sample to others.
@@ -194,12 +192,15 @@ impl ResultLines {
         )
     }
 
-    /// The text of all lines.
-    pub fn into_text(self) -> M<Vec<u8>>
-        requires kept { is_some self ≡ true }
-        ensures { IfOk result (λ text. self ≡ Some text.items) }
+    /// Appends the text of all lines so far. Where memory runs out it appends nothing, and all lines are given up.
+    pub fn append_to(&mut self, out: &mut Vec<u8>) -> M<()>
+        requires kept { is_some self.old ≡ true }
+        ensures ok { OnOk result (Some out.new.items ≡ option_map (λ text. out.old.items ++ text) self.old) }
+        ensures same { OnOk result (self.new ≡ self.old) }
+        ensures err { OnErr result (out.new.items ≡ out.old.items) }
+        ensures spent { OnErr result (self.new ≡ None) }
     {
-        self.rows.into_text()
+        self.rows.append_to(out)
     }
 }
 

@@ -50,15 +50,19 @@ impl Rows {
         Ok(())
     }
 
-    pub(crate) fn into_text(self) -> M<Vec<u8>>
-        requires { is_some self ≡ true }
-        ensures { IfOk result (λ text. self ≡ Some text.items) }
+    // Appends the text of all rows so far. Out of memory appends nothing, and gives them up.
+    pub(crate) fn append_to(&mut self, out: &mut Vec<u8>) -> M<()>
+        requires { is_some self.old ≡ true }
+        ensures ok { OnOk result (Some out.new.items ≡ option_map (λ text. out.old.items ++ text) self.old) }
+        ensures kept { OnOk result (self.new ≡ self.old) }
+        ensures err { OnErr result (out.new.items ≡ out.old.items) }
+        ensures spent { OnErr result (self.new ≡ None) }
     {
-        let Rows { writer, .. } = self;
-        match writer.into_inner() {
-            Ok(text) => Ok(text),
-            Err(_) => Err(NoMemory),
+        if self.writer.flush().is_err() || out.extend_from_slice(self.writer.get_ref()).is_err() {
+            self.spent = true;
+            return Err(NoMemory);
         }
+        Ok(())
     }
 }
 
@@ -69,7 +73,5 @@ pub fn push_row(alloc: Global, out: &mut Vec<u8>, fields: &[&[u8]]) -> M<()>
 {
     let mut rows = Rows::new(alloc);
     rows.push(fields)?;
-    let text = rows.into_text()?;
-    out.extend_from_slice(&text)?;
-    Ok(())
+    rows.append_to(out)
 }

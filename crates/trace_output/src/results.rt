@@ -1,6 +1,6 @@
 // Result lines.
 
-ghost use Rattle.std.specs.Prelude.{◌≡◌, ◌<◌, ◌++◌, All, length, is_some, option_map, true, IfOk, OnOk, IsErrOf};
+ghost use Rattle.std.specs.Prelude.{◌≡◌, ◌<◌, ◌++◌, All, length, Some, is_some, option_map, true, IfOk, OnOk, IsErrOf};
 ghost use Rattle.element_tree.specs.Tree.{threads_of, thread_name_of};
 ghost use Rattle.element_tree.specs.Names.{labels_of};
 ghost use Rattle.output_lines.specs.Lines.{header_text};
@@ -19,7 +19,7 @@ use std::alloc::Global;
 use thread_machine::TraceItem;
 
 // How many items are printed together: a result line has less than 3 KiB, so that these and what is held back have less than 64.
-const AT_ONCE: usize = 8;
+const AT_ONCE: usize = 14;
 
 /// Prints the header and a line for each sample of a thread's trace, in its order, with the interval in which the sample
 /// was counted. Where memory runs out a prefix of this is out; where the sink fails, too.
@@ -170,24 +170,28 @@ fn put_items<K: Sink>(
         (way (K.written sink.old) (K.faults sink.old) pending.old)
         (way (K.written sink.new) (K.faults sink.new) pending.new) }
 {
-    let Ok(lines) = lines_of(alloc, plan, thread, name, items) else {
+    let Ok(mut lines) = lines_of(alloc, plan, thread, name, items) else {
         return Err(PrintError::NoMemory);
     };
-    put_lines(pending, sink, &lines)
+    let mut text = Vec::new(alloc);
+    if lines.append_to(&mut text).is_err() {
+        return Err(PrintError::NoMemory);
+    }
+    put_lines(pending, sink, &text)
 }
 
 // The line of each sample of these items.
-fn lines_of(alloc: Global, plan: &Plan, thread: u16, name: &Text, items: &[TraceItem]) -> M<Vec<u8>>
+fn lines_of(alloc: Global, plan: &Plan, thread: u16, name: &Text, items: &[TraceItem]) -> M<ResultLines>
     requires thread { thread < length (threads_of plan.now) }
     requires labels { All (IsLabelled (length (labels_of plan.now.elements))) items.now }
     requires name { name.now ≡ thread_name_of plan.now thread }
-    ensures { IfOk result (λ lines. lines.items ≡ trace_text plan.now thread items.now) }
+    ensures { IfOk result (λ lines. lines ≡ Some (trace_text plan.now thread items.now)) }
 {
     let mut lines = ResultLines::new(alloc);
     for item in items {
         add_line(&mut lines, plan, thread, name, item)?;
     }
-    lines.into_text()
+    Ok(lines)
 }
 
 // Adds the line of an item, if it is a sample.
