@@ -1,25 +1,43 @@
 #!/bin/sh
 # How many requests a second `run` makes over sockets with 1, 8 and 64 threads, a connection for each, and the processor time of a
 # request; beside ab and hey where they are installed (apache2-utils, hey), by turns in the same minute against the same server:
-# bench/http_server.c on loopback, or a server that is named. Then, with 8 threads at full speed, ten thousand and a hundred thousand
-# requests: how many failed, how many descriptors were open at most and when all had been made, and for the ten thousand how many
-# connections each side closed first.
+# bench/http_server.c on loopback, an nginx of its own, or a server that is named. Then, with 8 threads at full speed, ten thousand
+# and a hundred thousand requests: how many failed, how many files were open at most and when all had been made, and how many of
+# the connections that are in TIME-WAIT at the end each side closed first.
 # The aims: as many requests a second as ab and hey, at most 60 microseconds of processor time a request, and no fault.
-# Usage: bench/http.sh [REQUESTS [HOST PORT]]    (20,000 requests in each measure)
+# Usage: bench/http.sh [REQUESTS [nginx | HOST PORT]]    (20,000 requests in each measure)
 set -eu
 cd "$(dirname "$0")/.."
 requests=${1:-20000}
 folder=$(mktemp -d)
 server=
 trap '[ -z "$server" ] || kill -- "-$server" 2>/dev/null; rm -rf "$folder"' EXIT
+host=127.0.0.1
 if [ $# -ge 3 ]; then
     host=$2 port=$3
+elif [ "${2:-}" = nginx ]; then
+    port=$(python3 -c 'import socket; s = socket.create_server(("127.0.0.1", 0)); print(s.getsockname()[1])')
+    cat >"$folder/nginx.conf" <<END
+daemon off;
+worker_processes 4;
+pid $folder/pid;
+error_log $folder/error.log;
+events { worker_connections 4096; }
+http {
+    access_log off;
+    client_body_temp_path $folder/body; proxy_temp_path $folder/proxy; fastcgi_temp_path $folder/fastcgi; uwsgi_temp_path $folder/uwsgi; scgi_temp_path $folder/scgi;
+    server { listen $host:$port backlog=4096; location / { return 200 "hi"; } }
+}
+END
+    setsid nginx -e "$folder/error.log" -c "$folder/nginx.conf" &
+    server=$!
+    while ! [ -s "$folder/pid" ]; do sleep 0.1; done
 else
     gcc -O2 -o "$folder/server" bench/http_server.c
     setsid "$folder/server" 0 8 >"$folder/port" &
     server=$!
     while ! [ -s "$folder/port" ]; do sleep 0.1; done
-    host=127.0.0.1 port=$(cat "$folder/port")
+    port=$(cat "$folder/port")
 fi
 ./jm check </dev/null >/dev/null 2>&1 || true
 HOST=$host PORT=$port REQUESTS=$requests python3 - <<'PY'
@@ -39,7 +57,7 @@ def plan(threads, loops):
 def with_rest(plan):
     """The plan, whose threads each pause for half a second when they have made their requests."""
     timer = {"type": "ConstantTimer", "props": {"delay": "500"}}
-    plan["children"][0]["children"].append({"type": "Script", "name": "rest", "children": [timer]})
+    plan["children"][0]["children"].append({"type": "Script", "name": "rest", "props": {"replies": [{}]}, "children": [timer]})
     return plan
 
 def open_files(pid):

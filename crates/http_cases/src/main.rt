@@ -1,6 +1,6 @@
 //! Runs the cases of HTTP requests and responses, alone and over a stream. Each line of the input is a call; its fields are parted by one
-//! tab. A byte of a field may be written as `\n`, `\xNN` and so on, a backslash as `\\`, and a field `@N:TEXT` is the text N times, `@N:TEXT@M:TEXT` such texts
-//! one after another.
+//! tab. A byte of a field may be written as `\n`, `\xNN` and so on, a backslash as `\\`, and a field `@N:TEXT` is the text N times,
+//! `@N:TEXT@M:TEXT` such texts one after another.
 //!
 //! - `response FLAGS TEXT`: a response, with the flag `h` one to HEAD, else `-`. It is read whole, byte by byte, and cut in two at every
 //!   place. Printed are the reply and how many bytes belong to it, or the refusal and how many bytes there are up to the one that settles
