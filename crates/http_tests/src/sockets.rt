@@ -1,6 +1,6 @@
 //! What a request comes to at each kind of peer.
 
-use crate::asked::{asked, plan};
+use crate::asked::asked;
 use crate::peers::{Peer, Then, serve};
 use std::net::TcpListener;
 use std::process::Abort;
@@ -26,13 +26,18 @@ const WHOLE: usize = 4096;
 fn each_peer_has_its_outcome(rt: HostRuntime) -> Result<(), Fail> {
     let cases = [
         (b"".as_slice(), WHOLE, Then::Closes, LONG, "end early"),
-        (b"HTTP/1.1 2".as_slice(), WHOLE, Then::Closes, LONG, "end early"),
+        (
+            b"HTTP/1.1 2".as_slice(),
+            WHOLE,
+            Then::Closes,
+            LONG,
+            "end early",
+        ),
         (OPEN_HEAD, WHOLE, Then::SendsOn, LONG, "too long"),
         (RESPONSE, 1, Then::Closes, LONG, "hello"),
         (RESPONSE, WHOLE, Then::Waits, LONG, "hello"),
         (b"".as_slice(), WHOLE, Then::Waits, SHORT, "fault"),
     ];
-    let plan = plan(rt.alloc())?;
     for (text, size, then, limit, want) in cases {
         let peer = Peer { text, size, then };
         let listener = TcpListener::bind(&rt, "127.0.0.1:0")?;
@@ -40,7 +45,7 @@ fn each_peer_has_its_outcome(rt: HostRuntime) -> Result<(), Fail> {
         let (served, outcome) = thread::join(
             &rt,
             move || serve(&listener, peer),
-            || asked(&rt, rt.alloc(), &plan, port, limit),
+            || asked(&rt, rt.alloc(), port, limit),
         );
         assert_eq!(rt; outcome?, want);
         served?;
@@ -49,11 +54,10 @@ fn each_peer_has_its_outcome(rt: HostRuntime) -> Result<(), Fail> {
 }
 
 #[test]
-fn a_port_that_refuses_is_a_fault(rt: HostRuntime) -> Result<(), Fail> {
-    let plan = plan(rt.alloc())?;
+fn a_port_that_refuses_gives_no_stream(rt: HostRuntime) -> Result<(), Fail> {
     let listener = TcpListener::bind(&rt, "127.0.0.1:0")?;
     let port = listener.local_addr()?.port();
     drop(listener);
-    assert_eq!(rt; asked(&rt, rt.alloc(), &plan, port, LONG)?, "fault");
+    assert_eq!(rt; asked(&rt, rt.alloc(), port, LONG)?, "no stream");
     Ok(())
 }
