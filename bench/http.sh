@@ -12,6 +12,7 @@ requests=${1:-20000}
 folder=$(mktemp -d)
 server=
 trap '[ -z "$server" ] || kill -- "-$server" 2>/dev/null; rm -rf "$folder"' EXIT
+trap 'exit 1' INT TERM
 host=127.0.0.1
 if [ $# -ge 3 ]; then
     host=$2 port=$3
