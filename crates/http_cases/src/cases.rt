@@ -1,6 +1,7 @@
 // The cases, one line each.
 
 use crate::calls;
+use crate::exchanges::exchanged;
 use crate::mirrors::{mirrored, mirrored_in, mirrored_with_faults};
 use crate::requests::requested;
 use crate::shown::{fed_shown, finish_shown};
@@ -76,6 +77,7 @@ impl Cases {
             "sized" => return self.in_sizes(alloc, &fields),
             "pieces" => return in_pieces(alloc, head_only, fields.get(2..).unwrap_or(&[])),
             "request" => return requested(alloc, &fields, self.repeat),
+            "exchange" => return exchanged(alloc, &fields),
             "mirror" | "mirror-sized" | "mirror-faults" => return mirror_case(alloc, &fields),
             _ => {}
         }

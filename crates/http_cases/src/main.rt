@@ -1,6 +1,6 @@
-//! Runs the cases of HTTP requests and responses. Each line of the input is a call; its fields are parted by one tab. A byte of a field
-//! may be written as `\n`, `\xNN` and so on, a backslash as `\\`, and a field `@N:TEXT` is the text N times, `@N:TEXT@M:TEXT` such texts
-//! one after another.
+//! Runs the cases of HTTP requests and responses, alone and over a stream. Each line of the input is a call; its fields are parted by one
+//! tab. A byte of a field may be written as `\n`, `\xNN` and so on, a backslash as `\\`, and a field `@N:TEXT` is the text N times,
+//! `@N:TEXT@M:TEXT` such texts one after another.
 //!
 //! - `response FLAGS TEXT`: a response, with the flag `h` one to HEAD, else `-`. It is read whole, byte by byte, and cut in two at every
 //!   place. Printed are the reply and how many bytes belong to it, or the refusal and how many bytes there are up to the one that settles
@@ -15,6 +15,9 @@
 //! - `mirror-sized SIZE TEXT`: the same in pieces of a size.
 //! - `mirror-faults SIZE TEXT`: the same in pieces of a size, where each call fails in turn, which is to be a StreamFault: how often nothing was sent
 //!   and how often a part of the answer; and whether with no failed call it is what it was.
+//! - `exchange FLAGS SIZE CALL TEXT TEXT`: a request that is sent, with the flag `h` one of HEAD, else `-`, and the response that its peer gives,
+//!   both in pieces of a size. The call of this number fails, the first being 0; no call where CALL is `-`. Printed are the reply, the
+//!   refusal or `Fault`, what was sent, and how many bytes had come.
 //! - `repeat N`: each call after it is made N times.
 //!
 //! Any other line is for a reader alone. A part of a reply of more than 60 bytes and a request of more than 1,000 are shown by their
@@ -23,6 +26,7 @@
 
 mod calls;
 mod cases;
+mod exchanges;
 mod mirrors;
 mod requests;
 mod shown;

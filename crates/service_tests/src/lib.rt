@@ -1,0 +1,5 @@
+//! Tests of the whole program against a service over sockets.
+#![tactic(auto)]
+
+#[cfg(test)]
+mod mirrored;
