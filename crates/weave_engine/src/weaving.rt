@@ -55,7 +55,7 @@ fn first_seat<'p>(
 }
 
 // All threads of the plan before their first turns.
-pub fn first_seats<'p>(
+fn first_seats<'p>(
     alloc: Global,
     plan: &'p Plan,
     seed: u64,
@@ -75,7 +75,7 @@ pub fn first_seats<'p>(
 }
 
 // The core with a writer for each thread of the plan.
-pub fn first_core(alloc: Global, plan: &Plan, budget: u32) -> M<Core>
+fn first_core(alloc: Global, plan: &Plan, budget: u32) -> M<Core>
     requires { length (threads_of plan.now) * budget ≤ 4194304 }
     ensures threads { (1 ≤ length (threads_of plan.now)) × (length (threads_of plan.now) ≤ 64) }
     ensures core { (options : Options) → options.budget ≡ budget → IfOk result (λ c. CoreIs c (numbers_of plan.now options) (split_to (numbers_of plan.now options) (length (threads_of plan.now) - 1))) }
