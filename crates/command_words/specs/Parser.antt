@@ -27,7 +27,7 @@ abbrev pub solo_app : App
 solo_app = with_options (new_app (codes "solo")) (codes "seed" ∷ codes "props" ∷ codes "samples" ∷ codes "thread" ∷ [])
 
 abbrev pub run_app : App
-run_app = with_options (new_app (codes "run")) (codes "seed" ∷ codes "props" ∷ codes "samples" ∷ codes "every" ∷ [])
+run_app = with_options (new_app (codes "run")) (codes "seed" ∷ codes "props" ∷ codes "samples" ∷ codes "every" ∷ codes "limit" ∷ [])
 
 abbrev pub bare_shape : Shape → Shape
 bare_shape s = record s { no_binary_name = true; disable_help_flag = true; disable_help_subcommand = true; subcommand_required = true }
