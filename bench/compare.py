@@ -1,9 +1,10 @@
 #!/usr/bin/env python3
-"""Holds what `solo` prints of random plans against the model in bench/model.py, byte for byte.
+"""Holds what `solo` prints of random plans, and `weave` of random schedules of them, against the models in bench/model.py
+and bench/weave_model.py, byte for byte.
 
 Usage: bench/compare.py [SECONDS [SEED]]    (60 seconds and the seed 1 where they are not given)
 It prints how many plans were compared and how their threads ended; or the first plan that differs, with both texts, and
-then its status is 1.
+then its status is 1. At least a thousand schedules are compared, however long that takes.
 """
 import collections
 import json
@@ -13,7 +14,9 @@ import subprocess
 import sys
 import time
 
-from model import CONTROLLERS, printed, threads_of
+import model
+import weave_model
+from model import CONTROLLERS, threads_of
 
 TOP = os.path.dirname(os.path.dirname(os.path.abspath(__file__)))
 PROGRAM = f"{TOP}/crates/jm_program/out/jm_program"
@@ -80,19 +83,23 @@ class Plans:
             if self.often(0.3):
                 props["end"] = self.one_of(0, 1, 2, 3)
             return props
-        return {}
+        return {"lock": self.one_of("a", "a", "b")} if kind == "CriticalSection" else {}
 
-    def element(self, depth, around):
+    def element(self, depth, around, inside_section=False):
         """An element below looping elements of these names, each of which has one of its own for its index."""
         if depth == 0 or self.often(0.38):
             return self.sampler()
         self.made += 1
-        kind = self.one_of(*CONTROLLERS, "Transaction", "Transaction")
+        kind = self.one_of(*CONTROLLERS, "Transaction", "Transaction", "CriticalSection")
+        if inside_section and kind == "CriticalSection":
+            kind = "Simple"
+        inside_section = inside_section or kind == "CriticalSection"
         loops = kind in ("Loop", "While", "ForEach")
         name = f"{kind}{self.made}" if loops else self.one_of(kind, "A", "default", "Default", "home")
         props = self.props(kind, around)
         inside = [*around, name] if loops else around
-        children = [self.element(depth - 1, inside) for _ in range(self.one_of(0, 1, 1, 2, 2, 3, 4))]
+        count = self.one_of(0, 1, 1, 2, 2, 3, 4)
+        children = [self.element(depth - 1, inside, inside_section) for _ in range(count)]
         if self.often(0.1):
             children.append({"type": "UserVariables", "props": {"vars": [["v", self.one_of("1", "2", "yy")]]}})
         if self.often(0.1):
@@ -114,33 +121,73 @@ class Plans:
         groups = [self.group() for _ in range(self.one_of(1, 1, 1, 2))]
         return {"type": "TestPlan", "children": [{"type": "UserVariables", "props": {"vars": PAIRS}}, *groups]}
 
+    def schedule(self, threads):
+        """Tokens for that many threads, some of them for none; each schedule has a mixture of its own."""
+        shares = [self.one_of(0, 1, 4, 9) for _ in range(3)] + [1]
+        count = self.one_of(0, 2, 6, 15, 40, 100, 300)
+        return ",".join(self.token(threads, self.choices.choices("DxrR", shares)[0]) for _ in range(count))
 
-def differs(plan, thread, seed, budget):
-    """What the model prints and, where it is not the same, what was printed."""
-    words = [PROGRAM, "solo", "--thread", str(thread), "--seed", str(seed), "--samples", str(budget)]
-    ran = subprocess.run(words, input=json.dumps(plan).encode(), capture_output=True)
-    found = ran.stdout.decode(), ran.stderr.decode()
-    wanted = printed(plan, thread, seed, budget)
-    return wanted, None if (ran.returncode, found) == (0, wanted) else (ran.returncode, *found)
+    def token(self, threads, form):
+        if form in "rR":
+            return form
+        number = self.choices.randrange(threads) if self.often(0.95) else self.one_of(threads, 63, 99)
+        digits = f"{number:02}" if self.often(0.1) else str(number)
+        return digits + ("x" if form == "x" else "")
+
+
+class Comparison:
+    """The program's answers beside those of the models."""
+
+    def __init__(self, program):
+        self.program, self.ends, self.plans, self.schedules = program, collections.Counter(), 0, 0
+
+    def agrees(self, plan, words, wanted):
+        """Whether the program prints that of a plan; else it is shown."""
+        ran = subprocess.run([self.program, *words], input=json.dumps(plan).encode(), capture_output=True)
+        found = ran.stdout.decode(), ran.stderr.decode()
+        for line in wanted[1].splitlines():
+            if line.startswith("end,"):
+                self.ends[line.rsplit(",", 1)[1]] += 1
+        if (ran.returncode, found) == (0, wanted):
+            return True
+        print(json.dumps(plan), " ".join(words), ran.returncode, *found, "the model:", *wanted, sep="\n")
+        return False
+
+    def solo(self, choices):
+        plan, seed, budget = any_run(choices)
+        thread = choices.randrange(len(threads_of(plan)))
+        self.plans += 1
+        words = ["solo", "--thread", str(thread), "--seed", str(seed), "--samples", str(budget)]
+        return self.agrees(plan, words, model.printed(plan, thread, seed, budget))
+
+    def weave(self, choices):
+        plan, seed, budget = any_run(choices)
+        schedule = Plans(choices).schedule(len(threads_of(plan)))
+        self.schedules += 1
+        words = ["weave", "--seed", str(seed), "--samples", str(budget), *(["--schedule", schedule] if schedule else [])]
+        return self.agrees(plan, words, weave_model.printed(plan, seed, budget, schedule))
+
+
+def any_run(choices):
+    """A plan, a seed, and a sample budget."""
+    seed = choices.choice([0, 7, choices.getrandbits(64)])
+    return Plans(choices).plan(), seed, choices.choice([1, 2, 3, 5, 8, 20, 60, 200])
+
+
+def compare(program, seconds, first):
+    choices, comparison, until = random.Random(first), Comparison(program), time.monotonic() + seconds
+    while time.monotonic() < until or comparison.schedules < 1000:
+        if not (comparison.solo(choices) and comparison.weave(choices)):
+            return 1
+    ends = ", ".join(f"{count:,} {end}" for end, count in comparison.ends.most_common())
+    print(f"{comparison.plans:,} plans by solo and {comparison.schedules:,} schedules by weave, each printed as the "
+          f"models print it; their threads ended so: {ends}")
+    return 0
 
 
 def main(seconds=60, first=1):
     subprocess.run([f"{TOP}/jm", "solo"], stdin=subprocess.DEVNULL, capture_output=True)
-    choices, ends, until = random.Random(first), collections.Counter(), time.monotonic() + seconds
-    while time.monotonic() < until:
-        plan = Plans(choices).plan()
-        thread = choices.randrange(len(threads_of(plan)))
-        seed = choices.choice([0, 7, choices.getrandbits(64)])
-        budget = choices.choice([1, 2, 3, 5, 8, 20, 60, 200])
-        wanted, other = differs(plan, thread, seed, budget)
-        if other:
-            words = f"solo --thread {thread} --seed {seed} --samples {budget}"
-            print(json.dumps(plan), words, *other, "the model:", *wanted, sep="\n")
-            return 1
-        ends[wanted[1].rstrip().rsplit(",", 1)[1]] += 1
-    counts = ", ".join(f"{count:,} {end}" for end, count in ends.most_common())
-    print(f"{sum(ends.values()):,} plans, each printed as the model prints it: {counts}")
-    return 0
+    return compare(PROGRAM, seconds, first)
 
 
 if __name__ == "__main__":

@@ -1,7 +1,7 @@
 """A model in Python of what `solo` prints: the meaning of a thread over its plan's own replies (docs/inside/MEANING.md).
 
-It stands apart from the definitions and from the program, so that bench/compare.py can hold the program against it. It
-knows the elements that run, but of templates only variables, `${__counter(TRUE)}`, and in `__jexl3` `${name}==NUMBER`
+It stands apart from the definitions and from the program, so that bench/compare.py can hold the program against it;
+bench/weave_model.py stands on it. It knows controllers and samplers, but of templates only variables, `${__counter(TRUE)}`, and in `__jexl3` `${name}==NUMBER`
 and `${__counter(TRUE)}<NUMBER`.
 """
 import re
@@ -11,7 +11,7 @@ MOST = 2**32 - 1
 ROUNDS = 16_777_216
 LAST_OK = "JMeterThread.last_sample_ok"
 CONTROLLERS = ("Simple", "OnceOnly", "Loop", "If", "While", "ForEach", "Switch", "Interleave", "Random", "RandomOrder",
-               "Transaction")
+               "Transaction", "CriticalSection")
 HEADER = "timeStamp,elapsed,label,responseCode,responseMessage,threadName,success,failureMessage,bytes,interval"
 
 NORMAL, NEXT_LOOP = "Normal", "NextLoop"
@@ -100,7 +100,7 @@ class Thread:
         props = self.group.get("props", {})
         self.clock = place * props.get("rampMs", 0) // props.get("threads", 1)
         self.words, self.places, self.replies = Words(seed, thread), {}, {}
-        self.samples, self.open = [], []
+        self.events, self.open = [], []
         for element in elements:
             if element["type"] == "UserVariables":
                 for name, value in element["props"]["vars"]:
@@ -238,7 +238,16 @@ class Thread:
         message = f"Number of samples in transaction : {len(heard)}, number of failing samples : {failed}"
         sums = {part: min(sum(it[part] for it in heard), MOST) for part in ("elapsed", "bytes")}
         own = {"label": name_of(element), "code": 0 if failed else 200, "message": message, "ok": not failed}
-        self.samples.append({"stamp": heard[0]["stamp"], **own, **sums})
+        self.events.append(("sample", {"stamp": heard[0]["stamp"], **own, **sums}))
+        return signal
+
+    def run_CriticalSection(self, element, props, children, index):
+        if self.units == 0:
+            return "SampleLimit"
+        self.units -= 1
+        self.events.append(("enter", props["lock"]))
+        signal = self.in_order(children, index)
+        self.events.append(("leave", props["lock"]))
         return signal
 
     def run_Script(self, element, props, children, index):
@@ -251,6 +260,7 @@ class Thread:
         self.replies[id(element)] = (place + 1) % len(props["replies"])
         self.clock += reply.get("ms", 0)
         if reply.get("null"):
+            self.events.append(("null", None))
             return NORMAL
         code, message = reply.get("code", 200), reply.get("message", "OK")
         body = request if reply.get("echo") else reply.get("body", "")
@@ -261,7 +271,7 @@ class Thread:
         self.variables[LAST_OK] = str(sample["ok"]).lower()
         for heard in self.open:
             heard.append(sample)
-        self.samples.append(sample)
+        self.events.append(("sample", sample))
         return NORMAL if sample["ok"] else ACTIONS[self.group.get("props", {}).get("onError", "continue")]
 
     def to_its_end(self):
@@ -286,19 +296,28 @@ def line_of(*fields):
     return ",".join(map(field_of, fields)) + "\n"
 
 
-def printed(plan, thread, seed, budget):
-    """The results and the report of a plan's thread."""
-    thread = Thread(plan, thread, seed, budget)
-    end, name = thread.to_its_end(), thread.name
-    results, report, sums = HEADER + "\n", "", [0, 0, 0, 0]
-    for it in thread.samples:
-        front = [it[part] for part in ("stamp", "elapsed", "label", "code", "message")]
-        results += line_of(*front, name, str(it["ok"]).lower(), "", it["bytes"], 0)
-    for label in thread.labels:
-        of_label = [it for it in thread.samples if it["label"] == label]
+def result_line(name, sample, interval):
+    fields = [sample[part] for part in ("stamp", "elapsed", "label", "code", "message")]
+    return line_of(*fields, name, str(sample["ok"]).lower(), "", sample["bytes"], interval)
+
+
+def summary_of(labels, samples):
+    """The lines of the labels that have samples, in their order, and of all of them."""
+    report, sums = "", [0, 0, 0, 0]
+    for label in labels:
+        of_label = [it for it in samples if it["label"] == label]
         if of_label:
             times = [it["elapsed"] for it in of_label]
             row = [len(of_label), sum(not it["ok"] for it in of_label), sum(times), sum(it["bytes"] for it in of_label)]
             sums = [one + other for one, other in zip(sums, row)]
             report += line_of("total", label, *row, min(times), max(times))
-    return results, report + line_of("all", *sums) + line_of("end", name, end)
+    return report + line_of("all", *sums)
+
+
+def printed(plan, thread, seed, budget):
+    """The results and the report of a plan's thread."""
+    thread = Thread(plan, thread, seed, budget)
+    end = thread.to_its_end()
+    samples = [it for what, it in thread.events if what == "sample"]
+    results = HEADER + "\n" + "".join(result_line(thread.name, it, 0) for it in samples)
+    return results, summary_of(thread.labels, samples) + line_of("end", thread.name, end)

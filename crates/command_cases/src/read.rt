@@ -2,8 +2,9 @@
 
 use crate::show::print_sink;
 use crate::texts::words_of;
-use command_words::{Command, Run, Solo, WordsError, read_words};
+use command_words::{Command, Run, Solo, Weave, WordsError, read_words};
 use jm_base::{M, NoMemory, Outcome, Outside, Request, Text};
+use schedule_text::{Schedule, Token};
 use std::alloc::Global;
 use template_text::{Template, parse_template};
 use var_functions::{FnState, Props, UserState, Vars, expand};
@@ -15,6 +16,7 @@ pub fn print_words(rt: &impl Print, alloc: Global, line: &str) -> anyhow::Result
         Ok(Command::Check) => println!(rt; "check")?,
         Ok(Command::Make(make)) => println!(rt; "make size={}", make.size)?,
         Ok(Command::Solo(solo)) => print_solo(rt, alloc, &solo)?,
+        Ok(Command::Weave(weave)) => print_weave_options(rt, alloc, &weave)?,
         Ok(Command::Run(run)) => print_run_options(rt, alloc, &run)?,
         Err(error) => println!(rt; "error: {error}")?,
     }
@@ -27,6 +29,36 @@ fn print_solo(rt: &impl Print, alloc: Global, solo: &Solo) -> anyhow::Result<()>
         solo.seed, solo.samples, solo.thread
     )?;
     print_props(rt, alloc, &solo.props)
+}
+
+fn print_weave_options(rt: &impl Print, alloc: Global, weave: &Weave) -> anyhow::Result<()> {
+    println!(rt;
+        "weave seed={} samples={} schedule={}",
+        weave.seed,
+        weave.samples,
+        tokens_text(alloc, &weave.schedule)?
+    )?;
+    print_props(rt, alloc, &weave.props)
+}
+
+// The tokens of a schedule, parted by commas.
+fn tokens_text(alloc: Global, schedule: &Schedule) -> anyhow::Result<String> {
+    let mut text = String::new(alloc);
+    for token in schedule.tokens() {
+        let comma = if text.is_empty() { "" } else { "," };
+        let token = token_text(alloc, *token)?;
+        text.push_str(format!(in alloc; "{comma}{token}")?.as_str())?;
+    }
+    Ok(text)
+}
+
+fn token_text(alloc: Global, token: Token) -> anyhow::Result<String> {
+    match token {
+        Token::Turn(thread) => Ok(format!(in alloc; "{thread}")?),
+        Token::Turns(thread) => Ok(format!(in alloc; "{thread}x")?),
+        Token::Reporter => Ok(format!(in alloc; "r")?),
+        Token::Reporters => Ok(format!(in alloc; "R")?),
+    }
 }
 
 fn print_run_options(rt: &impl Print, alloc: Global, run: &Run) -> anyhow::Result<()> {

@@ -4,12 +4,13 @@ use Rattle.std.specs.Prelude.{⊤, option_map, option_and_then, if◌then◌else
 use Rattle.std.specs.List.{list_all}
 use Rattle.std.specs.Str.{bytes_eq}
 use Rattle.command_words.specs.declared.command.Command.{Command}
-use Rattle.command_words.specs.declared.command.Command.TheVariants.{Check, Make, Solo, Run}
+use Rattle.command_words.specs.declared.command.Command.TheVariants.{Check, Make, Solo, Weave, Run}
 use Rattle.command_words.specs.declared.command.Make.{Make as MakeOf}
 use Rattle.command_words.specs.declared.command.Solo.{Solo as SoloOf}
+use Rattle.command_words.specs.declared.command.Weave.{Weave as WeaveOf}
 use Rattle.command_words.specs.declared.command.Run.{Run as RunOf}
 use Rattle.command_words.specs.CommandGrammar.{Word, Given, is_word, given_for, value_of}
-use Rattle.command_words.specs.Commands.{CommandRule, check, make, solo, run, make_of, solo_of, run_of, asked_of, command_of, names_run}
+use Rattle.command_words.specs.Commands.{CommandRule, check, make, solo, weave, run, make_of, solo_of, weave_of, run_of, asked_of, command_of, names_run}
 
 -- what is asked for is `run` only where this is true
 abbrev RunsWhere : Bool → Option Command → Type 0
@@ -17,6 +18,7 @@ RunsWhere first None = ⊤
 RunsWhere first (Some Check) = ⊤
 RunsWhere first (Some (Make m)) = ⊤
 RunsWhere first (Some (Solo s)) = ⊤
+RunsWhere first (Some (Weave w)) = ⊤
 RunsWhere first (Some (Run r)) = first ≡ true
 
 of_make : (first : Bool) (o : Option MakeOf) → RunsWhere first (option_map Make o)
@@ -26,6 +28,10 @@ of_make first (Some m) = tt
 of_solo : (first : Bool) (o : Option SoloOf) → RunsWhere first (option_map Solo o)
 of_solo first None = tt
 of_solo first (Some s) = tt
+
+of_weave : (first : Bool) (o : Option WeaveOf) → RunsWhere first (option_map Weave o)
+of_weave first None = tt
+of_weave first (Some w) = tt
 
 of_run : (o : Option RunOf) → RunsWhere true (option_map Run o)
 of_run None = tt
@@ -43,6 +49,10 @@ by_solo : (first : Bool) (o : Option Given) → RunsWhere first (option_and_then
 by_solo first None = tt
 by_solo first (Some given) = of_solo first (solo_of (value_of given))
 
+by_weave : (first : Bool) (o : Option Given) → RunsWhere first (option_and_then (λ given. weave.meaning (value_of given)) o)
+by_weave first None = tt
+by_weave first (Some given) = of_weave first (weave_of (value_of given))
+
 by_run : (o : Option Given) → RunsWhere true (option_and_then (λ given. run.meaning (value_of given)) o)
 by_run None = tt
 by_run (Some given) = of_run (run_of (value_of given))
@@ -50,17 +60,19 @@ by_run (Some given) = of_run (run_of (value_of given))
 abbrev by_rule : List Word → Option CommandRule → Option Command
 by_rule words rule = option_and_then (λ c. option_and_then (λ given. c.meaning (value_of given)) (given_for c.options words)) rule
 
-by_name : (words : List Word) (a b c d : Bool)
-    → RunsWhere d (by_rule words (if a then Some check else if b then Some make else if c then Some solo else if d then Some run else None))
-by_name words true b c d = by_check d (given_for check.options words)
-by_name words false true c d = by_make d (given_for make.options words)
-by_name words false false true d = by_solo d (given_for solo.options words)
-by_name words false false false true = by_run (given_for run.options words)
-by_name words false false false false = tt
+by_name : (words : List Word) (a b c d e : Bool)
+    → RunsWhere e (by_rule words (if a then Some check else if b then Some make else if c then Some solo else if d then Some weave else if e then Some run else None))
+by_name words true b c d e = by_check e (given_for check.options words)
+by_name words false true c d e = by_make e (given_for make.options words)
+by_name words false false true d e = by_solo e (given_for solo.options words)
+by_name words false false false true e = by_weave e (given_for weave.options words)
+by_name words false false false false true = by_run (given_for run.options words)
+by_name words false false false false false = tt
 
 asked : (words : List Word) → RunsWhere (names_run words) (asked_of words)
 asked [] = tt
-asked (word ∷ words) = by_name words (bytes_eq check.name word) (bytes_eq make.name word) (bytes_eq solo.name word) (bytes_eq run.name word)
+asked (word ∷ words) =
+    by_name words (bytes_eq check.name word) (bytes_eq make.name word) (bytes_eq solo.name word) (bytes_eq weave.name word) (bytes_eq run.name word)
 
 only_run : (words : List Word) → RunsWhere (names_run words) (command_of words)
 only_run words = by_test (list_all is_word words) where

@@ -3,7 +3,7 @@ use Rattle.std.specs.Prelude.{Bool, not, ◌&&◌, ◌||◌, ◌==◌, nat_lt, L
 use Rattle.std.specs.Str.{bytes_eq}
 use Rattle.clap.specs.Lexer.{long_of}
 use Rattle.command_words.specs.CommandGrammar.{Word, Given, Options, has, is_known, has_required}
-use Rattle.command_words.specs.Commands.{CommandRule, check, make, solo, run}
+use Rattle.command_words.specs.Commands.{CommandRule, check, make, solo, weave, run}
 
 abbrev pub starts_with_hyphen : Word → Bool
 starts_with_hyphen word = slice_index word 0 == 45
@@ -35,7 +35,7 @@ abbrev pub entry_of : CommandRule → Word × Options
 entry_of c = (c.name, c.options)
 
 abbrev pub entries : List (Word × Options)
-entries = entry_of check ∷ entry_of make ∷ entry_of solo ∷ entry_of run ∷ []
+entries = entry_of check ∷ entry_of make ∷ entry_of solo ∷ entry_of weave ∷ entry_of run ∷ []
 
 abbrev pub entry_named : Word → Option (Word × Options)
 entry_named name = find (λ c. bytes_eq c.0 name) entries

@@ -3,13 +3,14 @@ use Rattle.std.specs.Prelude.{Bool, true, false, ◌^◌, ◌-◌, List, [], ◌
 use Rattle.std.specs.List.{list_all}
 use Rattle.std.specs.Str.{bytes_eq}
 use Rattle.command_words.specs.declared.command.Command.{Command}
-use Rattle.command_words.specs.declared.command.Command.TheVariants.{Check, Make as RunMake, Solo as RunSolo, Run as RunAll}
+use Rattle.command_words.specs.declared.command.Command.TheVariants.{Check, Make as RunMake, Solo as RunSolo, Weave as RunWoven, Run as RunAll}
 use Rattle.command_words.specs.declared.command.Make.{Make}
 use Rattle.command_words.specs.declared.command.Solo.{Solo}
+use Rattle.command_words.specs.declared.command.Weave.{Weave}
 use Rattle.command_words.specs.declared.command.Run.{Run}
 use Rattle.command_words.specs.declared.value.Shared.{Shared}
 use Rattle.command_words.specs.CommandGrammar.{Word, Options, is_word, given_for, value_of}
-use Rattle.command_words.specs.WordValues.{number_between, properties_of}
+use Rattle.command_words.specs.WordValues.{number_between, properties_of, schedule_of}
 
 -- the option of `make` by the text of its value
 abbrev pub make_from : Word → Option Make
@@ -19,7 +20,7 @@ make_from size = option_map (λ n. record { size = n }) (number_between 1 2047 s
 abbrev pub make_of : (Word → Option Word) → Option Make
 make_of value = option_and_then make_from (value (codes "size"))
 
--- the options that `solo` and `run` share, by the texts of their values
+-- the options that `solo`, `weave` and `run` share, by the texts of their values
 abbrev pub shared_from : Word → Word → Word → Option Shared
 shared_from seed props samples =
     option_and_then (λ s. option_and_then (λ n. option_map (λ p.
@@ -40,6 +41,14 @@ solo_from shared thread =
 -- the options of `solo`: those that are shared, and the thread
 abbrev pub solo_of : (Word → Option Word) → Option Solo
 solo_of value = option_and_then (λ shared. solo_from shared (unwrap_or (value (codes "thread")) (codes "0"))) (shared_of value)
+
+abbrev pub weave_from : Shared → Word → Option Weave
+weave_from shared schedule =
+    option_map (λ tokens. record { seed = shared.seed; props = shared.props; samples = shared.samples; schedule = tokens }) (schedule_of schedule)
+
+-- the options of `weave`: those that are shared, and the schedule; where it is not given there are no tokens
+abbrev pub weave_of : (Word → Option Word) → Option Weave
+weave_of value = option_and_then (λ shared. weave_from shared (unwrap_or (value (codes "schedule")) (codes ""))) (shared_of value)
 
 abbrev pub run_from : Shared → Word → Word → Option Run
 run_from shared every limit =
@@ -76,6 +85,13 @@ solo = record {
   meaning = λ value. option_map RunSolo (solo_of value);
 }
 
+abbrev pub weave : CommandRule
+weave = record {
+  name = codes "weave";
+  options = (codes "seed", false) ∷ (codes "props", false) ∷ (codes "samples", false) ∷ (codes "schedule", false) ∷ [];
+  meaning = λ value. option_map RunWoven (weave_of value);
+}
+
 abbrev pub run : CommandRule
 run = record {
   name = codes "run";
@@ -84,7 +100,7 @@ run = record {
 }
 
 abbrev pub commands : List CommandRule
-commands = check ∷ make ∷ solo ∷ run ∷ []
+commands = check ∷ make ∷ solo ∷ weave ∷ run ∷ []
 
 abbrev pub command_named : Word → Option CommandRule
 command_named name = find (λ c. bytes_eq c.name name) commands

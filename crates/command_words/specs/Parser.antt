@@ -26,6 +26,9 @@ make_app = with_rule (new_app (codes "make")) (required_rule (codes "size"))
 abbrev pub solo_app : App
 solo_app = with_options (new_app (codes "solo")) (codes "seed" ∷ codes "props" ∷ codes "samples" ∷ codes "thread" ∷ [])
 
+abbrev pub weave_app : App
+weave_app = with_options (new_app (codes "weave")) (codes "seed" ∷ codes "props" ∷ codes "samples" ∷ codes "schedule" ∷ [])
+
 abbrev pub run_app : App
 run_app = with_options (new_app (codes "run")) (codes "seed" ∷ codes "props" ∷ codes "samples" ∷ codes "every" ∷ codes "limit" ∷ [])
 
@@ -39,7 +42,7 @@ abbrev pub plain_app : App
 plain_app = with_subcommand (with_subcommand (with_subcommand bare_app check_app.top) make_app.top) solo_app.top
 
 abbrev pub jm_app : App
-jm_app = with_subcommand plain_app run_app.top
+jm_app = with_subcommand (with_subcommand plain_app weave_app.top) run_app.top
 
 -- `clap` takes the words
 abbrev pub AreTaken : List Text → Type 0

@@ -1,9 +1,11 @@
 -- The values of options.
-use Rattle.std.specs.Prelude.{ℕ, Bool, ◌&&◌, nat_le, List, length, Option, Some, None, if◌then◌else◌}
+use Rattle.std.specs.Prelude.{ℕ, Bool, ◌&&◌, nat_le, List, length, Option, Some, None, Result, Ok, Err, if◌then◌else◌}
 use Rattle.std.specs.List.{list_all}
 use Rattle.std.specs.Char.{is_ascii_digit}
 use Rattle.std.specs.Str.Parse.{digits_value}
 use Rattle.var_functions.specs.RunProps.{each_is_pair, pairs_of}
+use Rattle.schedule_text.specs.declared.token.Token.{Token}
+use Rattle.schedule_text.specs.Reading.{reading_of}
 use Rattle.command_words.specs.CommandGrammar.{Word}
 
 -- 1 to 20 decimal digits
@@ -18,3 +20,12 @@ number_between least most text =
 -- the properties of a text of at most 65,536 bytes in which each pair has an `=`
 abbrev pub properties_of : Word → Option (List (Word × Word))
 properties_of text = if nat_le (length text) 65536 && each_is_pair text then Some (pairs_of text) else None
+
+-- the tokens of a text that is a schedule
+abbrev pub tokens_in : Result (List Token) ℕ → Option (List Token)
+tokens_in (Ok tokens) = Some tokens
+tokens_in (Err at) = None
+
+-- the schedule of a text of at most 65,536 bytes
+abbrev pub schedule_of : Word → Option (List Token)
+schedule_of text = if nat_le (length text) 65536 then tokens_in (reading_of text) else None

@@ -1,5 +1,6 @@
 // The commands of the program.
 
+use schedule_text::Schedule;
 use var_functions::Props;
 
 /// What a command line asks for.
@@ -11,6 +12,8 @@ pub enum Command {
     Make(Make),
     /// `solo`: run one thread of a plan over the plan's own replies.
     Solo(Solo),
+    /// `weave`: run all threads of a plan over the plan's own replies, in the order that a schedule says.
+    Weave(Weave),
     /// `run`: run all threads of a plan.
     Run(Run),
 }
@@ -33,6 +36,19 @@ pub struct Solo {
     pub samples: u32,
     /// `--thread`, which one is run, counted from 0 over all groups: at most 63.
     pub thread: u16,
+}
+
+/// The options of `weave`.
+#[derive(Drop)]
+pub struct Weave {
+    /// `--seed`, of the random words. Each number of 64 bits is one.
+    pub seed: u64,
+    /// `--props`, which `__P` reads.
+    pub props: Props,
+    /// `--samples`, the most that each thread may take: 1 to 262,144.
+    pub samples: u32,
+    /// `--schedule`, whose turn it is, turn after turn. Where it is not given there are no tokens.
+    pub schedule: Schedule,
 }
 
 /// The options of `run`.

@@ -7,6 +7,6 @@ mod parser;
 mod reading;
 mod value;
 
-pub use command::{Command, Make, Run, Solo};
+pub use command::{Command, Make, Run, Solo, Weave};
 pub use error::WordsError;
 pub use reading::{names_run, read_words};

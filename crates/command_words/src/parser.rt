@@ -4,7 +4,7 @@ ghost use Rattle.std.specs.Prelude.{◌≡◌, [], map, false, true, IfOk, Some,
 ghost use Rattle.clap.specs.Words.{app_of, rule_of, shape_of, subcommand_rows_of, with_rule, with_subcommand, fault_of, subcommand_of, is_simple_and_free};
 ghost use Rattle.clap.specs.Simple.{is_simple};
 ghost use Rattle.clap.specs.declared.builder.command.Command.TheViews.{out-Command as fields_of};
-ghost use Rattle.command_words.specs.Parser.{option_rule, make_app, solo_app, run_app, bare_app, plain_app, jm_app};
+ghost use Rattle.command_words.specs.Parser.{option_rule, make_app, solo_app, weave_app, run_app, bare_app, plain_app, jm_app};
 
 use crate::error::WordsError;
 use clap::builder::ValueParser;
@@ -65,6 +65,18 @@ fn solo_command<'a>(alloc: Global) -> Result<Command<'a>, AllocError>
     with_option(alloc, command, "thread")
 }
 
+/// `weave` with its options.
+fn weave_command<'a>(alloc: Global) -> Result<Command<'a>, AllocError>
+    ensures app { IfOk result (λ c. app_of c ≡ weave_app) }
+    ensures globals { IfOk result (λ c. (fields_of c).has_globals ≡ false) }
+{
+    let command = Command::new(alloc, "weave");
+    let command = with_option(alloc, command, "seed")?;
+    let command = with_option(alloc, command, "props")?;
+    let command = with_option(alloc, command, "samples")?;
+    with_option(alloc, command, "schedule")
+}
+
 /// `run` with its options.
 fn run_command<'a>(alloc: Global) -> Result<Command<'a>, AllocError>
     ensures app { IfOk result (λ c. app_of c ≡ run_app) }
@@ -89,7 +101,7 @@ fn bare_command<'a>(alloc: Global) -> Command<'a>
         .subcommand_required(true)
 }
 
-/// The program with the commands that start no threads.
+/// The program with the commands of one thread at most.
 fn plain_program<'a>(alloc: Global) -> Result<Command<'a>, AllocError>
     ensures { IfOk result (λ c. app_of c ≡ plain_app) }
 {
@@ -104,6 +116,7 @@ pub(crate) fn jm_command<'a>(alloc: Global) -> Result<Command<'a>, AllocError>
     ensures { IfOk result (λ c. app_of c ≡ jm_app) }
 {
     let command = plain_program(alloc)?;
+    let command = with_command(command, weave_command(alloc)?)?;
     with_command(command, run_command(alloc)?)
 }
 

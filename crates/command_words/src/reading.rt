@@ -4,15 +4,15 @@ ghost use Rattle.std.specs.Prelude.{◌≡◌, ◌≢◌, IsSome, IsNone, IsErr,
 ghost use Rattle.std.specs.List.{list_all};
 ghost use Rattle.clap.specs.Words.{app_of, subcommand_rows_of};
 ghost use Rattle.command_words.specs.CommandGrammar.{Given, is_word};
-ghost use Rattle.command_words.specs.Commands.{CommandRule, make_of, shared_of, solo_of, run_of, command_of, names_run};
+ghost use Rattle.command_words.specs.Commands.{CommandRule, make_of, shared_of, solo_of, weave_of, run_of, command_of, names_run};
 ghost use Rattle.command_words.specs.Parser.{AreTaken, taken_rows};
 ghost use Rattle.command_words.specs.Spelling.{IsCommandLine, IsNoCommandLine};
 ghost use Rattle.command_words.specs.ArgumentsShown.{shown_name, shown_value, Shows, ShowsReading, asked_by};
 
-use crate::command::{Command, Make, Run, Solo};
+use crate::command::{Command, Make, Run, Solo, Weave};
 use crate::error::WordsError;
 use crate::parser::{jm_command, parse};
-use crate::value::{Shared, make_from, run_from, shared_from, solo_from};
+use crate::value::{Shared, make_from, run_from, shared_from, solo_from, weave_from};
 use clap::ArgMatches;
 use std::alloc::Global;
 
@@ -89,7 +89,7 @@ fn make(matches: &ArgMatches) -> Option<Make>
     make_from(option_value(matches, "size")?)
 }
 
-/// The options that `solo` and `run` share.
+/// The options that `solo`, `weave` and `run` share.
 fn shared(alloc: Global, matches: &ArgMatches) -> Result<Shared, WordsError>
     ensures ok { IfOk result (λ s. shared_of (shown_value matches.now) ≡ Some s) }
     ensures bad { result ≡ Err WordsError.BadWords → shared_of (shown_value matches.now) ≡ None }
@@ -114,6 +114,18 @@ fn solo(alloc: Global, matches: &ArgMatches) -> Result<Solo, WordsError>
             Some(solo) => Ok(solo),
             None => Err(WordsError::BadWords),
         },
+        Err(WordsError::BadWords) => Err(WordsError::BadWords),
+        Err(WordsError::NoMemory) => Err(WordsError::NoMemory),
+    }
+}
+
+/// The options of `weave`.
+fn weave(alloc: Global, matches: &ArgMatches) -> Result<Weave, WordsError>
+    ensures ok { IfOk result (λ w. weave_of (shown_value matches.now) ≡ Some w) }
+    ensures bad { result ≡ Err WordsError.BadWords → weave_of (shown_value matches.now) ≡ None }
+{
+    match shared(alloc, matches) {
+        Ok(shared) => weave_from(alloc, shared, value_or(matches, "schedule", "")),
         Err(WordsError::BadWords) => Err(WordsError::BadWords),
         Err(WordsError::NoMemory) => Err(WordsError::NoMemory),
     }
@@ -157,6 +169,11 @@ fn command(alloc: Global, matches: &ArgMatches) -> Result<Command, WordsError>
         },
         Some("solo") => match solo(alloc, matches) {
             Ok(solo) => Ok(Command::Solo(solo)),
+            Err(WordsError::BadWords) => Err(WordsError::BadWords),
+            Err(WordsError::NoMemory) => Err(WordsError::NoMemory),
+        },
+        Some("weave") => match weave(alloc, matches) {
+            Ok(weave) => Ok(Command::Weave(weave)),
             Err(WordsError::BadWords) => Err(WordsError::BadWords),
             Err(WordsError::NoMemory) => Err(WordsError::NoMemory),
         },

@@ -1,11 +1,12 @@
 // The values of options.
 
 ghost use Rattle.std.specs.Prelude.{◌≡◌, ◌≤◌, IfOk, IfSome, Some, None};
-ghost use Rattle.command_words.specs.WordValues.{number_between, properties_of};
-ghost use Rattle.command_words.specs.Commands.{make_from, shared_from, solo_from, run_from};
+ghost use Rattle.command_words.specs.WordValues.{number_between, properties_of, schedule_of};
+ghost use Rattle.command_words.specs.Commands.{make_from, shared_from, solo_from, weave_from, run_from};
 
-use crate::command::{Make, Run, Solo};
+use crate::command::{Make, Run, Solo, Weave};
 use crate::error::WordsError;
+use schedule_text::{Schedule, ScheduleError, parse_schedule};
 use std::alloc::Global;
 use var_functions::{Props, PropsError};
 
@@ -48,6 +49,21 @@ fn properties_of(alloc: Global, text: &[u8]) -> Result<Props, WordsError>
     }
 }
 
+/// The schedule of a text of at most 65,536 bytes.
+fn schedule_of(alloc: Global, text: &[u8]) -> Result<Schedule, WordsError>
+    ensures ok { IfOk result (λ s. schedule_of text.now ≡ Some s) }
+    ensures bad { result ≡ Err WordsError.BadWords → schedule_of text.now ≡ None }
+{
+    if text.len() > 65_536 {
+        return Err(WordsError::BadWords);
+    }
+    match parse_schedule(alloc, text) {
+        Ok(schedule) => Ok(schedule),
+        Err(ScheduleError::BadSchedule { .. }) => Err(WordsError::BadWords),
+        Err(ScheduleError::NoMemory) => Err(WordsError::NoMemory),
+    }
+}
+
 /// The option of `make` by the text of its value.
 pub(crate) fn make_from(size: &str) -> Option<Make>
     ensures { result ≡ make_from size.now }
@@ -56,7 +72,7 @@ pub(crate) fn make_from(size: &str) -> Option<Make>
     Some(Make { size: size as u16 })
 }
 
-/// The options that `solo` and `run` share.
+/// The options that `solo`, `weave` and `run` share.
 #[derive(Drop)]
 pub struct Shared {
     /// `--seed`.
@@ -67,7 +83,7 @@ pub struct Shared {
     pub samples: u32,
 }
 
-/// The options that `solo` and `run` share, by the texts of their values.
+/// The options that `solo`, `weave` and `run` share, by the texts of their values.
 pub(crate) fn shared_from(
     alloc: Global,
     seed: &str,
@@ -105,6 +121,23 @@ pub(crate) fn solo_from(shared: Shared, thread: &str) -> Option<Solo>
         samples: shared.samples,
         thread: thread as u16,
     })
+}
+
+/// The options of `weave`: those that it shares, and its own by the text of its value.
+pub(crate) fn weave_from(alloc: Global, shared: Shared, schedule: &str) -> Result<Weave, WordsError>
+    ensures ok { IfOk result (λ w. weave_from shared schedule.now ≡ Some w) }
+    ensures bad { result ≡ Err WordsError.BadWords → weave_from shared schedule.now ≡ None }
+{
+    match schedule_of(alloc, schedule.as_bytes()) {
+        Ok(schedule) => Ok(Weave {
+            seed: shared.seed,
+            props: shared.props,
+            samples: shared.samples,
+            schedule,
+        }),
+        Err(WordsError::BadWords) => Err(WordsError::BadWords),
+        Err(WordsError::NoMemory) => Err(WordsError::NoMemory),
+    }
 }
 
 /// The options of `run`: those that it shares, and its own by the texts of their values.

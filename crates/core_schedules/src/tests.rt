@@ -156,3 +156,24 @@ fn closed_reports_are_the_plain_sums_in_random_schedules(rt: HostRuntime) -> Res
     assert!(rt; counted > 100);
     Ok(())
 }
+
+// a writer that begins before the interval is swapped, and loads after that, finds the next interval
+#[test]
+fn a_load_after_the_swap_finds_the_next_interval(rt: HostRuntime) -> Result<(), Fail> {
+    let mut core = Core::new(rt.alloc(), 1, 1, 10)?;
+    let entry = Entry {
+        label: 0,
+        ok: true,
+        elapsed: 5,
+        bytes: 0,
+    };
+    let early = core.apply(rt.alloc(), Event::Load(0, entry))?;
+    assert_eq!(rt; early, Applied::NotEnabled);
+    let entered = core.apply(rt.alloc(), Event::Enter(0))?;
+    assert_eq!(rt; entered, Applied::Old(0));
+    let swapped = core.apply(rt.alloc(), Event::SwapActive)?;
+    assert_eq!(rt; swapped, Applied::Old(0));
+    let loaded = core.apply(rt.alloc(), Event::Load(0, entry))?;
+    assert_eq!(rt; loaded, Applied::Old(1));
+    Ok(())
+}

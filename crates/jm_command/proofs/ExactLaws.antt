@@ -18,12 +18,12 @@ use Rattle.element_tree.proofs.RefusalLaws.{own_reading}
 use Rattle.element_tree.specs.Tree.{Tree}
 use Rattle.element_tree.specs.Walk.{reading}
 use Rattle.command_words.specs.declared.command.Command.{Command}
-use Rattle.command_words.specs.declared.command.Command.TheVariants.{Check, Make, Solo, Run}
+use Rattle.command_words.specs.declared.command.Command.TheVariants.{Check, Make, Solo, Weave, Run}
 use Rattle.jm_command.specs.declared.refusal.Refusal.{Refusal}
 use Rattle.jm_command.specs.declared.refusal.Refusal.TheVariants as refusals
 use Rattle.jm_command.specs.declared.status.Status.{Status}
 use Rattle.jm_command.specs.declared.status.Status.TheVariants.{Done, Usage, Refused, ReadFault, WriteFault, Memory}
-use Rattle.jm_command.specs.Refusals.{ReadsPlan, IsAccepted, IsPlanOf, IsFit, IsRefused, IsNotBuilt, IsUnfit, solo_fault, samples_fault}
+use Rattle.jm_command.specs.Refusals.{ReadsPlan, IsAccepted, IsPlanOf, IsFit, IsRefused, IsNotBuilt, IsUnfit, solo_fault, weave_fault, samples_fault}
 use Rattle.jm_command.specs.Command.{plan_limit, Edges, Accepts, HasPlan, Refuses, Says, NoRise, status_of_fault, status_of_plan, status_of_outcome, status_of_shape, status_of_bytes, status_for, number_of}
 
 -- a refusal is the plan's, or the maker of patterns finds one too large
@@ -71,6 +71,7 @@ fit_status Check tree plan fit = refl
 fit_status (Make m) tree plan fit = absurd fit
 fit_status (Run r) tree plan fit = rw (fit.built, fit.conditions) refl
 fit_status (Solo s) tree plan fit = rw (fit.built, fit.conditions) refl
+fit_status (Weave w) tree plan fit = rw (fit.built, fit.conditions) refl
 
 module _ (bytes : List ℕ) (within : length bytes ≤ plan_limit) (before after : Asked) (calm : Rose before.oversize after.oversize → ⊥) where
   accepted_status : (command : Command) (plan : Tree) → IsAccepted command bytes before after plan → status_of_bytes command bytes ≡ 0
@@ -81,6 +82,7 @@ module _ (bytes : List ℕ) (within : length bytes ≤ plan_limit) (before after
   not_built_status (Make m) path is = absurd is
   not_built_status (Run r) path is = at_plan (Run r) bytes within before after is.0 is.1 is.2 ∙ ap (λ o. status_of_fault o (status_of_fault (samples_fault is.1 r.samples) 0)) is.3
   not_built_status (Solo s) path is = at_plan (Solo s) bytes within before after is.0 is.1 is.2 ∙ ap (λ o. status_of_fault o (status_of_fault (solo_fault is.0 is.1 s) 0)) is.3
+  not_built_status (Weave w) path is = at_plan (Weave w) bytes within before after is.0 is.1 is.2 ∙ ap (λ o. status_of_fault o (status_of_fault (weave_fault is.0 is.1 w) 0)) is.3
 
   unfit_status : (command : Command) (e : BuildError) → IsUnfit command bytes before after e → status_of_bytes command bytes ≡ 3
   unfit_status Check e is = absurd is
@@ -89,6 +91,8 @@ module _ (bytes : List ℕ) (within : length bytes ≤ plan_limit) (before after
       ∙ ap (λ o. status_of_fault o (status_of_fault (samples_fault is.1 r.samples) 0)) is.3 ∙ ap (λ o. status_of_fault o 0) is.4
   unfit_status (Solo s) e is = at_plan (Solo s) bytes within before after is.0 is.1 is.2
       ∙ ap (λ o. status_of_fault o (status_of_fault (solo_fault is.0 is.1 s) 0)) is.3 ∙ ap (λ o. status_of_fault o 0) is.4
+  unfit_status (Weave w) e is = at_plan (Weave w) bytes within before after is.0 is.1 is.2
+      ∙ ap (λ o. status_of_fault o (status_of_fault (weave_fault is.0 is.1 w) 0)) is.3 ∙ ap (λ o. status_of_fault o 0) is.4
 
   refused_status : (command : Command) (refusal : Refusal) → IsRefused command bytes before after refusal → status_of_bytes command bytes ≡ 3
   refused_status command refusals.TooLong is = absurd is
@@ -104,6 +108,7 @@ status_read Check bytes reads = refl
 status_read (Make m) bytes reads = absurd reads
 status_read (Run r) bytes reads = refl
 status_read (Solo s) bytes reads = refl
+status_read (Weave w) bytes reads = refl
 
 took_all : (left left' : Option (List ℕ)) (bytes took : List ℕ) → left ≡ Some bytes → TookAll left left' took → took ≡ bytes
 took_all left left' bytes took is h = sym (rw is at h).0
@@ -122,6 +127,7 @@ module _ (old new : Edges) (bytes : List ℕ) (told : old.left ≡ Some bytes) (
   plan_status (Make m) plan has = refl
   plan_status (Run r) plan has = accepts_status (Run r) plan has
   plan_status (Solo s) plan has = accepts_status (Solo s) plan has
+  plan_status (Weave w) plan has = accepts_status (Weave w) plan has
 
   pub refuses_status : (command : Command) (refusal : Refusal) → Refuses command old new refusal → status_for (Some command) bytes ≡ 3
   refuses_status command refusal r = status_read command bytes r.0 ∙ elim r.1 [

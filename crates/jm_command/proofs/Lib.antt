@@ -6,3 +6,4 @@ pub mod CountLaws
 pub mod WordLaws
 pub mod StartLaws
 pub mod StatusLaws
+pub mod WeaveLaws

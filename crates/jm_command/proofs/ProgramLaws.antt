@@ -19,7 +19,8 @@ use Rattle.jm_command.specs.declared.refusal.Refusal.{Refusal}
 use Rattle.jm_command.specs.declared.refusal.Refusal.TheVariants.{TooLong, Shape, Build, NotBuilt, Unfit as Conditions}
 use Rattle.jm_command.specs.declared.judge.Judged.{Judged}
 use Rattle.jm_command.specs.declared.judge.Judged.TheVariants.{Fit, Unfit, NoMemory}
-use Rattle.command_words.specs.declared.command.Command.TheVariants.{Check, Make, Solo, Run}
+use Rattle.command_words.specs.declared.command.Command.TheVariants.{Check, Make, Solo, Weave, Run}
+use Rattle.command_words.specs.declared.command.Weave.{Weave as WeaveOf}
 use Rattle.command_words.specs.declared.command.Run.{Run as RunOf}
 use Rattle.command_words.specs.declared.command.Make.{Make as MakeOf}
 use Rattle.command_words.specs.declared.command.Solo.{Solo as SoloOf}
@@ -29,10 +30,10 @@ use Rattle.element_tree.specs.Walk.{reading}
 use Rattle.jm_command.specs.declared.status.Status.{Status}
 use Rattle.jm_command.specs.declared.status.Status.TheVariants.{Done, Usage, Refused, ReadFault, WriteFault, Memory}
 use Rattle.jm_command.specs.Refusals.{ReadsPlan, IsAccepted, IsRefused, replies_fault, thread_fault, first_fault, samples_fault, refusal_line}
-use Rattle.jm_command.specs.Printed.{results_for, report_for, MayPrint}
+use Rattle.jm_command.specs.Printed.{MayPrint}
 use Rattle.trace_output.specs.Printing.{TextOut, TextFailed}
 use Rattle.jm_command.specs.Command.{plan_limit, Edges, edges, Accepts, Makes, HasPlan, Refuses, IsDone, IsRefusal, LineUnwritten, RefusalUnwritten, ResultsUnwritten, ReportUnwritten, NothingPrinted, ResultsCut, ReportCut, IsCutShort, SaysUnplanned, Says, NothingRead, usage_line}
-use Rattle.jm_command.specs.Parts.{Sinks, sinks, LineSays, ResultsFailed, ReportFailed, ResultsShort, ReportShort, PlanSays, RefusalSays, SaysUnfound, IsPlain, Judges, JudgesSolo, JudgesRun, HasThread, CanRun}
+use Rattle.jm_command.specs.Parts.{Sinks, sinks, LineSays, ResultsFailed, ReportFailed, ResultsShort, ReportShort, PlanSays, RefusalSays, SaysUnfound, IsPlain, Judges, JudgesSolo, JudgesWeave, JudgesRun, HasThread, CanRun}
 
 -- a plan of which one thread can be run, or why it can't, is what the command finds of the bytes
 pub judges_solo : (s : SoloOf) (bytes : List ℕ) (before after : Asked) (tree : Raw) (plan : Tree) → reading_of bytes ≡ Ok tree → Goes before (reading tree) (over plan) after
@@ -45,6 +46,18 @@ judges_solo s bytes before after tree plan shape built (Unfit (Build e)) h = abs
 judges_solo s bytes before after tree plan shape built (Unfit (NotBuilt path)) h = (tree, plan, record { shape = shape; built = built }, h)
 judges_solo s bytes before after tree plan shape built (Unfit (Conditions e)) h = (tree, plan, record { shape = shape; built = built }, h.0, h.1)
 judges_solo s bytes before after tree plan shape built NoMemory h = tt
+
+-- the same of a plan of which all threads can be run by a schedule
+pub judges_weave : (w : WeaveOf) (bytes : List ℕ) (before after : Asked) (tree : Raw) (plan : Tree) → reading_of bytes ≡ Ok tree → Goes before (reading tree) (over plan) after
+    → (j : Judged) → JudgesWeave w tree plan j → Judges (Weave w) bytes before after j
+judges_weave w bytes before after tree plan shape built (Fit fit) h =
+    subst (λ p. IsAccepted (Weave w) bytes before after p) (sym h.0) (record { tree = tree; is_plan = record { shape = shape; built = built }; fit = h.1 })
+judges_weave w bytes before after tree plan shape built (Unfit TooLong) h = absurd h
+judges_weave w bytes before after tree plan shape built (Unfit (Shape e)) h = absurd h
+judges_weave w bytes before after tree plan shape built (Unfit (Build e)) h = absurd h
+judges_weave w bytes before after tree plan shape built (Unfit (NotBuilt path)) h = (tree, plan, record { shape = shape; built = built }, h)
+judges_weave w bytes before after tree plan shape built (Unfit (Conditions e)) h = (tree, plan, record { shape = shape; built = built }, h.0, h.1)
+judges_weave w bytes before after tree plan shape built NoMemory h = tt
 
 -- the same of a plan of which all threads can be run
 pub judges_run : (r : RunOf) (bytes : List ℕ) (before after : Asked) (tree : Raw) (plan : Tree) → reading_of bytes ≡ Ok tree → Goes before (reading tree) (over plan) after
@@ -96,12 +109,15 @@ pub can_run : (command : Command) (bytes : List ℕ) (before after : Asked) (pla
 can_run Check bytes before after plan plain is = tt
 can_run (Make m) bytes before after plan plain is = absurd plain
 can_run (Solo s) bytes before after plan plain is = has_thread plan s (no_second (replies_fault is.tree plan) (thread_fault plan s) is.fit.conditions)
+can_run (Weave w) bytes before after plan plain is =
+    record { samples = samples_fit plan w.samples (no_second (replies_fault is.tree plan) (samples_fault plan w.samples) is.fit.conditions) }
 can_run (Run r) bytes before after plan plain is = absurd plain
 
 pub reads_plan : (command : Command) → IsPlain command → ReadsPlan command
 reads_plan Check plain = tt
 reads_plan (Make m) plain = absurd plain
 reads_plan (Solo s) plain = tt
+reads_plan (Weave w) plain = tt
 reads_plan (Run r) plain = absurd plain
 
 keeps_same : (a b : Option (List ℕ)) → b ≡ a → Keeps a b
@@ -113,6 +129,7 @@ plan_read Check old new plan reads accepts = accepts
 plan_read (Make m) old new plan reads accepts = absurd reads
 plan_read (Run r) old new plan reads accepts = accepts
 plan_read (Solo s) old new plan reads accepts = accepts
+plan_read (Weave w) old new plan reads accepts = accepts
 
 -- texts that are not out, of a command that has its plan
 texts_unwritten : (left left' : Option (List ℕ)) (read read' : ℕ) (old new : Sinks) (asked asked' : Asked) (command : Command)
@@ -296,15 +313,18 @@ module _ (left left' : Option (List ℕ)) (read read' : ℕ) (old new : Sinks) (
 
   -- the texts of its plan
   pub plan_said : (plan : Tree) → Accepts command begun ended plan → (status : Status) → PlanSays command plan old new status → Says (Some command) begun ended status
-  plan_said plan is Done out = (
+  plan_said plan is Done s = (
     command,
     refl,
     record {
       plan = plan;
+      text = s.0;
+      report = s.1;
       has_plan = plan_read command begun ended plan reads is;
-      results = out.results_out;
-      reports = out.report_out;
-      no_fault = record { source = calm; results = out.result_calm; reports = out.report_calm };
+      texts = s.2;
+      results = s.3.results_out;
+      reports = s.3.report_out;
+      no_fault = record { source = calm; results = s.3.result_calm; reports = s.3.report_calm };
     },
   )
   plan_said plan is Usage s = absurd s
@@ -353,15 +373,18 @@ module _ (left : Option (List ℕ)) (read : ℕ) (old new : Sinks) (asked : Aske
   makes = record { made = refl; unread = record { left = Keeps-refl left; calm = refl; asked = refl } }
 
   pub made_said : (status : Status) → PlanSays (Make m) (generated m.size) old new status → Says (Some (Make m)) before_made after_made status
-  made_said Done out = (
+  made_said Done s = (
     Make m,
     refl,
     record {
       plan = generated m.size;
+      text = s.0;
+      report = s.1;
       has_plan = makes;
-      results = out.results_out;
-      reports = out.report_out;
-      no_fault = record { source = refl; results = out.result_calm; reports = out.report_calm };
+      texts = s.2;
+      results = s.3.results_out;
+      reports = s.3.report_out;
+      no_fault = record { source = refl; results = s.3.result_calm; reports = s.3.report_calm };
     },
   )
   made_said Usage s = absurd s

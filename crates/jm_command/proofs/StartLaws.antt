@@ -23,9 +23,10 @@ use Rattle.command_words.specs.Commands.{run, run_of, asked_of, command_of, name
 use Rattle.command_words.proofs.OptionLaws.{same_text}
 use Rattle.command_words.proofs.RunLaws.{run_is_named}
 use Rattle.command_words.specs.declared.command.Command.{Command}
-use Rattle.command_words.specs.declared.command.Command.TheVariants.{Check, Make, Solo, Run}
+use Rattle.command_words.specs.declared.command.Command.TheVariants.{Check, Make, Solo, Weave, Run}
 use Rattle.command_words.specs.declared.command.Make.{Make as MakeOf}
 use Rattle.command_words.specs.declared.command.Solo.{Solo as SoloOf}
+use Rattle.command_words.specs.declared.command.Weave.{Weave as WeaveOf}
 use Rattle.command_words.specs.declared.command.Run.{Run as RunOf}
 use Rattle.jm_command.specs.declared.status.Status.{Status}
 use Rattle.jm_command.specs.declared.status.Status.TheVariants.{Done, Usage, Refused, ReadFault, WriteFault, Memory}
@@ -166,6 +167,7 @@ cut_start None ticks after e = cut_at_start None e
 cut_start (Some Check) ticks after e = cut_at_start (Some Check) e
 cut_start (Some (Make m)) ticks after e = cut_at_start (Some (Make m)) e
 cut_start (Some (Solo o)) ticks after e = cut_at_start (Some (Solo o)) e
+cut_start (Some (Weave w)) ticks after e = cut_at_start (Some (Weave w)) e
 cut_start (Some (Run r)) ticks after e = inl (nothing_at_start e)
 
 -- no outside was opened
@@ -180,6 +182,7 @@ OnlyRuns None = ⊤
 OnlyRuns (Some Check) = ⊥
 OnlyRuns (Some (Make m)) = ⊥
 OnlyRuns (Some (Solo o)) = ⊥
+OnlyRuns (Some (Weave w)) = ⊥
 OnlyRuns (Some (Run r)) = ⊤
 
 as_run : (o : Option RunOf) → OnlyRuns (option_map Run o)
@@ -203,10 +206,13 @@ pub never_another : (words : List Word) → names_run words ≡ true → (c : Co
 never_another words named c is = subst OnlyRuns is (only_run words named)
 
 -- what is asked for is no other command
-pub not_another : (c : Command) → OnlyRuns (Some c) → (c ≡ Check) ⊎ (((m : MakeOf) × (c ≡ Make m)) ⊎ ((o : SoloOf) × (c ≡ Solo o))) → ⊥
+pub not_another : (c : Command) → OnlyRuns (Some c) → (c ≡ Check) ⊎ (((m : MakeOf) × (c ≡ Make m)) ⊎ (((o : SoloOf) × (c ≡ Solo o)) ⊎ ((w : WeaveOf) × (c ≡ Weave w)))) → ⊥
 not_another c only is = elim is [
   | inl a ↦ subst (λ x. OnlyRuns (Some x)) a only
-  | inr b ↦ elim b [ inl m ↦ subst (λ x. OnlyRuns (Some x)) m.1 only | inr o ↦ subst (λ x. OnlyRuns (Some x)) o.1 only ]
+  | inr b ↦ elim b [
+    | inl m ↦ subst (λ x. OnlyRuns (Some x)) m.1 only
+    | inr d ↦ elim d [ inl o ↦ subst (λ x. OnlyRuns (Some x)) o.1 only | inr w ↦ subst (λ x. OnlyRuns (Some x)) w.1 only ]
+  ]
 ]
 
 not_run : (words : List Word) (r : RunOf) → names_run words ≡ false → command_of words ≡ Some (Run r) → ⊥
@@ -219,6 +225,7 @@ plain_start words ticks after old new other None is status s = s
 plain_start words ticks after old new other (Some Check) is status s = s
 plain_start words ticks after old new other (Some (Make m)) is status s = s
 plain_start words ticks after old new other (Some (Solo o)) is status s = s
+plain_start words ticks after old new other (Some (Weave w)) is status s = s
 plain_start words ticks after old new other (Some (Run r)) is status s = absurd (not_run words r other is)
 
 -- with no fault the words and the bytes alone decide the status
@@ -242,4 +249,5 @@ module _ (old new : Edges) (bytes : List ℕ) (told : old.left ≡ Some bytes) (
   start_exactly (Some Check) status s = exactly old new bytes told calm (Some Check) status s
   start_exactly (Some (Make m)) status s = exactly old new bytes told calm (Some (Make m)) status s
   start_exactly (Some (Solo o)) status s = exactly old new bytes told calm (Some (Solo o)) status s
+  start_exactly (Some (Weave w)) status s = exactly old new bytes told calm (Some (Weave w)) status s
   start_exactly (Some (Run r)) status s = run_exactly r status s

@@ -1,6 +1,6 @@
 -- The texts of a thread that has run.
 use Rattle.std.proofs.Common.{◌≡◌, ℕ, true, List, [], ◌∷◌, ◌++◌, Option, Some, refl, sym, ap, ap₂, ◌∙◌, subst, inl, inr}
-use Rattle.std.specs.Prelude.{All}
+use Rattle.std.specs.Prelude.{All, codes}
 use Rattle.std.specs.List.{flat_map}
 use Rattle.std.specs.Io.KnownBytes.{Appends}
 use Rattle.std.specs.Option.{option_map_or}
@@ -15,6 +15,7 @@ use Rattle.element_tree.specs.Tree.{Tree}
 use Rattle.jm_meaning.specs.declared.item.Item.{Item}
 use Rattle.jm_meaning.specs.declared.item.Item.TheVariants.{Ended}
 use Rattle.outside_world.specs.Scripted.{scripts_of}
+use Rattle.element_tree.specs.PlanWritten.{plan_text}
 use Rattle.output_lines.specs.Lines.{header_text, result_text, end_text}
 use Rattle.output_lines.specs.Reports.{summary_text}
 use Rattle.thread_machine.specs.declared.trace.TraceItem.{TraceItem}
@@ -29,7 +30,7 @@ use Rattle.trace_output.specs.Printing.{TextOut, TextFailed, TextCut}
 use Rattle.jm_command.specs.declared.status.Status.{Status}
 use Rattle.jm_command.specs.declared.status.Status.TheVariants.{Done, Usage, Refused, ReadFault, WriteFault, Memory}
 use Rattle.jm_command.specs.Parts.{sinks, TextSays, ReportSays, MadeSays, PlanSays}
-use Rattle.jm_command.specs.Printed.{options_of, default_solo, shown_of, item_text, results_of, counted, report_of, results_for, last_end, end_is_whole, IsShown, HasShown, MayPrint}
+use Rattle.jm_command.specs.Printed.{options_of, default_solo, shown_of, item_text, results_of, counted, report_of, last_end, end_is_whole, IsShown, HasShown, MayPrint}
 
 last_end-append : (items : List Item) (end : End) → last_end (items ++ Ended end ∷ []) ≡ Some end
 last_end-append [] end = refl
@@ -128,12 +129,12 @@ module _ (plan : Tree) (s : Solo) (trace : List TraceItem) (end : End) (shown : 
     -- the results are out, and then comes the report
     pub solo_says : TextOut results a b f g → (r r' : Option (List ℕ)) (k k' : ℕ) (status : Status) → ReportSays report (end_is_whole end) r r' k k' status
         → PlanSays (SoloCommand s) plan (sinks a f r k) (sinks b g r' k') status
-    solo_says out r r' k k' Done h = record {
-      results_out = subst (λ text. Appends a b text) (results_are ∙ ap (results_of plan s.thread) (same h.0)) out.out;
-      result_calm = out.calm;
-      report_out = subst (λ text. Appends r r' text) (report_whole h.0) h.1.out;
-      report_calm = h.1.calm;
-    }
+    solo_says out r r' k k' Done h = (
+      results,
+      report,
+      (results_are ∙ ap (results_of plan s.thread) (same h.0), report_whole h.0),
+      record { results_out = out.out; result_calm = out.calm; report_out = h.1.out; report_calm = h.1.calm },
+    )
     solo_says out r r' k k' Usage h = absurd h
     solo_says out r r' k k' Refused h = absurd h
     solo_says out r r' k k' ReadFault h = absurd h
@@ -146,20 +147,26 @@ out_is_part text a b f g h = record { part = (text, [], sym (append-nil text), h
 
 -- ---- the other commands
 
-pub check_says : (plan : Tree) (a b : Option (List ℕ)) (f g : ℕ) (r : Option (List ℕ)) (k : ℕ) (status : Status) → TextSays (results_for Check plan) a b f g status
+pub check_says : (plan : Tree) (a b : Option (List ℕ)) (f g : ℕ) (r : Option (List ℕ)) (k : ℕ) (status : Status) → TextSays (plan_text plan ++ codes "\n") a b f g status
     → PlanSays Check plan (sinks a f r k) (sinks b g r k) status
-check_says plan a b f g r k Done h = record { results_out = h.out; result_calm = h.calm; report_out = Appends-nil r; report_calm = refl }
+check_says plan a b f g r k Done h =
+    (plan_text plan ++ codes "\n", [], (refl, refl), record { results_out = h.out; result_calm = h.calm; report_out = Appends-nil r; report_calm = refl })
 check_says plan a b f g r k Usage h = absurd h
 check_says plan a b f g r k Refused h = absurd h
 check_says plan a b f g r k ReadFault h = absurd h
 check_says plan a b f g r k WriteFault h =
-    (results_for Check plan, [], (refl, refl), inl (record { some = h.prefix; rose = h.rose; nothing = record { reports = refl; report_faults = refl } }))
+    (plan_text plan ++ codes "\n", [], (refl, refl), inl (record { some = h.prefix; rose = h.rose; nothing = record { reports = refl; report_faults = refl } }))
 check_says plan a b f g r k Memory h =
-    inr (results_for Check plan, [], (refl, refl), inl (record { part = h.part; calm = h.calm; nothing = record { reports = refl; report_faults = refl } }))
+    inr (plan_text plan ++ codes "\n", [], (refl, refl), inl (record { part = h.part; calm = h.calm; nothing = record { reports = refl; report_faults = refl } }))
 
 pub made_says : (plan : Tree) (m : MakeOf) (a : Option (List ℕ)) (f : ℕ) (r r' : Option (List ℕ)) (k k' : ℕ) (status : Status) → MadeSays plan r r' k k' status
     → PlanSays (Make m) plan (sinks a f r k) (sinks a f r' k') status
-made_says plan m a f r r' k k' Done h = record { results_out = Appends-nil a; result_calm = refl; report_out = h.out; report_calm = h.calm }
+made_says plan m a f r r' k k' Done h = (
+  [],
+  report_of plan default_solo.thread (shown_of plan default_solo),
+  (refl, refl),
+  record { results_out = Appends-nil a; result_calm = refl; report_out = h.out; report_calm = h.calm },
+)
 made_says plan m a f r r' k k' Usage h = absurd h
 made_says plan m a f r r' k k' Refused h = absurd h
 made_says plan m a f r r' k k' ReadFault h = absurd h

@@ -14,13 +14,13 @@ use Rattle.element_tree.specs.Walk.{reading}
 use Rattle.jm_command.specs.declared.status.Status.{Status}
 use Rattle.jm_command.specs.declared.status.Status.TheVariants.{Done, Usage, Refused, ReadFault, WriteFault, Memory}
 use Rattle.command_words.specs.declared.command.Command.{Command}
-use Rattle.command_words.specs.declared.command.Command.TheVariants.{Check, Make, Solo, Run}
+use Rattle.command_words.specs.declared.command.Command.TheVariants.{Check, Make, Solo, Weave, Run}
 use Rattle.command_words.specs.declared.command.Make.{Make as MakeOf}
 use Rattle.plan_maker.specs.Generated.{generated}
 use Rattle.jm_command.specs.declared.refusal.Refusal.{Refusal}
 use Rattle.jm_command.specs.declared.refusal.Refusal.TheVariants.{TooLong}
-use Rattle.jm_command.specs.Refusals.{ReadsPlan, IsAccepted, IsRefused, not_built, not_built_beside, solo_fault, samples_fault, refusal_line}
-use Rattle.jm_command.specs.Printed.{results_for, report_for, MayPrint}
+use Rattle.jm_command.specs.Refusals.{ReadsPlan, IsAccepted, IsRefused, not_built, not_built_beside, solo_fault, weave_fault, samples_fault, refusal_line}
+use Rattle.jm_command.specs.Printed.{TextsOf, MayPrint}
 
 abbrev pub usage_line : List ℕ
 usage_line = codes "usage: jm check|make|run|solo|weave [--option value]\n"
@@ -73,6 +73,7 @@ abbrev pub HasPlan : Command → Edges → Edges → Tree → Type 0
 HasPlan Check old new plan = Accepts Check old new plan
 HasPlan (Make m) old new plan = Makes m old new plan
 HasPlan (Solo s) old new plan = Accepts (Solo s) old new plan
+HasPlan (Weave w) old new plan = Accepts (Weave w) old new plan
 HasPlan (Run r) old new plan = Accepts (Run r) old new plan
 
 -- the plan has more bytes than its limit
@@ -94,9 +95,12 @@ Refuses command old new refusal = ReadsPlan command × (RefusesLong old new refu
 -- Status 0: the command has its plan, and its texts stand in the results and the reports.
 pub record IsDone (command : Command) (old new : Edges) : Type 0 where
   pub plan : Tree
+  pub text : List ℕ
+  pub report : List ℕ
   pub has_plan : HasPlan command old new plan
-  pub results : Appends old.results new.results (results_for command plan)
-  pub reports : Appends old.reports new.reports (report_for command plan)
+  pub texts : TextsOf command plan text report
+  pub results : Appends old.results new.results text
+  pub reports : Appends old.reports new.reports report
   pub no_fault : HasNoFault old new
 
 -- Status 2: the usage line stands in the reports, nothing in the results, and nothing was read.
@@ -249,6 +253,7 @@ abbrev pub status_of_plan : Command → Raw → Tree → ℕ
 status_of_plan Check tree plan = 0
 status_of_plan (Make m) tree plan = 0
 status_of_plan (Run r) tree plan = status_of_fault (not_built_beside tree plan.elements) (status_of_fault (samples_fault plan r.samples) 0)
+status_of_plan (Weave w) tree plan = status_of_fault (not_built tree plan.elements) (status_of_fault (weave_fault tree plan w) 0)
 status_of_plan (Solo s) tree plan = status_of_fault (not_built tree plan.elements) (status_of_fault (solo_fault tree plan s) 0)
 
 abbrev pub status_of_outcome : Command → Raw → Result Tree BuildError → ℕ
@@ -269,6 +274,7 @@ status_for None bytes = 2
 status_for (Some Check) bytes = status_of_bytes Check bytes
 status_for (Some (Make m)) bytes = 0
 status_for (Some (Solo s)) bytes = status_of_bytes (Solo s) bytes
+status_for (Some (Weave w)) bytes = status_of_bytes (Weave w) bytes
 status_for (Some (Run r)) bytes = status_of_bytes (Run r) bytes
 
 -- What the exit status of a plain command says, by its number. With no fault and no pattern too large the words and the bytes

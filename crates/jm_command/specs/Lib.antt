@@ -3,3 +3,4 @@ pub mod Printed
 pub mod Parts
 pub mod Command
 pub mod Started
+pub mod WovenTexts

@@ -1,5 +1,5 @@
 -- What the parts of the program say.
-use Rattle.std.specs.Prelude.{◌≡◌, ◌⊎◌, ℕ, ◌<◌, ◌≤◌, Bool, true, List, length, Option, Some, None}
+use Rattle.std.specs.Prelude.{◌≡◌, ◌⊎◌, ℕ, ◌*◌, ◌<◌, ◌≤◌, Bool, true, List, length, Option, Some, None}
 use Rattle.std.specs.Io.KnownBytes.{Appends}
 use Rattle.jm_base.specs.FaultCounts.{Rose}
 use Rattle.edge_io.specs.Edges.{AppendsProperPrefix}
@@ -11,17 +11,18 @@ use Rattle.jm_meaning.specs.declared.item.Item.{Item}
 use Rattle.jm_command.specs.declared.status.Status.{Status}
 use Rattle.jm_command.specs.declared.status.Status.TheVariants.{Done, Usage, Refused, ReadFault, WriteFault, Memory}
 use Rattle.command_words.specs.declared.command.Command.{Command}
-use Rattle.command_words.specs.declared.command.Command.TheVariants.{Check, Make, Solo as SoloCommand, Run}
+use Rattle.command_words.specs.declared.command.Command.TheVariants.{Check, Make, Solo as SoloCommand, Weave, Run}
 use Rattle.command_words.specs.declared.command.Make.{Make as MakeOf}
 use Rattle.command_words.specs.declared.command.Solo.{Solo}
+use Rattle.command_words.specs.declared.command.Weave.{Weave as WeaveOf}
 use Rattle.command_words.specs.declared.command.Run.{Run as RunOf}
 use Rattle.plan_json.specs.Shape.{Raw}
 use Rattle.jm_command.specs.declared.refusal.Refusal.{Refusal}
 use Rattle.jm_command.specs.declared.refusal.Refusal.TheVariants.{TooLong, Shape, Build, NotBuilt, Unfit as Conditions}
 use Rattle.jm_command.specs.declared.judge.Judged.{Judged}
 use Rattle.jm_command.specs.declared.judge.Judged.TheVariants.{Fit, Unfit, NoMemory}
-use Rattle.jm_command.specs.Refusals.{RunsAlone, RunsBeside, IsAccepted, IsRefused, not_built, not_built_beside, solo_fault, samples_fault, refusal_line}
-use Rattle.jm_command.specs.Printed.{default_solo, shown_of, report_of, results_for, report_for, HasShown, MayPrint}
+use Rattle.jm_command.specs.Refusals.{RunsAlone, RunsWoven, RunsBeside, IsAccepted, IsRefused, not_built, not_built_beside, solo_fault, weave_fault, samples_fault, refusal_line}
+use Rattle.jm_command.specs.Printed.{default_solo, shown_of, report_of, HasShown, TextsOf, MayPrint}
 
 -- what the two sinks hold, where it is told, and their counts of faults
 pub record Sinks : Type 0 where
@@ -131,7 +132,7 @@ MadeSays plan old new faults now Memory = ((new ≡ old) × (now ≡ faults)) �
 
 -- printing the texts of a command on a plan
 abbrev pub PlanSays : Command → Tree → Sinks → Sinks → Status → Type 0
-PlanSays command plan old new Done = BothOut (results_for command plan) (report_for command plan) old new
+PlanSays command plan old new Done = (results : List ℕ) × (report : List ℕ) × TextsOf command plan results report × BothOut results report old new
 PlanSays command plan old new Usage = ⊥
 PlanSays command plan old new Refused = ⊥
 PlanSays command plan old new ReadFault = ⊥
@@ -185,13 +186,15 @@ IsInRange None = Unit {0}
 IsInRange (Some Check) = Unit {0}
 IsInRange (Some (Make m)) = HasSize m
 IsInRange (Some (SoloCommand s)) = Unit {0}
+IsInRange (Some (Weave w)) = Unit {0}
 IsInRange (Some (Run r)) = ⊥
 
--- the command reads its plan and runs no more than one thread of it
+-- the command reads its plan and starts no threads
 abbrev pub IsPlain : Command → Type 0
 IsPlain Check = Unit {0}
 IsPlain (Make m) = ⊥
 IsPlain (SoloCommand s) = Unit {0}
+IsPlain (Weave w) = Unit {0}
 IsPlain (Run r) = ⊥
 
 -- ---- the plan of some bytes
@@ -207,11 +210,16 @@ pub record HasThread (s : Solo) (plan : Tree) : Type 0 where
   pub thread : s.thread < length (threads_of plan)
   pub samples : s.samples ≤ 4194304
 
+-- all threads of the plan can have the samples
+pub record HasSamples (w : WeaveOf) (plan : Tree) : Type 0 where
+  pub samples : length (threads_of plan) * w.samples ≤ 4194304
+
 -- the command can be run on the plan
 abbrev pub CanRun : Command → Tree → Type 0
 CanRun Check plan = Unit {0}
 CanRun (Make m) plan = HasThread default_solo plan
 CanRun (SoloCommand s) plan = HasThread s plan
+CanRun (Weave w) plan = HasSamples w plan
 CanRun (Run r) plan = ⊥
 
 -- a plan of which all threads can be run, or why they can't
@@ -223,6 +231,16 @@ JudgesRun r tree plan (Unfit (Build e)) = ⊥
 JudgesRun r tree plan (Unfit (NotBuilt path)) = not_built_beside tree plan.elements ≡ Some path
 JudgesRun r tree plan (Unfit (Conditions e)) = (not_built_beside tree plan.elements ≡ None) × (samples_fault plan r.samples ≡ Some e)
 JudgesRun r tree plan NoMemory = Unit {0}
+
+-- a plan of which all threads can be run by a schedule, or why they can't
+abbrev pub JudgesWeave : WeaveOf → Raw → Tree → Judged → Type 0
+JudgesWeave w tree plan (Fit fit) = (fit ≡ plan) × RunsWoven tree plan w
+JudgesWeave w tree plan (Unfit TooLong) = ⊥
+JudgesWeave w tree plan (Unfit (Shape e)) = ⊥
+JudgesWeave w tree plan (Unfit (Build e)) = ⊥
+JudgesWeave w tree plan (Unfit (NotBuilt path)) = not_built tree plan.elements ≡ Some path
+JudgesWeave w tree plan (Unfit (Conditions e)) = (not_built tree plan.elements ≡ None) × (weave_fault tree plan w ≡ Some e)
+JudgesWeave w tree plan NoMemory = Unit {0}
 
 -- a plan of which one thread can be run, or why it can't
 abbrev pub JudgesSolo : Solo → Raw → Tree → Judged → Type 0

@@ -1,4 +1,4 @@
--- The texts of a run of one thread.
+-- The texts of a command on a plan.
 use Rattle.std.specs.Prelude.{◌≡◌, codes, ℕ, Bool, true, false, List, [], ◌∷◌, ◌++◌, length, map, Option, Some, None}
 use Rattle.std.specs.List.{flat_map}
 use Rattle.std.specs.Option.{option_map_or}
@@ -15,7 +15,7 @@ use Rattle.interval_tables.specs.declared.report.Report.{Report}
 use Rattle.interval_tables.specs.Rows.{sum_of}
 use Rattle.command_words.specs.declared.command.Solo.{Solo}
 use Rattle.command_words.specs.declared.command.Command.{Command}
-use Rattle.command_words.specs.declared.command.Command.TheVariants.{Check, Make, Solo as SoloCommand, Run}
+use Rattle.command_words.specs.declared.command.Command.TheVariants.{Check, Make, Solo as SoloCommand, Weave, Run}
 use Rattle.jm_meaning.specs.declared.item.Item.{Item}
 use Rattle.jm_meaning.specs.declared.item.Item.TheVariants.{Paused, Sampled, Null, Entered, Left, Ended}
 use Rattle.jm_meaning.specs.Beginning.{Options}
@@ -25,6 +25,7 @@ use Rattle.outside_world.specs.Scripted.{scripts_of}
 use Rattle.output_lines.specs.Lines.{header_text, result_text, end_text}
 use Rattle.output_lines.specs.Reports.{summary_text}
 use Rattle.thread_machine.specs.Stepped.{entry_of}
+use Rattle.jm_command.specs.WovenTexts.{WeaveTexts}
 
 -- the seed, the properties and the sample budget of a run of one thread
 abbrev pub options_of : Solo → Options
@@ -115,19 +116,15 @@ end_is_whole NoMemory = false
 
 -- ---- the texts of a command
 
--- the results of a command on a plan: for `check` the plan as it is written, and a line feed; for `make` nothing; for `solo` the header and the result lines
-abbrev pub results_for : Command → Tree → List ℕ
-results_for Check plan = plan_text plan ++ codes "\n"
-results_for (Make m) plan = []
-results_for (SoloCommand s) plan = results_of plan s.thread (shown_of plan s)
-results_for (Run r) plan = []
-
--- the report of a command on a plan: for `check` nothing, for `solo` the summary and the end line, and for `make` those of a `solo` without options
-abbrev pub report_for : Command → Tree → List ℕ
-report_for Check plan = []
-report_for (Make m) plan = report_of plan default_solo.thread (shown_of plan default_solo)
-report_for (SoloCommand s) plan = report_of plan s.thread (shown_of plan s)
-report_for (Run r) plan = []
+-- The texts of a command on a plan, its results and its report. Of `check` the plan as it is written and a line feed, and no
+-- report; of `solo` the header and the result lines, the summary and the end line; of `make` no results, and the report of a
+-- `solo` without options; of `weave` those of the woven run.
+abbrev pub TextsOf : Command → Tree → List ℕ → List ℕ → Type 0
+TextsOf Check plan results report = (results ≡ plan_text plan ++ codes "\n") × (report ≡ [])
+TextsOf (Make m) plan results report = (results ≡ []) × (report ≡ report_of plan default_solo.thread (shown_of plan default_solo))
+TextsOf (SoloCommand s) plan results report = (results ≡ results_of plan s.thread (shown_of plan s)) × (report ≡ report_of plan s.thread (shown_of plan s))
+TextsOf (Weave w) plan results report = WeaveTexts w plan results report
+TextsOf (Run r) plan results report = ⊥
 
 -- a thread has shown these items, and this is its report
 pub record HasShown (plan : Tree) (s : Solo) (items : List Item) (report : List ℕ) : Type 0 where
@@ -135,9 +132,11 @@ pub record HasShown (plan : Tree) (s : Solo) (items : List Item) (report : List 
   pub shown_as : IsShown plan s items end
   pub report_is : report ≡ report_of plan s.thread items
 
--- These texts may be printed: those of the plan itself, or those of a thread that has run, maybe cut short because memory ran out.
+-- These texts may be printed: those of the plan itself, those of a thread that has run, maybe cut short because memory ran out, or
+-- those of the woven run.
 abbrev pub MayPrint : Command → Tree → List ℕ → List ℕ → Type 0
-MayPrint Check plan results report = (results ≡ results_for Check plan) × (report ≡ [])
+MayPrint Check plan results report = (results ≡ plan_text plan ++ codes "\n") × (report ≡ [])
 MayPrint (Make m) plan results report = (results ≡ []) × ((items : List Item) × HasShown plan default_solo items report)
+MayPrint (Weave w) plan results report = WeaveTexts w plan results report
 MayPrint (Run r) plan results report = ⊥
 MayPrint (SoloCommand s) plan results report = (items : List Item) × (results ≡ results_of plan s.thread items) × HasShown plan s items report

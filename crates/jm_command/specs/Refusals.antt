@@ -19,8 +19,9 @@ use Rattle.element_tree.specs.Tree.{Tree, threads_of, asks_a_server}
 use Rattle.element_tree.specs.Walk.{is_enabled, reading}
 use Rattle.jm_meaning.specs.Runs.{runs}
 use Rattle.command_words.specs.declared.command.Command.{Command}
-use Rattle.command_words.specs.declared.command.Command.TheVariants.{Check, Make, Solo, Run}
+use Rattle.command_words.specs.declared.command.Command.TheVariants.{Check, Make, Solo, Weave, Run}
 use Rattle.command_words.specs.declared.command.Solo.{Solo as SoloOf}
+use Rattle.command_words.specs.declared.command.Weave.{Weave as WeaveOf}
 use Rattle.command_words.specs.declared.command.Run.{Run as RunOf}
 use Rattle.jm_command.specs.declared.refusal.Refusal.{Refusal}
 use Rattle.jm_command.specs.declared.refusal.Refusal.TheVariants as refusals
@@ -73,6 +74,7 @@ abbrev pub ReadsPlan : Command → Type 0
 ReadsPlan Check = Unit {0}
 ReadsPlan (Make m) = ⊥
 ReadsPlan (Solo s) = Unit {0}
+ReadsPlan (Weave w) = Unit {0}
 ReadsPlan (Run r) = Unit {0}
 
 -- a sample budget that all threads can have
@@ -98,10 +100,19 @@ first_fault (Some e) fault = Some e
 abbrev pub solo_fault : Raw → Tree → SoloOf → Option BuildError
 solo_fault tree plan s = first_fault (replies_fault tree plan) (thread_fault plan s)
 
+-- all threads are run by a schedule, without a server
+abbrev pub weave_fault : Raw → Tree → WeaveOf → Option BuildError
+weave_fault tree plan w = first_fault (replies_fault tree plan) (samples_fault plan w.samples)
+
 -- the plan can be run by the command: each element runs, and the command's own conditions hold
 pub record RunsAlone (tree : Raw) (plan : Tree) (s : SoloOf) : Type 0 where
   pub built : not_built tree plan.elements ≡ None
   pub conditions : solo_fault tree plan s ≡ None
+
+-- all threads of the plan can be run by a schedule
+pub record RunsWoven (tree : Raw) (plan : Tree) (w : WeaveOf) : Type 0 where
+  pub built : not_built tree plan.elements ≡ None
+  pub conditions : weave_fault tree plan w ≡ None
 
 -- all threads of the plan can be run beside one another
 pub record RunsBeside (tree : Raw) (plan : Tree) (r : RunOf) : Type 0 where
@@ -112,6 +123,7 @@ abbrev pub IsFit : Command → Raw → Tree → Type 0
 IsFit Check tree plan = Unit {0}
 IsFit (Make m) tree plan = ⊥
 IsFit (Solo s) tree plan = RunsAlone tree plan s
+IsFit (Weave w) tree plan = RunsWoven tree plan w
 IsFit (Run r) tree plan = RunsBeside tree plan r
 
 -- ---- acceptance and refusal
@@ -135,6 +147,8 @@ IsNotBuilt (Run r) bytes before after path =
     (tree : Raw) × (plan : Tree) × IsPlanOf bytes before after tree plan × (not_built_beside tree plan.elements ≡ Some path)
 IsNotBuilt (Solo s) bytes before after path =
     (tree : Raw) × (plan : Tree) × IsPlanOf bytes before after tree plan × (not_built tree plan.elements ≡ Some path)
+IsNotBuilt (Weave w) bytes before after path =
+    (tree : Raw) × (plan : Tree) × IsPlanOf bytes before after tree plan × (not_built tree plan.elements ≡ Some path)
 
 -- a condition of the command does not hold
 abbrev pub IsUnfit : Command → List ℕ → Asked → Asked → BuildError → Type 0
@@ -144,6 +158,8 @@ IsUnfit (Run r) bytes before after e =
     (tree : Raw) × (plan : Tree) × IsPlanOf bytes before after tree plan × (not_built_beside tree plan.elements ≡ None) × (samples_fault plan r.samples ≡ Some e)
 IsUnfit (Solo s) bytes before after e =
     (tree : Raw) × (plan : Tree) × IsPlanOf bytes before after tree plan × (not_built tree plan.elements ≡ None) × (solo_fault tree plan s ≡ Some e)
+IsUnfit (Weave w) bytes before after e =
+    (tree : Raw) × (plan : Tree) × IsPlanOf bytes before after tree plan × (not_built tree plan.elements ≡ None) × (weave_fault tree plan w ≡ Some e)
 
 -- Why the bytes of a plan are refused to a command. The tree's shape is judged first, then the tree is built, then comes
 -- what does not run yet, and last the command's own conditions.

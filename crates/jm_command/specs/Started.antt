@@ -25,7 +25,7 @@ use Rattle.run_engine.specs.Joins.{AllEnd}
 use Rattle.run_engine.specs.Keeps.{all_entries}
 use Rattle.run_engine.specs.Paired.{pairs_of}
 use Rattle.command_words.specs.declared.command.Command.{Command}
-use Rattle.command_words.specs.declared.command.Command.TheVariants.{Check, Make, Solo, Run}
+use Rattle.command_words.specs.declared.command.Command.TheVariants.{Check, Make, Solo, Weave, Run}
 use Rattle.command_words.specs.declared.command.Run.{Run as RunOf}
 use Rattle.jm_command.specs.declared.status.Status.{Status}
 use Rattle.jm_command.specs.declared.status.Status.TheVariants as statuses
@@ -196,6 +196,7 @@ StartSays None ticks after old new status = Says None old new status
 StartSays (Some Check) ticks after old new status = Says (Some Check) old new status
 StartSays (Some (Make m)) ticks after old new status = Says (Some (Make m)) old new status
 StartSays (Some (Solo s)) ticks after old new status = Says (Some (Solo s)) old new status
+StartSays (Some (Weave w)) ticks after old new status = Says (Some (Weave w)) old new status
 StartSays (Some (Run r)) ticks after old new status = RunStarts r ticks after old new status
 
 -- What the exit status of a start says, by its number. With no fault and no pattern too large the words and the bytes alone

@@ -2,12 +2,12 @@
 
 ghost use Rattle.std.specs.Prelude.{◌≡◌, IfOk};
 ghost use Rattle.plan_json.specs.TreeSeen.{raw_view};
-ghost use Rattle.jm_command.specs.Parts.{Judges, JudgesSolo, JudgesRun};
-ghost use Rattle.jm_command.specs.Refusals.{ReadsPlan, replies_fault, thread_fault, solo_fault, samples_fault};
+ghost use Rattle.jm_command.specs.Parts.{Judges, JudgesSolo, JudgesWeave, JudgesRun};
+ghost use Rattle.jm_command.specs.Refusals.{ReadsPlan, replies_fault, thread_fault, solo_fault, weave_fault, samples_fault};
 
 use crate::refusal::Refusal;
 use crate::unbuilt::{not_built, not_built_beside, places_at};
-use command_words::{Command, Run, Solo};
+use command_words::{Command, Run, Solo, Weave};
 use element_props::{BuildError, Patterns, What};
 use element_tree::{Plan, build};
 use jm_base::M;
@@ -50,6 +50,7 @@ pub fn judge<G: Patterns>(
         Command::Check => Judged::Fit(plan),
         Command::Make(_) => unreachable!(),
         Command::Solo(solo) => fit_to_run(alloc, solo, &tree, plan),
+        Command::Weave(weave) => fit_to_weave(alloc, weave, &tree, plan),
         Command::Run(run) => fit_to_run_beside(alloc, run, &tree, plan),
     }
 }
@@ -64,6 +65,22 @@ fn fit_to_run(alloc: Global, solo: &Solo, tree: &RawElement, plan: Plan) -> Judg
         Err(_) => return Judged::NoMemory,
     }
     match solo_fault(alloc, tree, &plan, solo) {
+        Ok(None) => Judged::Fit(plan),
+        Ok(Some(error)) => Judged::Unfit(Refusal::Unfit(error)),
+        Err(_) => Judged::NoMemory,
+    }
+}
+
+// The plan of a tree, if all of its threads can be run by a schedule.
+fn fit_to_weave(alloc: Global, weave: &Weave, tree: &RawElement, plan: Plan) -> Judged
+    ensures { JudgesWeave weave.now (raw_view tree.now) plan result }
+{
+    match not_built(alloc, tree, &plan) {
+        Ok(None) => {}
+        Ok(Some(path)) => return Judged::Unfit(Refusal::NotBuilt(path)),
+        Err(_) => return Judged::NoMemory,
+    }
+    match weave_fault(alloc, tree, &plan, weave) {
         Ok(None) => Judged::Fit(plan),
         Ok(Some(error)) => Judged::Unfit(Refusal::Unfit(error)),
         Err(_) => Judged::NoMemory,
@@ -92,6 +109,21 @@ fn solo_fault(alloc: Global, tree: &RawElement, plan: &Plan, solo: &Solo) -> M<O
     match replies_fault(alloc, tree, plan)? {
         Some(error) => Ok(Some(error)),
         None => Ok(thread_fault(alloc, plan, solo)),
+    }
+}
+
+// What of the plan does not meet the conditions of running all of its threads by a schedule, without a server.
+fn weave_fault(
+    alloc: Global,
+    tree: &RawElement,
+    plan: &Plan,
+    weave: &Weave,
+) -> M<Option<BuildError>>
+    ensures { IfOk result (λ fault. fault ≡ weave_fault (raw_view tree.now) plan.now weave.now) }
+{
+    match replies_fault(alloc, tree, plan)? {
+        Some(error) => Ok(Some(error)),
+        None => Ok(samples_fault(alloc, plan, weave.samples)),
     }
 }
 

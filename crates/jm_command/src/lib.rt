@@ -11,6 +11,7 @@ mod report;
 mod running;
 mod status;
 mod unbuilt;
+mod weaving;
 mod words;
 
 pub use program::plain_command;

@@ -12,6 +12,7 @@ ghost use Rattle.thread_machine.specs.SampleCounts.{samples_in};
 
 use crate::report::report_ran;
 use crate::status::Status;
+use crate::weaving::print_weave;
 use command_words::{Command, Solo};
 use edge_io::{Sink, write_all};
 use element_tree::{Plan, write_plan};
@@ -39,6 +40,7 @@ pub fn print_plan<O: Sink, E: Sink>(
         Command::Check => print_check(alloc, plan, results),
         Command::Make(_) => print_made(alloc, plan, reports),
         Command::Solo(solo) => print_solo(alloc, solo, plan, results, reports),
+        Command::Weave(ask) => print_weave(alloc, ask, plan, results, reports),
         Command::Run(_) => unreachable!(),
     }
 }

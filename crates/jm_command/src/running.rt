@@ -115,7 +115,9 @@ fn start_words<
             Command::Run(run) => read_and_run(
                 rt, alloc, &command, run, plan, results, reports, world, ticker, hook, patterns,
             ),
-            Command::Check | Command::Make(_) | Command::Solo(_) => unreachable!(),
+            Command::Check | Command::Make(_) | Command::Solo(_) | Command::Weave(_) => {
+                unreachable!()
+            }
         },
         Err(_) => Status::Memory,
     }

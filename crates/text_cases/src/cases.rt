@@ -1,7 +1,7 @@
 // The cases, one line each, and what they are run on.
 
 use crate::expansions::{Beginning, properties, put, value, words};
-use crate::{conditions, expansions, paths, templates};
+use crate::{conditions, expansions, paths, schedules, templates};
 use bstr::ByteVec;
 use std::alloc::Global;
 use std::mem;
@@ -128,6 +128,7 @@ impl Cases {
                 let (path, body) = parts(rest);
                 paths::selection(alloc, &self.text(alloc, path)?, body)
             }
+            "schedule" => schedules::answer(alloc, &self.text(alloc, rest)?),
             "properties" => self.properties(alloc, rest),
             "expand" => {
                 self.state = self.beginning.state(alloc)?;

@@ -45,6 +45,13 @@ cut_none t w = record { part = part_none w.written w.held t; calm = refl }
 pub cut_more : (s t r : List ℕ) (u v w : Way) → IsPut s u v → IsCut t v w → IsCut (s ++ (t ++ r)) u w
 cut_more s t r u v w p c = record { part = part_more u.written v.written w.written u.held v.held w.held s t r p.moved c.part; calm = c.calm ∙ p.calm }
 
+-- of two texts, memory runs out at the first, or at the second
+pub cut_first : (s t : List ℕ) (u w : Way) → IsCut s u w → IsCut (s ++ t) u w
+cut_first s t u w c = cut_more [] s t u u w (put_none u) c
+
+pub cut_last : (s t : List ℕ) (u v w : Way) → IsPut s u v → IsCut t v w → IsCut (s ++ t) u w
+cut_last s t u v w p c = subst (λ l. IsCut (s ++ l) u w) (append-nil t) (cut_more s t [] u v w p c)
+
 -- ---- a trace, item by item
 
 pub lines_more : (plan : Tree) (thread : ℕ) (trace : List TraceItem) (i : ℕ) (item : TraceItem) → i < length trace

@@ -1,9 +1,13 @@
 -- The result lines of a trace.
-use Rattle.std.specs.Prelude.{ℕ, ◌+◌, ◌-◌, List, [], ◌∷◌, ◌++◌, length, slice_get, Option, Some, None, option_and_then}
+use Rattle.std.specs.Prelude.{◌≡◌, ℕ, ◌+◌, ◌-◌, List, [], ◌∷◌, ◌++◌, length, slice_get, Option, Some, None, option_and_then}
 use Rattle.std.specs.List.{flat_map}
 use Rattle.std.specs.Option.{option_map_or}
 use Rattle.jm_base.specs.declared.types.End.{End}
 use Rattle.element_tree.specs.Tree.{Tree}
+use Rattle.element_tree.specs.Names.{labels_of}
+use Rattle.interval_tables.specs.declared.report.Report.{Report}
+use Rattle.interval_tables.specs.Rows.{IsInBounds}
+use Rattle.output_lines.specs.Reports.{report_text}
 use Rattle.output_lines.specs.Lines.{result_text, end_text}
 use Rattle.thread_machine.specs.declared.trace.TraceItem.{TraceItem}
 use Rattle.thread_machine.specs.declared.trace.TraceItem.TheVariants.{Paused, Sampled, Null, Entered, Left, Ended}
@@ -50,3 +54,11 @@ traces_text plan traces = each_numbered (trace_text plan) 0 traces
 -- the end lines of all threads, in thread order
 abbrev pub ends_text : Tree → List (List TraceItem) → List ℕ
 ends_text plan traces = each_numbered (end_line_of plan) 0 traces
+
+-- a report has a row for each label of the plan, and its numbers are in bounds
+abbrev pub CanPrint : Tree → Report → Type 0
+CanPrint plan report = (length report.rows ≡ length (labels_of plan.elements)) × IsInBounds report.rows
+
+-- the lines of reports, in their order
+abbrev pub reports_text : Tree → List Report → List ℕ
+reports_text plan reports = each_numbered (λ n report. report_text plan report) 0 reports

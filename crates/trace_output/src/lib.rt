@@ -3,10 +3,12 @@
 #![tactic(auto)]
 
 mod error;
+mod history;
 mod line;
 mod results;
 mod tail;
 
 pub use error::PrintError;
+pub use history::print_history;
 pub use results::{print_all_results, print_results};
 pub use tail::{end_of, print_all_report, print_report};

@@ -76,7 +76,7 @@ pub fn print_all_report<K: Sink>(
 }
 
 // Puts the summary.
-fn put_summary<K: Sink>(
+pub(crate) fn put_summary<K: Sink>(
     alloc: Global,
     pending: &mut Pending,
     sink: &mut K,
@@ -130,7 +130,7 @@ fn put_end<K: Sink>(
 }
 
 // Puts the end lines of all threads.
-fn put_ends<K: Sink>(
+pub(crate) fn put_ends<K: Sink>(
     alloc: Global,
     pending: &mut Pending,
     sink: &mut K,

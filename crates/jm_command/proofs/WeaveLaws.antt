@@ -1,0 +1,99 @@
+-- The texts of a run by a schedule.
+use Rattle.std.proofs.Common.{◌≡◌, ℕ, ◌+◌, ◌*◌, ◌<◌, ◌≤◌, List, [], ◌∷◌, ◌++◌, length, get_or, Option, refl, sym, ap, ap₂, ◌∙◌, subst, inl, inr, arith}
+use Rattle.std.specs.Prelude.{All}
+use Rattle.std.proofs.lemmas.List.{get_or_default}
+use Rattle.interval_tables.specs.declared.report.Report.{Report}
+use Rattle.interval_tables.specs.Rows.{sum_of, IsInBounds}
+use Rattle.interval_tables.proofs.Sums.{length-sum_of}
+use Rattle.element_tree.specs.Tree.{Tree}
+use Rattle.element_tree.specs.Names.{labels_of}
+use Rattle.phaser_core.specs.Views.{Pair}
+use Rattle.phaser_core.specs.Cells.{no_report}
+use Rattle.phaser_core.specs.Shares.{entries_in, Partition}
+use Rattle.thread_machine.specs.declared.trace.TraceItem.{TraceItem}
+use Rattle.thread_machine.specs.declared.trace.TraceItem.TheVariants.{Paused, Sampled, Null, Entered, Left, Ended}
+use Rattle.trace_output.specs.Texts.{CanPrint}
+use Rattle.trace_output.specs.Printing.{TextOut, TextFailed, TextCut}
+use Rattle.run_engine.specs.Paired.{pairs_in, pairs, pairs_of as run_pairs}
+use Rattle.run_engine.specs.Keeps.{AllKeep as AllKeepRun}
+use Rattle.run_engine.proofs.Bounding.{counts_in_bounds, counts_shares}
+use Rattle.run_engine.proofs.Joining.{pairs_length}
+use Rattle.weave_engine.specs.Books.{pair_of, pairs_of, lists_in, AllKeep}
+use Rattle.command_words.specs.declared.command.Command.TheVariants.{Weave}
+use Rattle.command_words.specs.declared.command.Weave.{Weave as WeaveOf}
+use Rattle.jm_command.specs.declared.status.Status.{Status}
+use Rattle.jm_command.specs.declared.status.Status.TheVariants.{Done, Usage, Refused, ReadFault, WriteFault, Memory}
+use Rattle.jm_command.specs.Parts.{sinks, TextSays, PlanSays}
+use Rattle.jm_command.specs.WovenTexts.{IsWeave, weave_results, weave_report, WeaveTexts}
+
+-- ---- the entries of the traces, as the engine of running threads counts them
+
+pair_same : (item : TraceItem) → pair_of item ≡ pairs_in item
+pair_same (Paused ms) = refl
+pair_same (Sampled sample interval) = refl
+pair_same (Null sampler) = refl
+pair_same (Entered lock place) = refl
+pair_same (Left lock) = refl
+pair_same (Ended end) = refl
+
+trace_same : (trace : List TraceItem) → pairs_of trace ≡ pairs trace
+trace_same [] = refl
+trace_same (item ∷ items) = ap₂ (λ x y. x ++ y) (pair_same item) (trace_same items)
+
+pub lists_same : (traces : List (List TraceItem)) → lists_in traces ≡ run_pairs traces
+lists_same [] = refl
+lists_same (trace ∷ traces) = ap₂ (λ x y. x ∷ y) (trace_same trace) (lists_same traces)
+
+kept_same : (labels budget : ℕ) (lists : List (List Pair)) → AllKeep labels budget lists → AllKeepRun labels budget lists
+kept_same labels budget [] keep = tt
+kept_same labels budget (list ∷ lists) keep =
+    (record { few = keep.0.few; in_range = keep.0.in_range; small = keep.0.small }, kept_same labels budget lists keep.1)
+
+pub kept_run : (labels budget : ℕ) (traces : List (List TraceItem)) → AllKeep labels budget (lists_in traces) → AllKeepRun labels budget (run_pairs traces)
+kept_run labels budget traces keep = subst (AllKeepRun labels budget) (lists_same traces) (kept_same labels budget (lists_in traces) keep)
+
+-- ---- each report is in bounds
+
+module _ (plan : Tree) (budget : ℕ) (traces : List (List TraceItem)) (reports : List Report) where
+  abbrev labels : ℕ
+  labels = length (labels_of plan.elements)
+
+  pub can_print : AllKeep labels budget (lists_in traces) → length traces * budget ≤ 4194304 → Partition labels (lists_in traces) reports → All (CanPrint plan) reports
+  can_print keep few parted m d low =
+      let lists = run_pairs traces in
+      let is : get_or reports m d ≡ record { interval = m; rows = sum_of labels (entries_in m lists) } =
+      get_or_default reports m d no_report low ∙ parted.sums m low ∙ ap (λ ls. record { interval = m; rows = sum_of labels (entries_in m ls) }) (lists_same traces) in
+      let most : length lists * budget ≤ 4194304 = subst (λ n. n * budget ≤ 4194304) (sym (pairs_length traces)) few in
+      let bounds : IsInBounds (sum_of labels (entries_in m lists)) =
+      counts_in_bounds labels (length lists * budget) (entries_in m lists) (counts_shares labels budget m lists (kept_run labels budget traces keep)) most in
+      subst (CanPrint plan) (sym is) (length-sum_of labels (entries_in m lists), bounds)
+
+-- ---- what is printed
+
+module _ (w : WeaveOf) (plan : Tree) (traces : List (List TraceItem)) (reports : List Report) (total : Report) (weave : IsWeave w plan traces reports total)
+    (a b : Option (List ℕ)) (f g : ℕ) where
+  abbrev results : List ℕ
+  results = weave_results plan traces
+
+  abbrev report : List ℕ
+  report = weave_report plan reports total traces
+
+  texts : WeaveTexts w plan results report
+  texts = record { traces = traces; reports = reports; total = total; weave = weave; results_are = refl; report_is = refl }
+
+  -- the results are not out
+  pub weave_failed : TextFailed results a b f g → (r : Option (List ℕ)) (k : ℕ) → PlanSays (Weave w) plan (sinks a f r k) (sinks b g r k) WriteFault
+  weave_failed h r k = (results, report, texts, inl (record { some = h.prefix; rose = h.rose; nothing = record { reports = refl; report_faults = refl } }))
+
+  pub weave_cut : TextCut results a b f g → (r : Option (List ℕ)) (k : ℕ) → PlanSays (Weave w) plan (sinks a f r k) (sinks b g r k) Memory
+  weave_cut h r k = inr (results, report, texts, inl (record { part = h.part; calm = h.calm; nothing = record { reports = refl; report_faults = refl } }))
+
+  -- the results are out, and then comes the report
+  pub weave_says : TextOut results a b f g → (r r' : Option (List ℕ)) (k k' : ℕ) (status : Status) → TextSays report r r' k k' status
+      → PlanSays (Weave w) plan (sinks a f r k) (sinks b g r' k') status
+  weave_says out r r' k k' Done h = (results, report, texts, record { results_out = out.out; result_calm = out.calm; report_out = h.out; report_calm = h.calm })
+  weave_says out r r' k k' Usage h = absurd h
+  weave_says out r r' k k' Refused h = absurd h
+  weave_says out r r' k k' ReadFault h = absurd h
+  weave_says out r r' k k' WriteFault h = (results, report, texts, inr (record { results_out = out.out; some = h.prefix; rose = h.rose; result_calm = out.calm }))
+  weave_says out r r' k k' Memory h = inr (results, report, texts, inr (record { results_out = out.out; result_calm = out.calm; part = h.part; calm = h.calm }))

@@ -1,0 +1,12 @@
+use Rattle.std.proofs.Common.{ap, sym, subst, ◌∙◌}
+use Rattle.element_tree.specs.Names.{labels_of}
+use Rattle.interval_tables.specs.Rows.{sum_of}
+use Rattle.run_engine.specs.Keeps.{AllKeep, all_entries}
+use Rattle.run_engine.specs.Paired.{pairs_of}
+use Rattle.jm_command.proofs.WeaveLaws.{lists_same, kept_run}
+use Rattle.jm_command.proofs.weaving.total_of.Goals as goal
+
+pub count_all-requires-clause-keep : goal.count_all-requires-clause-keep
+count_all-requires-clause-keep c =
+    subst (λ ts. AllKeep c.labels.result c.args.budget (pairs_of ts)) (sym c.as_slice.ensures)
+    (subst (λ n. AllKeep n c.args.budget (pairs_of c.args.books.now.traces)) (sym c.labels.ensures) (kept_run _ c.args.budget c.args.books.now.traces c.requires.keep))
