@@ -1,9 +1,8 @@
 -- What a run with threads comes to.
-use Rattle.std.proofs.Common.{◌≡◌, ℕ, suc, Bool, true, false, List, [], ◌∷◌, ◌++◌, Option, Some, None, refl, sym, ap, ◌∙◌, subst, inl, inr, arith, length-append}
+use Rattle.std.proofs.Common.{◌≡◌, ℕ, suc, Bool, true, false, List, [], ◌∷◌, ◌++◌, Option, Some, None, refl, sym, ◌∙◌, subst, inl, inr, arith, length-append}
 use Rattle.std.specs.Prelude.{◌⊎◌, ◌≤◌, ◌*◌, All, length, ◌-◌, option_map}
 use Rattle.std.specs.Prelude.{option_and_then, if◌then◌else◌, ⊤}
 use Rattle.std.specs.List.{list_all}
-use Rattle.std.specs.Str.{bytes_eq}
 use Rattle.std.proofs.lemmas.List.{append-nil}
 use Rattle.std.proofs.lemmas.List.Elements.{All-nil, All-cons}
 use Rattle.thread_machine.specs.Bare.{IsLabelled}
@@ -31,7 +30,7 @@ use Rattle.command_words.specs.declared.command.Run.{Run as RunOf}
 use Rattle.jm_command.specs.declared.status.Status.{Status}
 use Rattle.jm_command.specs.declared.status.Status.TheVariants.{Done, Usage, Refused, ReadFault, WriteFault, Memory}
 use Rattle.jm_command.specs.Command.{Edges, edges, Accepts, Says, SaysUnplanned, NoRise, status_for, number_of}
-use Rattle.jm_command.specs.Parts.{Sinks, sinks, TextsSay}
+use Rattle.jm_command.specs.Parts.{sinks, TextsSay}
 use Rattle.jm_command.specs.Started.{Around, IsHistory, run_results, run_reports, run_tail, all_whole, RunPrints, RunStarts, StartSays, sinks_of}
 use Rattle.jm_command.proofs.ProgramLaws.{samples_fit, accepts_beside, nothing_at_start, cut_at_start}
 use Rattle.jm_command.proofs.ExactLaws.{exactly, plan_status, refuses_status}
