@@ -32,7 +32,7 @@ use Rattle.jm_command.specs.declared.status.Status.TheVariants.{Done, Usage, Ref
 use Rattle.jm_command.specs.Refusals.{ReadsPlan, IsAccepted, IsRefused, replies_fault, thread_fault, first_fault, samples_fault, refusal_line}
 use Rattle.jm_command.specs.Printed.{MayPrint}
 use Rattle.trace_output.specs.Printing.{TextOut, TextFailed}
-use Rattle.jm_command.specs.Command.{plan_limit, Edges, edges, Accepts, Makes, HasPlan, Refuses, IsDone, IsRefusal, LineUnwritten, RefusalUnwritten, ResultsUnwritten, ReportUnwritten, NothingPrinted, ResultsCut, ReportCut, IsCutShort, SaysUnplanned, Says, NothingRead, usage_line}
+use Rattle.jm_command.specs.Command.{plan_limit, Edges, edges, Accepts, Makes, HasPlan, Refuses, IsRefusal, RefusalUnwritten, ResultsUnwritten, ReportUnwritten, NothingPrinted, ResultsCut, ReportCut, IsCutShort, SaysUnplanned, Says, NothingRead, usage_line}
 use Rattle.jm_command.specs.Parts.{Sinks, sinks, LineSays, ResultsFailed, ReportFailed, ResultsShort, ReportShort, PlanSays, RefusalSays, SaysUnfound, IsPlain, Judges, HasThread, CanRun}
 
 -- a refusal and its line

@@ -3,7 +3,6 @@ use Rattle.std.proofs.Common.{◌≡◌, ℕ, suc, Bool, true, false, List, [], 
 use Rattle.std.specs.Prelude.{◌⊎◌, ◌≤◌, ◌*◌, All, length, ◌-◌, take, option_map}
 use Rattle.std.specs.Prelude.{option_and_then, if◌then◌else◌, ⊤}
 use Rattle.std.specs.List.{list_all}
-use Rattle.std.specs.Str.{bytes_eq}
 use Rattle.std.proofs.lemmas.List.{append-nil}
 use Rattle.std.proofs.Math.Seq.{take-append_seam}
 use Rattle.std.proofs.lemmas.List.Elements.{All-nil, All-cons}
@@ -33,7 +32,7 @@ use Rattle.command_words.specs.declared.command.Run.{Run as RunOf}
 use Rattle.jm_command.specs.declared.status.Status.{Status}
 use Rattle.jm_command.specs.declared.status.Status.TheVariants.{Done, Usage, Refused, ReadFault, WriteFault, Memory}
 use Rattle.jm_command.specs.Command.{Edges, edges, Accepts, Says, SaysUnplanned, NoRise, status_for, number_of}
-use Rattle.jm_command.specs.Parts.{Sinks, sinks, TextsSay}
+use Rattle.jm_command.specs.Parts.{sinks, TextsSay}
 use Rattle.jm_command.specs.Started.{Around, before_last, IsHistory, run_results, run_reports, run_tail, all_whole, RunPrints, RunStarts, StartSays, sinks_of}
 use Rattle.jm_command.proofs.ProgramLaws.{samples_fit, accepts_beside, nothing_at_start, cut_at_start}
 use Rattle.jm_command.proofs.ExactLaws.{exactly, plan_status, refuses_status}

@@ -153,6 +153,9 @@ module _ (s t : List ℕ) (a : Option (List ℕ)) (f : ℕ) (held : List ℕ) (n
   begins : (P : Way → Type 0) → P (way a f held) → P start
   begins P = subst (λ (l : List ℕ). P (way a f l)) none
 
+  pub first_failed : (v : Way) → IsFailed s (way a f held) v → TextFailed (s ++ t) a v.written f v.faults
+  first_failed v h = let wide = failed_wider s t start v (begins (λ u. IsFailed s u v) h) in record { prefix = wide.prefix; rose = wide.rose }
+
   pub first_cut : (v : Way) → IsCut s (way a f held) v → TextCut (s ++ t) a v.written f v.faults
   first_cut v h =
       let all = cut_more [] s t start start v (put_none start) (begins (λ u. IsCut s u v) h) in

@@ -1,5 +1,5 @@
 -- An event that is applied to a core is a step of the state that it stands for.
-use Rattle.std.proofs.Common.{◌≡◌, ℕ, List, [], ◌∷◌, Option, Some, None, refl, sym, ap, ◌∙◌, subst}
+use Rattle.std.proofs.Common.{◌≡◌, ℕ, List, Option, Some, None, refl, sym, ap, ◌∙◌, subst}
 use Rattle.std.specs.Prelude.{unwrap_or, Result, Ok, Err, OnOk, IfOk}
 use Rattle.phaser_core.specs.declared.applied.Applied.{Applied}
 use Rattle.phaser_core.specs.declared.view.Event.{Event}

@@ -1,11 +1,10 @@
 -- The writers are joined, in their order.
-use Rattle.std.proofs.Common.{◌≡◌, ◌⊎◌, inl, inr, ℕ, zero, suc, ◌+◌, ◌<◌, ◌≤◌, Bool, true, false, List, [], ◌∷◌, ◌++◌, Some, None, length, map, set, get_or, take, refl, sym, ap, ◌∙◌, subst, arith}
-use Rattle.std.specs.Prelude.{slice_get, unwrap_or, IsTrue}
+use Rattle.std.proofs.Common.{◌≡◌, inl, inr, ℕ, suc, ◌+◌, ◌<◌, true, List, [], ◌∷◌, ◌++◌, length, map, set, take, refl, sym, ap, ◌∙◌, subst, arith}
+use Rattle.std.specs.Prelude.{unwrap_or, IsTrue}
 use Rattle.std.proofs.lemmas.List.{length-set, take_more, take_all, map-append}
-use Rattle.std.proofs.lemmas.Option.{get_or_from_slice_get, slice_get_within}
+use Rattle.std.proofs.lemmas.Option.{get_or_from_slice_get}
 use lib.ListN.{get_elem?}
 use mathlib.Core.Option.{some}
-use mathlib.Core.Option as maybe
 use Rattle.jm_base.specs.SumTotals.{total}
 use Rattle.phaser_core.specs.declared.view.Numbers.{Numbers}
 use Rattle.phaser_core.specs.declared.view.ReporterStage.{ReporterStage}
@@ -13,7 +12,6 @@ use Rattle.phaser_core.specs.declared.view.ReporterStage.TheVariants.{Idle, Swap
 use Rattle.phaser_core.specs.declared.view.Event.TheVariants.{Join}
 use Rattle.phaser_core.specs.declared.view.Joined.{Joined}
 use Rattle.phaser_core.specs.declared.view.ReporterView.{ReporterView}
-use Rattle.phaser_core.specs.declared.view.Stage.TheVariants.{Out}
 use Rattle.phaser_core.specs.declared.view.WriterView.{WriterView}
 use Rattle.phaser_core.specs.declared.view.View.{View}
 use Rattle.phaser_core.specs.declared.view.View.TheVariants.{Reporter, Writer, Gone}
@@ -22,11 +20,11 @@ use Rattle.phaser_core.specs.CoreMoves.{taking_in}
 use Rattle.phaser_core.specs.Plain.{is_idle as idle_parts}
 use Rattle.phaser_core.specs.CoreShape.{Shape, Shows, IsDone, all_gone, kept_of, joined_lists}
 use Rattle.phaser_core.specs.Step.{CoreState, next_state, join_at, join_stage}
-use Rattle.phaser_core.specs.Views.{Pair, heads, left_of}
+use Rattle.phaser_core.specs.Views.{heads, left_of}
 use Rattle.phaser_core.proofs.Lists.{set_here, set_else}
 use Rattle.weave_engine.specs.declared.seat.Seat.{Seat}
-use Rattle.weave_engine.specs.Turns.{Weave, is_idle, closing_in, closing_of, joined_to}
-use Rattle.weave_engine.specs.Seats.{CoreIs, Runs, StageOf, all_seats_settled, lists_of, JoinsTo, IsJoined}
+use Rattle.weave_engine.specs.Turns.{Weave, is_idle, closing_in}
+use Rattle.weave_engine.specs.Seats.{Runs, StageOf, all_seats_settled, lists_of, JoinsTo, IsJoined}
 use Rattle.weave_engine.specs.Books.{pairs_of}
 use Rattle.weave_engine.proofs.ReporterLaws.{closing_is, settled_owes, some_seat, reporter_there}
 use Rattle.weave_engine.proofs.StartLaws.{below_or}

@@ -1,10 +1,10 @@
 -- The words of the locks at a turn.
-use Rattle.std.proofs.Common.{◌≡◌, ◌⊎◌, inl, inr, ℕ, zero, suc, ◌+◌, ◌*◌, ◌<◌, ◌≤◌, Bool, true, false, List, [], ◌∷◌, Option, Some, None, length, map, set, get_or, refl, sym, ap, ◌∙◌, subst, arith}
-use Rattle.std.specs.Prelude.{◌&&◌, ◌||◌, slice_get, slice_index, replicate, option_map}
+use Rattle.std.proofs.Common.{◌≡◌, inl, inr, ℕ, zero, suc, ◌+◌, ◌*◌, ◌<◌, ◌≤◌, Bool, true, false, List, [], ◌∷◌, Option, Some, None, length, set, get_or, refl, sym, ap, ◌∙◌, subst, arith}
+use Rattle.std.specs.Prelude.{◌&&◌, slice_get, slice_index, replicate, option_map}
 use Rattle.std.proofs.lemmas.List.{map-set, set-get_or, length-set, length-replicate}
 use Rattle.std.proofs.lemmas.Option.{slice_get-get_or, slice_get_past, slice_get-map}
 use Rattle.phaser_core.specs.Cells.{is_odd}
-use Rattle.element_tree.specs.Tree.{Tree, threads_of}
+use Rattle.element_tree.specs.Tree.{Tree}
 use Rattle.element_tree.specs.Names.{locks_of}
 use Rattle.weave_engine.specs.declared.seat.Owed.{Owed as OwedBy}
 use Rattle.weave_engine.specs.declared.seat.Owed.TheVariants as by

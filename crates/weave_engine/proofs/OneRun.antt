@@ -1,5 +1,5 @@
 -- A schedule names one run.
-use Rattle.std.proofs.Common.{◌≡◌, ℕ, Bool, true, false, List, [], ◌∷◌, length, map, refl, sym, ap, ◌∙◌, subst}
+use Rattle.std.proofs.Common.{◌≡◌, Bool, true, false, List, [], ◌∷◌, length, map, refl, sym, ap, ◌∙◌, subst}
 use Rattle.element_tree.specs.Tree.{threads_of}
 use Rattle.phaser_core.specs.declared.view.Numbers.{Numbers}
 use Rattle.schedule_text.specs.declared.token.Token.{Token}

@@ -7,7 +7,6 @@ use Rattle.phaser_core.specs.declared.view.Event.TheVariants.{Add, Lower, Raise,
 use Rattle.jm_base.specs.declared.types.End.{End}
 use Rattle.jm_base.specs.declared.types.End.TheVariants.{Completed, StopThread, StopTest, Stopped, SampleLimit, RoundLimit, ValueLimit, NoMemory}
 use Rattle.jm_base.specs.declared.types.Entry.{Entry}
-use Rattle.jm_base.specs.declared.types.Sample.{Sample}
 use Rattle.jm_base.specs.Run.{Run, over, give, read, wait, ask, ◌>>=◌, Event, Waited, Sampled, Nothing, Entered, Left, Ended, over_value}
 use Rattle.jm_base.specs.Outside.{Account, Goes, Scripts, Replays, script_form, scripted_ask, later}
 use Rattle.jm_base.proofs.RunLaws.{path-value}

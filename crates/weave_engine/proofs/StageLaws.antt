@@ -1,15 +1,13 @@
 -- The stage of each writer goes with what its thread owes.
-use Rattle.std.proofs.Common.{◌≡◌, ◌≢◌, ℕ, zero, suc, ◌+◌, ◌<◌, Bool, true, false, List, [], ◌∷◌, ◌++◌, Option, Some, None, length, drop, append-nil, refl, sym, ap, ◌∙◌, subst, arith}
+use Rattle.std.proofs.Common.{◌≡◌, ℕ, zero, suc, ◌+◌, ◌<◌, Bool, true, false, List, [], ◌∷◌, ◌++◌, Option, Some, None, length, drop, append-nil, refl, sym, ap, ◌∙◌, subst, arith}
 use Rattle.std.specs.Prelude.{◌==◌, not, nat_lt, slice_index, unwrap_or}
-use mathlib.Core.Option.{some, none}
-use mathlib.Core.Option as maybe
+use mathlib.Core.Option.{some}
 use lib.ListN.{get_elem?}
 use Rattle.jm_base.specs.SumTotals.{one_if, total}
 use Rattle.jm_base.specs.declared.types.Entry.{Entry}
 use Rattle.phaser_core.specs.declared.view.Event.{Event}
 use Rattle.phaser_core.specs.declared.view.Event.TheVariants as event
 use Rattle.phaser_core.specs.declared.view.Numbers.{Numbers}
-use Rattle.phaser_core.specs.declared.view.Stage.{Stage}
 use Rattle.phaser_core.specs.declared.view.Stage.TheVariants.{Out, In, On}
 use Rattle.phaser_core.specs.declared.view.WriterView.{WriterView}
 use Rattle.phaser_core.specs.declared.view.View.{View}
@@ -27,7 +25,7 @@ use Rattle.std.proofs.lemmas.List.{length-set}
 use Rattle.weave_engine.specs.declared.seat.Owed.{Owed as OwedBy}
 use Rattle.weave_engine.specs.declared.seat.Owed.TheVariants as by
 use Rattle.weave_engine.specs.Turns.{closing_event, interval_after}
-use Rattle.weave_engine.specs.Seats.{RecordStage, StageOf, Writes, Wrote, owed_then, pair_then, step_count, IsNext}
+use Rattle.weave_engine.specs.Seats.{RecordStage, Writes, Wrote, owed_then, pair_then, step_count, IsNext}
 use Rattle.weave_engine.specs.Steps.{record_steps}
 use Rattle.phaser_core.specs.Views.{Pair}
 

@@ -1,5 +1,5 @@
 -- Before the first turn, and tokens one after another.
-use Rattle.std.proofs.Common.{◌≡◌, ◌⊎◌, inl, inr, zero, suc, ◌<◌, ◌≤◌, Bool, true, Option, Some, None, set, ℕ, ◌+◌, false, List, [], ◌∷◌, ◌++◌, length, refl, sym, ap, ◌∙◌, subst, arith}
+use Rattle.std.proofs.Common.{◌≡◌, ◌⊎◌, inl, inr, zero, suc, ◌<◌, ◌≤◌, true, Some, None, set, ℕ, ◌+◌, false, List, [], ◌∷◌, ◌++◌, length, refl, sym, ap, ◌∙◌, subst, arith}
 use Rattle.jm_base.specs.Run.{over_value}
 use Rattle.jm_base.specs.Outside.{script_form}
 use Rattle.element_tree.specs.Tree.{Tree, threads_of}
@@ -21,7 +21,7 @@ use Rattle.weave_engine.specs.Turns.{Weave}
 use Rattle.weave_engine.specs.Woven.{Runs, AllRun, at_end, first, thread_at_start, numbers_of}
 use Rattle.weave_engine.specs.Seats.{OwesSame, SeatIs, AreSeats, CoreIs, events_over, IsFresh, AllFresh, HasRoom, Writes, AreWriters, StageOf, LabelIn, pending_of, units_in, Runs as SeatsRun}
 use Rattle.weave_engine.specs.Books.{pairs_of}
-use Rattle.std.specs.Prelude.{slice_get, unwrap_or, nat_lt, ◌-◌, replicate}
+use Rattle.std.specs.Prelude.{slice_get, unwrap_or, nat_lt, ◌-◌}
 use Rattle.std.proofs.lemmas.Option.{slice_get_past}
 use Rattle.std.proofs.lemmas.List.{length-append, length-set}
 use Rattle.std.proofs.lemmas.Bool.Decides.{nat_tests}
@@ -32,8 +32,7 @@ use Rattle.phaser_core.specs.declared.view.WriterView.{WriterView}
 use Rattle.phaser_core.specs.declared.view.View.{View}
 use Rattle.phaser_core.specs.declared.view.View.TheVariants.{Writer}
 use Rattle.phaser_core.specs.declared.view.Event.TheVariants.{Split}
-use Rattle.phaser_core.specs.Step.{CoreState, next_state, core_step, split_at, split_stage, split_if}
-use Rattle.phaser_core.specs.CoreMoves.{splitting, split_off}
+use Rattle.phaser_core.specs.Step.{CoreState, next_state, split_at, split_if}
 use Rattle.phaser_core.specs.Views.{further}
 use Rattle.phaser_core.proofs.Lists.{set_here, set_else, at_longer, at_last}
 use Rattle.weave_engine.specs.Woven.{split_to, at_start, threads_to}

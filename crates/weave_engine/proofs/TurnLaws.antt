@@ -17,10 +17,9 @@ use Rattle.thread_machine.specs.declared.trace.TraceItem.TheVariants.{Entered as
 use Rattle.phaser_core.specs.Cells.{is_odd}
 use Rattle.weave_engine.specs.Steps.{Owed, Nought, Record, Section, Stop, Thread, record_steps, shows, owes, opens, all_happen, stopped}
 use Rattle.weave_engine.specs.Turns.{Weave, thread_turn, turn_of, owed_turn, record_turn, interval_after, recorded, try_turn, free_turn, looked_turn, step_turn, lock_left, with_thread, with_locks, core_moves}
-use Rattle.weave_engine.specs.Seats.{SeatIs, MakesStep, RecordedAs, Records, OwesSame, CoreIs, AreSeats, Runs, RunsOn, Turned, HasRoom, Writes, Wrote, AreWriters, StepsOut, RecordsOn, IsNext, StageOf, owed_then, pair_then, pending_of, LabelIn}
+use Rattle.weave_engine.specs.Seats.{SeatIs, MakesStep, RecordedAs, Records, OwesSame, CoreIs, AreSeats, Runs, RunsOn, Turned, HasRoom, Writes, Wrote, AreWriters, StepsOut, RecordsOn, IsNext, owed_then, pair_then, pending_of, LabelIn}
 use Rattle.weave_engine.specs.Books.{pairs_of}
 use Rattle.phaser_core.specs.declared.view.View.{View}
-use lib.ListN.{get_elem?}
 use Rattle.weave_engine.proofs.StageLaws.{record_wrote, looked_out, raised_out}
 use Rattle.weave_engine.proofs.SeatLaws.{going_on, none_to_come, none_owed, record_of, enters_by}
 

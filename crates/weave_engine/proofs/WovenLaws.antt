@@ -1,12 +1,11 @@
 -- The whole run of a schedule.
-use Rattle.std.proofs.Common.{◌≡◌, ℕ, suc, ◌+◌, ◌≤◌, Bool, true, false, List, [], ◌∷◌, ◌++◌, Option, Some, None, length, map, refl, sym, ap, ◌∙◌, subst, arith}
-use Rattle.std.specs.Prelude.{◌==◌, slice_get, slice_index, slice_set}
+use Rattle.std.proofs.Common.{◌≡◌, ℕ, suc, ◌+◌, Bool, true, false, List, [], ◌∷◌, ◌++◌, Option, Some, None, length, map, refl, sym, ap, ◌∙◌, subst}
+use Rattle.std.specs.Prelude.{◌==◌, slice_get, slice_index}
 use Rattle.std.proofs.lemmas.List.{length-set}
 use lib.ListN.{get_elem?}
 use Rattle.element_tree.specs.Tree.{Tree, threads_of}
 use Rattle.interval_tables.specs.declared.report.Report.{Report}
 use Rattle.jm_meaning.specs.Beginning.{Options}
-use Rattle.phaser_core.specs.declared.view.Event.{Event as CoreEvent}
 use Rattle.phaser_core.specs.declared.view.Event.TheVariants.{LookStop}
 use Rattle.phaser_core.specs.declared.view.Numbers.{Numbers}
 use Rattle.phaser_core.specs.declared.view.View.{View}
@@ -24,7 +23,7 @@ use Rattle.weave_engine.specs.declared.seat.Seat.{Seat}
 use Rattle.weave_engine.specs.Repeats.{Repeats, ends, goes_on}
 use Rattle.weave_engine.specs.Steps.{Owed, Nought, Record, Section, Stop, Thread}
 use Rattle.jm_base.specs.Run.{Event}
-use Rattle.weave_engine.specs.Turns.{Weave, thread_turn, turn_of, owed_turn, record_turn, try_turn, free_turn, looked_turn, step_turn, stop_turn, core_moves, reporter_turn, turns_to, ends_rounds, closing_of, is_idle, joined_to, reports_in, reports_of}
+use Rattle.weave_engine.specs.Turns.{Weave, thread_turn, turn_of, owed_turn, try_turn, free_turn, looked_turn, step_turn, core_moves, reporter_turn, turns_to, ends_rounds, closing_of, is_idle, joined_to, reports_in, reports_of}
 use Rattle.weave_engine.specs.Woven.{Runs as RunsAs, AllRun, at_end, first, at_start, numbers_of, CloseIf, Woven}
 use Rattle.weave_engine.specs.Seats.{AreSeats, CoreIs, Runs, RunsOn, IsJoined, lists_of, traces_in}
 use Rattle.weave_engine.specs.Books.{pairs_of, lists_in, AllKeep}

@@ -1,6 +1,6 @@
 -- What steps, stops and records of a thread leave of its writer.
-use Rattle.std.proofs.Common.{◌≡◌, inl, inr, ℕ, zero, suc, ◌+◌, ◌-◌, ◌<◌, ◌≤◌, Bool, true, false, List, [], ◌∷◌, ◌++◌, Option, None, Some, length, append-nil, append_assoc, refl, sym, ap, ◌∙◌, subst, arith}
-use Rattle.std.specs.Prelude.{IfSome, Result, Ok, Err, OnOk, slice_get}
+use Rattle.std.proofs.Common.{◌≡◌, inl, inr, ℕ, zero, suc, ◌+◌, ◌-◌, ◌<◌, ◌≤◌, true, false, List, [], ◌∷◌, ◌++◌, Option, None, Some, length, append-nil, append_assoc, refl, sym, ap, ◌∙◌, subst, arith}
+use Rattle.std.specs.Prelude.{IfSome, Result, Ok, Err, OnOk}
 use Rattle.std.proofs.lemmas.List.{length-append}
 use Rattle.jm_base.specs.declared.types.End.{End}
 use Rattle.jm_base.specs.declared.types.End.TheVariants.{Completed, StopThread, StopTest, Stopped, SampleLimit, RoundLimit, ValueLimit, NoMemory}
@@ -12,19 +12,17 @@ use Rattle.element_tree.specs.Names.{labels_of}
 use Rattle.phaser_core.specs.declared.view.Numbers.{Numbers}
 use Rattle.phaser_core.specs.declared.view.Stage.{Stage}
 use Rattle.phaser_core.specs.declared.view.Stage.TheVariants.{Out}
-use Rattle.phaser_core.specs.Views.{Pair}
 use Rattle.thread_machine.specs.declared.trace.TraceItem.{TraceItem}
 use Rattle.thread_machine.specs.declared.trace.TraceItem.TheVariants.{Paused as PausedItem, Sampled as SampledItem, Null as NullItem, Entered as EnteredItem, Left as LeftItem, Ended as EndedItem}
 use Rattle.thread_machine.specs.declared.step.Step.TheVariants.{Sampled as SampledStep, Null as NullStep, Enter as EnterStep, Leave as LeaveStep, Ended as EndedStep}
 use Rattle.thread_machine.specs.Standing.{Standing, rest}
 use Rattle.thread_machine.specs.SectionOrder.{left_traced}
-use Rattle.thread_machine.specs.Stepped.{trace_paused, Begins, IsGiver, GivesSample, GivesNone, IsOver, Ends, Steps, entry_of}
+use Rattle.thread_machine.specs.Stepped.{trace_paused, Begins, IsGiver, IsOver, Ends, Steps}
 use Rattle.thread_machine.proofs.Labels.{label_within}
-use Rattle.weave_engine.specs.declared.seat.Owed.{Owed as OwedBy}
 use Rattle.weave_engine.specs.declared.seat.Owed.TheVariants as by
 use Rattle.weave_engine.specs.declared.seat.Seat.{Seat}
 use Rattle.weave_engine.specs.Steps.{Thread}
-use Rattle.weave_engine.specs.Seats.{SeatIs, HasRoom, StageOf, LabelIn, pending_of, units_in, owed_after, IsNoMemory, StepsOut, RecordsOn}
+use Rattle.weave_engine.specs.Seats.{SeatIs, HasRoom, StageOf, LabelIn, pending_of, units_in, owed_after, StepsOut, RecordsOn}
 use Rattle.weave_engine.specs.Books.{pair_of, pairs_of}
 use Rattle.weave_engine.proofs.SeatLaws.{begun_on, record_of, worker_entered}
 

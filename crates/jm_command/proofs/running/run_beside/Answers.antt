@@ -1,4 +1,4 @@
-use Rattle.std.proofs.Common.{length, ap, ◌∙◌, refl, inl, rules}
+use Rattle.std.proofs.Common.{length, ap, ◌∙◌}
 use Rattle.interval_tables.proofs.Sums.{length-sum_of}
 use Rattle.recorder_core.specs.RecorderSeats.{books_of, last_report, all_reports_of}
 use Rattle.jm_command.proofs.StartLaws.{labelled_all, ticked_reports, stopped_before, books_say}

@@ -1,8 +1,13 @@
 use Rattle.std.proofs.Common.{rules}
 use Rattle.std.specs.Prelude.{IsErrOf}
 use Rattle.trace_output.specs.declared.error.PrintError.TheVariants.{WriteFault, NoMemory}
-use Rattle.trace_output.proofs.PrintingLaws.{first_cut, second_failed, second_cut, last_failed}
+use Rattle.trace_output.proofs.PrintingLaws.{first_failed, first_cut, second_failed, second_cut, last_failed}
 use Rattle.trace_output.proofs.history.print_history.Goals as goal
+
+pub returns-in_err-put_reports-clause-failed : goal.returns-in_err-put_reports-clause-failed
+returns-in_err-put_reports-clause-failed g c = λ is.
+    let failed : IsErrOf c.put_reports.result WriteFault = search rules in
+    first_failed _ _ _ _ c.in-Ok.pending c.in-Ok.ensures _ (c.put_reports.ensures.failed failed)
 
 pub returns-in_err-put_reports-clause-cut : goal.returns-in_err-put_reports-clause-cut
 returns-in_err-put_reports-clause-cut g c = λ is.

@@ -1,4 +1,4 @@
-use Rattle.std.proofs.Common.{◌≡◌, ◌<◌, ◌≤◌, length, get_or, subst, arith, rules}
+use Rattle.std.proofs.Common.{◌<◌, ◌≤◌, length, subst, sym, arith, rules}
 use Rattle.std.specs.Prelude.{IsErrOf}
 use Rattle.std.proofs.lemmas.List.{take_all}
 use Rattle.output_lines.specs.Reports.{report_text}
@@ -11,26 +11,26 @@ use Rattle.trace_output.proofs.history.put_reports.Goals as goal
 pub put_report-requires : goal.put_report-requires
 put_report-requires g c =
     let low : c.loop-report.report-index < length c.args.closed.now = omega (arith, c.loop-report-test.true) in
-    subst (CanPrint c.args.plan.now) (c.loop-report-item.is) (c.requires c.loop-report.report-index c.loop-report-item.result low)
+    subst (CanPrint c.args.plan.now) (sym c.report-item.is) (c.requires c.loop-report.report-index c.report-item.result low)
 
 pub returns-in_err-put_report-clause-failed : goal.returns-in_err-put_report-clause-failed
 returns-in_err-put_report-clause-failed g c = λ is.
     let failed : IsErrOf c.put_report.result WriteFault = search rules in
     let low : c.loop-report.report-index < length c.args.closed.now = omega (arith, c.loop-report-test.true) in
-    each_failed (λ n. report_text c.args.plan.now) c.args.closed.now c.loop-report.report-index c.loop-report-item.result low c.loop-report-item.result c.loop-report-item.is _ _ _ c.loop-report.invariant
+    each_failed (λ n. report_text c.args.plan.now) c.args.closed.now c.loop-report.report-index c.report-item.result low c.report-item.result c.report-item.is _ _ _ c.loop-report.invariant
     (c.put_report.ensures.failed failed)
 
 pub returns-in_err-put_report-clause-cut : goal.returns-in_err-put_report-clause-cut
 returns-in_err-put_report-clause-cut g c = λ is.
     let failed : IsErrOf c.put_report.result NoMemory = search rules in
     let low : c.loop-report.report-index < length c.args.closed.now = omega (arith, c.loop-report-test.true) in
-    each_cut (λ n. report_text c.args.plan.now) c.args.closed.now c.loop-report.report-index c.loop-report-item.result low c.loop-report-item.result c.loop-report-item.is _ _ _ c.loop-report.invariant
+    each_cut (λ n. report_text c.args.plan.now) c.args.closed.now c.loop-report.report-index c.report-item.result low c.report-item.result c.report-item.is _ _ _ c.loop-report.invariant
     (c.put_report.ensures.cut failed)
 
 pub loop-report-preserved : goal.loop-report-preserved
 loop-report-preserved g c =
     let low : c.loop-report.report-index < length c.args.closed.now = omega (arith, c.loop-report-test.true) in
-    each_put (λ n. report_text c.args.plan.now) c.args.closed.now c.loop-report.report-index c.loop-report-item.result low c.loop-report-item.result c.loop-report-item.is _ _ _ c.loop-report.invariant
+    each_put (λ n. report_text c.args.plan.now) c.args.closed.now c.loop-report.report-index c.report-item.result low c.report-item.result c.report-item.is _ _ _ c.loop-report.invariant
     c.in_ok-put_report.ensures.put
 
 pub returns-clause-put : goal.returns-clause-put

@@ -1,8 +1,7 @@
-use Rattle.std.proofs.Common.{◌≡◌, ◌≤◌, ◌<◌, inl, sym, ap, ◌∙◌, refl, subst, arith}
+use Rattle.std.proofs.Common.{inl, sym, ◌∙◌, refl, subst, arith}
 use Rattle.phaser_core.specs.declared.view.Event.TheVariants.{LookStop}
 use Rattle.phaser_core.specs.Step.{next_state}
-use Rattle.weave_engine.specs.Turns.{lock_left}
-use Rattle.weave_engine.specs.Seats.{CoreIs, MovesOne, TurnsIn, Turned}
+use Rattle.weave_engine.specs.Seats.{CoreIs, MovesOne, Turned}
 use Rattle.weave_engine.proofs.LoadLaws.{has_settled}
 use Rattle.weave_engine.proofs.SeatLaws.{is_one, not_one}
 use Rattle.weave_engine.proofs.TurnLaws.{empty_turned, stop_turned, step_turned}
@@ -28,8 +27,8 @@ returns-then-seat-clause-keeps c = λ plan start options h. h
 pub leave-requires : goal.leave-requires
 leave-requires c = λ lock. (let h = c.requires.words.light lock in omega (arith, h))
 
-pub leave-2-requires : goal.leave-2-requires
-leave-2-requires c = λ lock. (let h = c.requires.words.light lock in omega (arith, h))
+pub leave-requires-else-seen-eq1 : goal.leave-requires-else-seen-eq1
+leave-requires-else-seen-eq1 c = λ lock. (let h = c.requires.words.light lock in omega (arith, h))
 
 pub returns-then-seen-eq1-clause-turned : goal.returns-then-seen-eq1-clause-turned
 returns-then-seen-eq1-clause-turned c = λ n s t there is core_is words room writes.
@@ -53,24 +52,24 @@ returns-then-seen-eq1-clause-lighter c = inl c.stop-open.ensures.lighter
 pub returns-then-seen-eq1-clause-keeps : goal.returns-then-seen-eq1-clause-keeps
 returns-then-seen-eq1-clause-keeps c = c.stop-open.ensures.keeps
 
-pub returns-else-seen-eq1-clause-turned : goal.returns-else-seen-eq1-clause-turned
-returns-else-seen-eq1-clause-turned c = λ n s t there is core_is words room writes.
-    subst (Turned n c.args.seat.now.worker.thread s c.step-left.new.self c.apply.new.core) (sym c.leave-2.ensures)
-    (step_turned n s c.args.seat.now.worker.thread t there c.args.seat.now c.step-left.new.self c.args.core.now c.apply.new.core is core_is room writes c.args.locks.now.items words c.requires.owed c.if-seat.false
+pub returns-in_ok-left-clause-turned : goal.returns-in_ok-left-clause-turned
+returns-in_ok-left-clause-turned c = λ n s t there is core_is words room writes.
+    subst (Turned n c.args.seat.now.worker.thread s c.step.new.self c.apply.new.core) (sym c.leave-else-seen-eq1.ensures)
+    (step_turned n s c.args.seat.now.worker.thread t there c.args.seat.now c.step.new.self c.args.core.now c.apply.new.core is core_is room writes c.args.locks.now.items words c.requires.owed c.if-seat.false
     (not_one _ (λ e. c.if-seen-eq1.false (c.word-seen.ensures ∙ e)))
     (subst (λ k. CoreIs c.apply.new.core n (next_state n s.core (LookStop k))) is.number (c.in_ok-apply.ensures n s.core core_is))
     c.in_ok-left.ensures.thread.number c.in_ok-left.left (c.in_ok-left.ensures.made t is) c.in_ok-left.ensures.out)
 
-pub returns-else-seen-eq1-clause-thread : goal.returns-else-seen-eq1-clause-thread
-returns-else-seen-eq1-clause-thread c = c.in_ok-left.ensures.thread
+pub returns-in_ok-left-clause-thread : goal.returns-in_ok-left-clause-thread
+returns-in_ok-left-clause-thread c = c.in_ok-left.ensures.thread
 
-pub returns-else-seen-eq1-clause-moves : goal.returns-else-seen-eq1-clause-moves
-returns-else-seen-eq1-clause-moves c =
-    subst (MovesOne c.args.seat.now.worker.section c.step-left.new.self.worker.section c.args.locks.now.items) (sym c.leave-2.ensures)
-    (left_moves c.args.seat.now c.step-left.new.self c.in_ok-left.left c.args.locks.now.items c.in_ok-left.ensures.sections)
+pub returns-in_ok-left-clause-moves : goal.returns-in_ok-left-clause-moves
+returns-in_ok-left-clause-moves c =
+    subst (MovesOne c.args.seat.now.worker.section c.step.new.self.worker.section c.args.locks.now.items) (sym c.leave-else-seen-eq1.ensures)
+    (left_moves c.args.seat.now c.step.new.self c.in_ok-left.left c.args.locks.now.items c.in_ok-left.ensures.sections)
 
-pub returns-else-seen-eq1-clause-lighter : goal.returns-else-seen-eq1-clause-lighter
-returns-else-seen-eq1-clause-lighter c = inl c.in_ok-left.ensures.lighter
+pub returns-in_ok-left-clause-lighter : goal.returns-in_ok-left-clause-lighter
+returns-in_ok-left-clause-lighter c = inl c.in_ok-left.ensures.lighter
 
-pub returns-else-seen-eq1-clause-keeps : goal.returns-else-seen-eq1-clause-keeps
-returns-else-seen-eq1-clause-keeps c = c.in_ok-left.ensures.keeps
+pub returns-in_ok-left-clause-keeps : goal.returns-in_ok-left-clause-keeps
+returns-in_ok-left-clause-keeps c = c.in_ok-left.ensures.keeps

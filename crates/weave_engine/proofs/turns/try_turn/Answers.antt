@@ -1,10 +1,9 @@
-use Rattle.std.proofs.Common.{◌≡◌, ◌≤◌, ◌<◌, ◌/◌, inl, inr, true, false, Some, None, refl, sym, ap, ◌∙◌, subst, arith}
+use Rattle.std.proofs.Common.{◌/◌, inl, inr, Some, refl, sym, ap, ◌∙◌, subst, arith}
 use Rattle.std.specs.Prelude.{slice_index}
 use Rattle.phaser_core.specs.Cells.{is_odd}
 use Rattle.thread_machine.specs.declared.trace.TraceItem.TheVariants.{Entered as EnteredItem}
 use Rattle.weave_engine.specs.Steps.{Nought, shows, owes, opens}
-use Rattle.weave_engine.specs.Turns.{lock_left}
-use Rattle.weave_engine.specs.Seats.{MovesOne, Turned, SeatIs}
+use Rattle.weave_engine.specs.Seats.{Turned, SeatIs}
 use Rattle.weave_engine.proofs.LoadLaws.{is_stuck}
 use Rattle.weave_engine.proofs.SeatLaws.{enters_by}
 use Rattle.weave_engine.proofs.TurnLaws.{blocked_turned, entered_turned}

@@ -2,7 +2,7 @@ use Rattle.std.proofs.Common.{◌≡◌, ◌+◌, suc, [], ◌∷◌, ◌++◌, 
 use Rattle.jm_meaning.specs.Beginning.{Options}
 use Rattle.weave_engine.specs.Woven.{threads_to, thread_at_start}
 use Rattle.weave_engine.specs.Seats.{AreSeats, AllFresh, AllStand, first_outside}
-use Rattle.weave_engine.proofs.StartLaws.{seats_push, length_push, fresh_push, none_fresh}
+use Rattle.weave_engine.proofs.StartLaws.{seats_push, length_push, fresh_push}
 use Rattle.weave_engine.proofs.FollowLaws.{stand_push}
 use Rattle.weave_engine.proofs.weaving.first_seats.Goals as goal
 

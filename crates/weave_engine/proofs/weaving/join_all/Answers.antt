@@ -1,7 +1,6 @@
-use Rattle.std.proofs.Common.{◌≡◌, ◌+◌, ◌<◌, suc, length, sym, subst, arith}
-use Rattle.phaser_core.specs.Step.{CoreState}
+use Rattle.std.proofs.Common.{◌≡◌, ◌+◌, ◌<◌, suc, length, subst, arith}
 use Rattle.weave_engine.specs.Turns.{joined_to}
-use Rattle.weave_engine.specs.Seats.{CoreIs, JoinsTo, IsJoined}
+use Rattle.weave_engine.specs.Seats.{CoreIs, JoinsTo}
 use Rattle.weave_engine.proofs.JoinLaws.{joins_none, joins_more, joined_done}
 use Rattle.weave_engine.proofs.weaving.join_all.Goals as goal
 

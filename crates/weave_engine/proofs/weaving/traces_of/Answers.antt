@@ -1,4 +1,4 @@
-use Rattle.std.proofs.Common.{rules, arith, ◌≡◌, ◌++◌, ◌∙◌, ◌∷◌, [], List, ℕ, zero, suc, ◌<◌, length, refl, sym, ap, subst, append_assoc}
+use Rattle.std.proofs.Common.{rules, arith, ◌≡◌, ◌++◌, ◌∙◌, ◌∷◌, [], List, zero, suc, length, refl, sym, ap, subst, append_assoc}
 use Rattle.std.specs.Prelude.{All, slice_get}
 use Rattle.std.specs.Vec.Iter.{into_iter_items}
 use Rattle.std.proofs.lemmas.List.{append-nil}
@@ -20,11 +20,12 @@ none_left (x ∷ xs) none = absurd (omega (arith, none))
 
 pub seats-init : goal.seats-init
 seats-init c =
-    let items : into_iter_items c.into_iter-seat-iterator.result ≡ c.args.seats.now.items = search rules in
+    let items : into_iter_items c.into_iter-seat-iterator.result ≡ c.args.seats.items = search rules in
+    let none : c.in_ok-traces.traces.items ≡ [] = search rules in
     record {
-      all = ap traces_in items;
+      all = ap (λ (ts : List (List TraceItem)). ts ++ traces_in (into_iter_items c.into_iter-seat-iterator.result)) none ∙ ap traces_in items;
       plans = subst (AllOf c.args.plan.now) (sym items) c.requires;
-      labelled = λ i d low. absurd (omega (arith, low));
+      labelled = subst (All (All (IsLabelled (length (labels_of c.args.plan.now.elements))))) (sym none) (λ i d low. absurd (omega (arith, low)));
     }
 
 pub trace_of-requires : goal.trace_of-requires

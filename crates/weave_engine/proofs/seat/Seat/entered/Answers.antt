@@ -8,7 +8,7 @@ use Rattle.weave_engine.proofs.FollowLaws.{entered_keeps}
 use Rattle.weave_engine.proofs.seat.Seat.entered.Goals as goal
 
 pub entered-requires : goal.entered-requires
-entered-requires c = subst IsSome (sym (some_entering c.args.self.now c.args.lock c.requires.is c.requires.owed)) tt
+entered-requires c = subst IsSome (sym (some_entering c.args.self.now c.args.lock c.requires.is c.requires.owed)) refl
 
 pub returns-clause-entered : goal.returns-clause-entered
 returns-clause-entered c = λ t is. entered_is c.args.self.now _ t c.args.lock c.args.place is c.requires.owed c.entered.ensures.item refl refl refl refl refl
