@@ -16,24 +16,17 @@ use Rattle.element_tree.specs.Tree.{Tree, threads_of}
 use Rattle.plan_maker.specs.Generated.{generated}
 use Rattle.command_words.specs.declared.command.Command.{Command}
 use Rattle.jm_command.specs.declared.refusal.Refusal.{Refusal}
-use Rattle.jm_command.specs.declared.refusal.Refusal.TheVariants.{TooLong, Shape, Build, NotBuilt, Unfit as Conditions}
-use Rattle.jm_command.specs.declared.judge.Judged.{Judged}
-use Rattle.jm_command.specs.declared.judge.Judged.TheVariants.{Fit, Unfit, NoMemory}
+use Rattle.jm_command.specs.declared.refusal.Refusal.TheVariants.{TooLong}
 use Rattle.command_words.specs.declared.command.Command.TheVariants.{Check, Make, Solo, Weave, Run}
-use Rattle.command_words.specs.declared.command.Weave.{Weave as WeaveOf}
-use Rattle.command_words.specs.declared.command.Run.{Run as RunOf}
 use Rattle.command_words.specs.declared.command.Make.{Make as MakeOf}
 use Rattle.command_words.specs.declared.command.Solo.{Solo as SoloOf}
-use Rattle.plan_json.specs.Shape.{Raw, reading_of}
-use Rattle.element_props.specs.Reads.{over, Goes}
-use Rattle.element_tree.specs.Walk.{reading}
 use Rattle.jm_command.specs.declared.status.Status.{Status}
 use Rattle.jm_command.specs.declared.status.Status.TheVariants.{Done, Usage, Refused, ReadFault, WriteFault, Memory}
 use Rattle.jm_command.specs.Refusals.{ReadsPlan, IsAccepted, IsRefused, replies_fault, thread_fault, first_fault, samples_fault, refusal_line}
 use Rattle.jm_command.specs.Printed.{MayPrint}
 use Rattle.trace_output.specs.Printing.{TextOut, TextFailed}
 use Rattle.jm_command.specs.Command.{plan_limit, Edges, edges, Accepts, Makes, HasPlan, Refuses, IsRefusal, RefusalUnwritten, ResultsUnwritten, ReportUnwritten, NothingPrinted, ResultsCut, ReportCut, IsCutShort, SaysUnplanned, Says, NothingRead, usage_line}
-use Rattle.jm_command.specs.Parts.{Sinks, sinks, LineSays, ResultsFailed, ReportFailed, ResultsShort, ReportShort, PlanSays, RefusalSays, SaysUnfound, IsPlain, Judges, HasThread, CanRun}
+use Rattle.jm_command.specs.Parts.{Sinks, sinks, LineSays, ResultsFailed, ReportFailed, ResultsShort, ReportShort, PlanSays, RefusalSays, SaysUnfound, IsPlain, HasThread, CanRun}
 
 -- a refusal and its line
 pub refusal_said : (command : Command) (bytes : List ℕ) (before after : Asked) (old new : Option (List ℕ)) (faults now : ℕ) (refusal : Refusal) → IsRefused command bytes before after refusal

@@ -15,10 +15,7 @@ use Rattle.command_words.specs.declared.command.Command.TheVariants.{Check, Make
 use Rattle.command_words.specs.declared.command.Make.{Make as MakeOf}
 use Rattle.command_words.specs.declared.command.Solo.{Solo}
 use Rattle.command_words.specs.declared.command.Weave.{Weave as WeaveOf}
-use Rattle.command_words.specs.declared.command.Run.{Run as RunOf}
-use Rattle.plan_json.specs.Shape.{Raw}
 use Rattle.jm_command.specs.declared.refusal.Refusal.{Refusal}
-use Rattle.jm_command.specs.declared.refusal.Refusal.TheVariants.{TooLong, Shape, Build, NotBuilt, Unfit as Conditions}
 use Rattle.jm_command.specs.declared.judge.Judged.{Judged}
 use Rattle.jm_command.specs.declared.judge.Judged.TheVariants.{Fit, Unfit, NoMemory}
 use Rattle.jm_command.specs.Refusals.{IsAccepted, IsRefused, refusal_line}
