@@ -63,8 +63,8 @@ fn token_text(alloc: Global, token: Token) -> anyhow::Result<String> {
 
 fn print_run_options(rt: &impl Print, alloc: Global, run: &Run) -> anyhow::Result<()> {
     println!(rt;
-        "run seed={} samples={} every={}",
-        run.seed, run.samples, run.every
+        "run seed={} samples={} every={} limit={}",
+        run.seed, run.samples, run.every, run.limit
     )?;
     print_props(rt, alloc, &run.props)
 }

@@ -50,13 +50,17 @@ weave_from shared schedule =
 abbrev pub weave_of : (Word → Option Word) → Option Weave
 weave_of value = option_and_then (λ shared. weave_from shared (unwrap_or (value (codes "schedule")) (codes ""))) (shared_of value)
 
-abbrev pub run_from : Shared → Word → Option Run
-run_from shared every =
-    option_map (λ e. record { seed = shared.seed; props = shared.props; samples = shared.samples; every = e }) (number_between 1 3600000 every)
+abbrev pub run_from : Shared → Word → Word → Option Run
+run_from shared every limit =
+    option_and_then (λ e. option_map (λ l.
+    record { seed = shared.seed; props = shared.props; samples = shared.samples; every = e; limit = l })
+    (number_between 0 (2 ^ 64 - 1) limit)) (number_between 1 3600000 every)
 
--- the options of `run`: those that are shared, and how long an interval lasts
+-- the options of `run`: those that are shared, how long an interval lasts, and how many errors it may have
 abbrev pub run_of : (Word → Option Word) → Option Run
-run_of value = option_and_then (λ shared. run_from shared (unwrap_or (value (codes "every")) (codes "1000"))) (shared_of value)
+run_of value = option_and_then (λ shared.
+    run_from shared (unwrap_or (value (codes "every")) (codes "1000")) (unwrap_or (value (codes "limit")) (codes "18446744073709551615")))
+    (shared_of value)
 
 -- a command: its name, its options, and what it asks for where these values are given
 pub record CommandRule : Type 0 where
@@ -91,7 +95,7 @@ weave = record {
 abbrev pub run : CommandRule
 run = record {
   name = codes "run";
-  options = (codes "seed", false) ∷ (codes "props", false) ∷ (codes "samples", false) ∷ (codes "every", false) ∷ [];
+  options = (codes "seed", false) ∷ (codes "props", false) ∷ (codes "samples", false) ∷ (codes "every", false) ∷ (codes "limit", false) ∷ [];
   meaning = λ value. option_map RunAll (run_of value);
 }
 

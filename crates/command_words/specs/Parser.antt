@@ -30,7 +30,7 @@ abbrev pub weave_app : App
 weave_app = with_options (new_app (codes "weave")) (codes "seed" ∷ codes "props" ∷ codes "samples" ∷ codes "schedule" ∷ [])
 
 abbrev pub run_app : App
-run_app = with_options (new_app (codes "run")) (codes "seed" ∷ codes "props" ∷ codes "samples" ∷ codes "every" ∷ [])
+run_app = with_options (new_app (codes "run")) (codes "seed" ∷ codes "props" ∷ codes "samples" ∷ codes "every" ∷ codes "limit" ∷ [])
 
 abbrev pub bare_shape : Shape → Shape
 bare_shape s = record s { no_binary_name = true; disable_help_flag = true; disable_help_subcommand = true; subcommand_required = true }

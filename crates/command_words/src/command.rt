@@ -62,4 +62,6 @@ pub struct Run {
     pub samples: u32,
     /// `--every`, how long an interval lasts: 1 to 3,600,000 milliseconds.
     pub every: u32,
+    /// `--limit`, how many errors an interval may have: one with more stops the run. Each number of 64 bits is one.
+    pub limit: u64,
 }

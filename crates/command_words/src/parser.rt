@@ -86,7 +86,8 @@ fn run_command<'a>(alloc: Global) -> Result<Command<'a>, AllocError>
     let command = with_option(alloc, command, "seed")?;
     let command = with_option(alloc, command, "props")?;
     let command = with_option(alloc, command, "samples")?;
-    with_option(alloc, command, "every")
+    let command = with_option(alloc, command, "every")?;
+    with_option(alloc, command, "limit")
 }
 
 /// The program without a command: one is asked for, and there is no help.

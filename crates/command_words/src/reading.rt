@@ -136,8 +136,10 @@ fn run(alloc: Global, matches: &ArgMatches) -> Result<Run, WordsError>
     ensures ok { IfOk result (λ r. run_of (shown_value matches.now) ≡ Some r) }
     ensures bad { result ≡ Err WordsError.BadWords → run_of (shown_value matches.now) ≡ None }
 {
+    let every = value_or(matches, "every", "1000");
+    let limit = value_or(matches, "limit", "18446744073709551615");
     match shared(alloc, matches) {
-        Ok(shared) => match run_from(shared, value_or(matches, "every", "1000")) {
+        Ok(shared) => match run_from(shared, every, limit) {
             Some(run) => Ok(run),
             None => Err(WordsError::BadWords),
         },

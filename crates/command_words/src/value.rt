@@ -140,15 +140,17 @@ pub(crate) fn weave_from(alloc: Global, shared: Shared, schedule: &str) -> Resul
     }
 }
 
-/// The options of `run`: those that it shares, and its own by the text of its value.
-pub(crate) fn run_from(shared: Shared, every: &str) -> Option<Run>
-    ensures { result ≡ run_from shared every.now }
+/// The options of `run`: those that it shares, and its own by the texts of their values.
+pub(crate) fn run_from(shared: Shared, every: &str, limit: &str) -> Option<Run>
+    ensures { result ≡ run_from shared every.now limit.now }
 {
     let every = number_between(1, 3_600_000, every.as_bytes())?;
+    let limit = number_between(0, u64::MAX, limit.as_bytes())?;
     Some(Run {
         seed: shared.seed,
         props: shared.props,
         samples: shared.samples,
         every: every as u32,
+        limit,
     })
 }

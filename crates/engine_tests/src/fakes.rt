@@ -30,6 +30,8 @@ pub struct Tally {
     pub judged: AtomicU64,
     /// The samples in those reports.
     pub seen: AtomicU64,
+    /// The errors in them.
+    pub errors: AtomicU64,
     /// The requests that have no reply yet.
     pub inside: AtomicU64,
     /// The requests that came while another had no reply yet.
@@ -55,6 +57,7 @@ impl Tally {
             ticks: AtomicU64::new(0),
             judged: AtomicU64::new(0),
             seen: AtomicU64::new(0),
+            errors: AtomicU64::new(0),
             inside: AtomicU64::new(0),
             crowded: AtomicU64::new(0),
         }
@@ -88,11 +91,14 @@ impl Tally {
     /// The hook was given a report.
     pub fn judge(&self, report: &Report) {
         let mut samples = 0u64;
+        let mut errors = 0u64;
         for row in report.rows.as_slice() {
             samples = samples.wrapping_add(row.count);
+            errors = errors.wrapping_add(row.errors);
         }
         self.judged.fetch_add(1, Ordering::SeqCst);
         self.seen.fetch_add(samples, Ordering::SeqCst);
+        self.errors.fetch_add(errors, Ordering::SeqCst);
     }
 }
 
@@ -116,14 +122,19 @@ impl<'a> Hold<'a> {
 
     // Waits until the awaited word is great enough. It answers whether that came within the turns.
     fn has_come(&self) -> bool {
-        for _turn in 0..TURNS {
-            if self.awaited.load(Ordering::SeqCst) >= self.least {
-                return true;
-            }
-            thread::yield_now();
-        }
-        false
+        comes_to(self.awaited, self.least)
     }
+}
+
+/// Waits until a word is at least so great. It answers whether that came within the turns.
+pub fn comes_to(word: &AtomicU64, least: u64) -> bool {
+    for _turn in 0..TURNS {
+        if word.load(Ordering::SeqCst) >= least {
+            return true;
+        }
+        thread::yield_now();
+    }
+    false
 }
 
 /// A script outside that holds replies.

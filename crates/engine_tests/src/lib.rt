@@ -1,5 +1,5 @@
 //! Tests of a run's threads: what it prints, that workers run at the same time as each other and as the reporter, that one at a time
-//! is in a section, and what stands after a write that failed.
+//! is in a section, what stands after a write that failed, and that a run is stopped.
 #![tactic(auto)]
 
 #[cfg(test)]
@@ -20,3 +20,7 @@ mod running;
 mod runs;
 #[cfg(test)]
 mod sections;
+#[cfg(test)]
+mod slow;
+#[cfg(test)]
+mod stopping;

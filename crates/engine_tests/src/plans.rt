@@ -21,6 +21,18 @@ pub const TWO_THREADS: &[u8] =
 pub const SECTION: &[u8] =
     b"{\"type\":\"TestPlan\",\"children\":[{\"type\":\"ThreadGroup\",\"name\":\"TG\",\"props\":{\"loops\":10,\"threads\":8},\"children\":[{\"type\":\"CriticalSection\",\"props\":{\"lock\":\"l\"},\"children\":[{\"type\":\"Script\",\"name\":\"A\",\"props\":{\"replies\":[{\"ms\":5}]}}]}]}]}";
 
+/// One thread that makes failing samples for ever.
+pub const FAILING: &[u8] =
+    b"{\"type\":\"TestPlan\",\"children\":[{\"type\":\"ThreadGroup\",\"name\":\"TG\",\"props\":{\"loops\":-1},\"children\":[{\"type\":\"Script\",\"name\":\"A\",\"props\":{\"replies\":[{\"code\":500}]}}]}]}";
+
+/// Two threads that make samples for ever, where one that fails ends the test.
+pub const STOP_TEST: &[u8] =
+    b"{\"type\":\"TestPlan\",\"children\":[{\"type\":\"ThreadGroup\",\"name\":\"TG\",\"props\":{\"loops\":-1,\"onError\":\"stopTest\",\"threads\":2},\"children\":[{\"type\":\"Script\",\"name\":\"A\",\"props\":{\"replies\":[{}]}}]}]}";
+
+/// The same with samples that fail.
+pub const STOP_TEST_FAILING: &[u8] =
+    b"{\"type\":\"TestPlan\",\"children\":[{\"type\":\"ThreadGroup\",\"name\":\"TG\",\"props\":{\"loops\":-1,\"onError\":\"stopTest\",\"threads\":2},\"children\":[{\"type\":\"Script\",\"name\":\"A\",\"props\":{\"replies\":[{\"code\":500}]}}]}]}";
+
 // A plan of that many threads, each of which makes 100 samples of 5 milliseconds: the text before and after the number.
 const BEFORE: &[u8] =
     b"{\"type\":\"TestPlan\",\"children\":[{\"type\":\"ThreadGroup\",\"name\":\"TG\",\"props\":{\"loops\":100,\"threads\":";

@@ -23,7 +23,7 @@ use Rattle.jm_command.specs.declared.refusal.Refusal.{Refusal}
 use Rattle.jm_command.specs.declared.refusal.Refusal.TheVariants as refusals
 use Rattle.jm_command.specs.declared.status.Status.{Status}
 use Rattle.jm_command.specs.declared.status.Status.TheVariants.{Done, Usage, Refused, ReadFault, WriteFault, Memory}
-use Rattle.jm_command.specs.Refusals.{ReadsPlan, IsAccepted, IsPlanOf, IsFit, IsRefused, IsNotBuilt, IsUnfit, solo_fault, weave_fault, samples_fault}
+use Rattle.jm_command.specs.Refusals.{ReadsPlan, IsAccepted, IsPlanOf, IsRefused, IsUnfit}
 use Rattle.jm_command.specs.Command.{plan_limit, Edges, Accepts, HasPlan, Refuses, Says, NoRise, status_of_fault, status_of_plan, status_of_outcome, status_of_shape, status_of_bytes, status_for, number_of}
 
 -- a refusal is the plan's, or the maker of patterns finds one too large
@@ -66,40 +66,18 @@ module _ (command : Command) (bytes : List ℕ) where
       → status_of_bytes command bytes ≡ status_of_plan command tree plan
   at_plan within before after tree plan is = at_shape within (Ok tree) is.shape ∙ ap (status_of_outcome command tree) (goes_judged is.built)
 
-fit_status : (command : Command) (tree : Raw) (plan : Tree) → IsFit command tree plan → status_of_plan command tree plan ≡ 0
-fit_status Check tree plan fit = refl
-fit_status (Make m) tree plan fit = absurd fit
-fit_status (Run r) tree plan fit = rw (fit.built, fit.conditions) refl
-fit_status (Solo s) tree plan fit = rw (fit.built, fit.conditions) refl
-fit_status (Weave w) tree plan fit = rw (fit.built, fit.conditions) refl
-
 module _ (bytes : List ℕ) (within : length bytes ≤ plan_limit) (before after : Asked) (calm : Rose before.oversize after.oversize → ⊥) where
   accepted_status : (command : Command) (plan : Tree) → IsAccepted command bytes before after plan → status_of_bytes command bytes ≡ 0
-  accepted_status command plan is = at_plan command bytes within before after is.tree plan is.is_plan ∙ fit_status command is.tree plan is.fit
-
-  not_built_status : (command : Command) (path : _) → IsNotBuilt command bytes before after path → status_of_bytes command bytes ≡ 3
-  not_built_status Check path is = absurd is
-  not_built_status (Make m) path is = absurd is
-  not_built_status (Run r) path is = at_plan (Run r) bytes within before after is.0 is.1 is.2 ∙ ap (λ o. status_of_fault o (status_of_fault (samples_fault is.1 r.samples) 0)) is.3
-  not_built_status (Solo s) path is = at_plan (Solo s) bytes within before after is.0 is.1 is.2 ∙ ap (λ o. status_of_fault o (status_of_fault (solo_fault is.0 is.1 s) 0)) is.3
-  not_built_status (Weave w) path is = at_plan (Weave w) bytes within before after is.0 is.1 is.2 ∙ ap (λ o. status_of_fault o (status_of_fault (weave_fault is.0 is.1 w) 0)) is.3
+  accepted_status command plan is = at_plan command bytes within before after is.tree plan is.is_plan ∙ ap status_of_fault is.fit
 
   unfit_status : (command : Command) (e : BuildError) → IsUnfit command bytes before after e → status_of_bytes command bytes ≡ 3
-  unfit_status Check e is = absurd is
-  unfit_status (Make m) e is = absurd is
-  unfit_status (Run r) e is = at_plan (Run r) bytes within before after is.0 is.1 is.2
-      ∙ ap (λ o. status_of_fault o (status_of_fault (samples_fault is.1 r.samples) 0)) is.3 ∙ ap (λ o. status_of_fault o 0) is.4
-  unfit_status (Solo s) e is = at_plan (Solo s) bytes within before after is.0 is.1 is.2
-      ∙ ap (λ o. status_of_fault o (status_of_fault (solo_fault is.0 is.1 s) 0)) is.3 ∙ ap (λ o. status_of_fault o 0) is.4
-  unfit_status (Weave w) e is = at_plan (Weave w) bytes within before after is.0 is.1 is.2
-      ∙ ap (λ o. status_of_fault o (status_of_fault (weave_fault is.0 is.1 w) 0)) is.3 ∙ ap (λ o. status_of_fault o 0) is.4
+  unfit_status command e is = at_plan command bytes within before after is.tree is.plan is.is_plan ∙ ap status_of_fault is.unfit
 
   refused_status : (command : Command) (refusal : Refusal) → IsRefused command bytes before after refusal → status_of_bytes command bytes ≡ 3
   refused_status command refusals.TooLong is = absurd is
   refused_status command (refusals.Shape e) is = at_shape command bytes within (Err e) is.0
   refused_status command (refusals.Build e) is = at_shape command bytes within (Ok is.0) is.1
       ∙ ap (status_of_outcome command is.0) (stops_with before after is.0 e calm is.2)
-  refused_status command (refusals.NotBuilt path) is = not_built_status command path is
   refused_status command (refusals.Unfit e) is = unfit_status command e is
 
 -- a command that reads a plan has the status of what it reads

@@ -1,7 +1,7 @@
 pub mod TextLaws
 pub mod ProgramLaws
 pub mod ExactLaws
-pub mod UnbuiltLaws
+pub mod PlaceLaws
 pub mod CountLaws
 pub mod WordLaws
 pub mod StartLaws

@@ -16,60 +16,17 @@ use Rattle.element_tree.specs.Tree.{Tree, threads_of}
 use Rattle.plan_maker.specs.Generated.{generated}
 use Rattle.command_words.specs.declared.command.Command.{Command}
 use Rattle.jm_command.specs.declared.refusal.Refusal.{Refusal}
-use Rattle.jm_command.specs.declared.refusal.Refusal.TheVariants.{TooLong, Shape, Build, NotBuilt, Unfit as Conditions}
-use Rattle.jm_command.specs.declared.judge.Judged.{Judged}
-use Rattle.jm_command.specs.declared.judge.Judged.TheVariants.{Fit, Unfit, NoMemory}
+use Rattle.jm_command.specs.declared.refusal.Refusal.TheVariants.{TooLong}
 use Rattle.command_words.specs.declared.command.Command.TheVariants.{Check, Make, Solo, Weave, Run}
-use Rattle.command_words.specs.declared.command.Weave.{Weave as WeaveOf}
-use Rattle.command_words.specs.declared.command.Run.{Run as RunOf}
 use Rattle.command_words.specs.declared.command.Make.{Make as MakeOf}
 use Rattle.command_words.specs.declared.command.Solo.{Solo as SoloOf}
-use Rattle.plan_json.specs.Shape.{Raw, reading_of}
-use Rattle.element_props.specs.Reads.{over, Goes}
-use Rattle.element_tree.specs.Walk.{reading}
 use Rattle.jm_command.specs.declared.status.Status.{Status}
 use Rattle.jm_command.specs.declared.status.Status.TheVariants.{Done, Usage, Refused, ReadFault, WriteFault, Memory}
 use Rattle.jm_command.specs.Refusals.{ReadsPlan, IsAccepted, IsRefused, replies_fault, thread_fault, first_fault, samples_fault, refusal_line}
 use Rattle.jm_command.specs.Printed.{MayPrint}
 use Rattle.trace_output.specs.Printing.{TextOut, TextFailed}
-use Rattle.jm_command.specs.Command.{plan_limit, Edges, edges, Accepts, Makes, HasPlan, Refuses, IsDone, IsRefusal, LineUnwritten, RefusalUnwritten, ResultsUnwritten, ReportUnwritten, NothingPrinted, ResultsCut, ReportCut, IsCutShort, SaysUnplanned, Says, NothingRead, usage_line}
-use Rattle.jm_command.specs.Parts.{Sinks, sinks, LineSays, ResultsFailed, ReportFailed, ResultsShort, ReportShort, PlanSays, RefusalSays, SaysUnfound, IsPlain, Judges, JudgesSolo, JudgesWeave, JudgesRun, HasThread, CanRun}
-
--- a plan of which one thread can be run, or why it can't, is what the command finds of the bytes
-pub judges_solo : (s : SoloOf) (bytes : List ℕ) (before after : Asked) (tree : Raw) (plan : Tree) → reading_of bytes ≡ Ok tree → Goes before (reading tree) (over plan) after
-    → (j : Judged) → JudgesSolo s tree plan j → Judges (Solo s) bytes before after j
-judges_solo s bytes before after tree plan shape built (Fit fit) h =
-    subst (λ p. IsAccepted (Solo s) bytes before after p) (sym h.0) (record { tree = tree; is_plan = record { shape = shape; built = built }; fit = h.1 })
-judges_solo s bytes before after tree plan shape built (Unfit TooLong) h = absurd h
-judges_solo s bytes before after tree plan shape built (Unfit (Shape e)) h = absurd h
-judges_solo s bytes before after tree plan shape built (Unfit (Build e)) h = absurd h
-judges_solo s bytes before after tree plan shape built (Unfit (NotBuilt path)) h = (tree, plan, record { shape = shape; built = built }, h)
-judges_solo s bytes before after tree plan shape built (Unfit (Conditions e)) h = (tree, plan, record { shape = shape; built = built }, h.0, h.1)
-judges_solo s bytes before after tree plan shape built NoMemory h = tt
-
--- the same of a plan of which all threads can be run by a schedule
-pub judges_weave : (w : WeaveOf) (bytes : List ℕ) (before after : Asked) (tree : Raw) (plan : Tree) → reading_of bytes ≡ Ok tree → Goes before (reading tree) (over plan) after
-    → (j : Judged) → JudgesWeave w tree plan j → Judges (Weave w) bytes before after j
-judges_weave w bytes before after tree plan shape built (Fit fit) h =
-    subst (λ p. IsAccepted (Weave w) bytes before after p) (sym h.0) (record { tree = tree; is_plan = record { shape = shape; built = built }; fit = h.1 })
-judges_weave w bytes before after tree plan shape built (Unfit TooLong) h = absurd h
-judges_weave w bytes before after tree plan shape built (Unfit (Shape e)) h = absurd h
-judges_weave w bytes before after tree plan shape built (Unfit (Build e)) h = absurd h
-judges_weave w bytes before after tree plan shape built (Unfit (NotBuilt path)) h = (tree, plan, record { shape = shape; built = built }, h)
-judges_weave w bytes before after tree plan shape built (Unfit (Conditions e)) h = (tree, plan, record { shape = shape; built = built }, h.0, h.1)
-judges_weave w bytes before after tree plan shape built NoMemory h = tt
-
--- the same of a plan of which all threads can be run
-pub judges_run : (r : RunOf) (bytes : List ℕ) (before after : Asked) (tree : Raw) (plan : Tree) → reading_of bytes ≡ Ok tree → Goes before (reading tree) (over plan) after
-    → (j : Judged) → JudgesRun r tree plan j → Judges (Run r) bytes before after j
-judges_run r bytes before after tree plan shape built (Fit fit) h =
-    subst (λ p. IsAccepted (Run r) bytes before after p) (sym h.0) (record { tree = tree; is_plan = record { shape = shape; built = built }; fit = h.1 })
-judges_run r bytes before after tree plan shape built (Unfit TooLong) h = absurd h
-judges_run r bytes before after tree plan shape built (Unfit (Shape e)) h = absurd h
-judges_run r bytes before after tree plan shape built (Unfit (Build e)) h = absurd h
-judges_run r bytes before after tree plan shape built (Unfit (NotBuilt path)) h = (tree, plan, record { shape = shape; built = built }, h)
-judges_run r bytes before after tree plan shape built (Unfit (Conditions e)) h = (tree, plan, record { shape = shape; built = built }, h.0, h.1)
-judges_run r bytes before after tree plan shape built NoMemory h = tt
+use Rattle.jm_command.specs.Command.{plan_limit, Edges, edges, Accepts, Makes, HasPlan, Refuses, IsRefusal, RefusalUnwritten, ResultsUnwritten, ReportUnwritten, NothingPrinted, ResultsCut, ReportCut, IsCutShort, SaysUnplanned, Says, NothingRead, usage_line}
+use Rattle.jm_command.specs.Parts.{Sinks, sinks, LineSays, ResultsFailed, ReportFailed, ResultsShort, ReportShort, PlanSays, RefusalSays, SaysUnfound, IsPlain, HasThread, CanRun}
 
 -- a refusal and its line
 pub refusal_said : (command : Command) (bytes : List ℕ) (before after : Asked) (old new : Option (List ℕ)) (faults now : ℕ) (refusal : Refusal) → IsRefused command bytes before after refusal
@@ -108,9 +65,9 @@ has_thread plan s none = by_tests (nat_le (length (threads_of plan)) s.thread) (
 pub can_run : (command : Command) (bytes : List ℕ) (before after : Asked) (plan : Tree) → IsPlain command → IsAccepted command bytes before after plan → CanRun command plan
 can_run Check bytes before after plan plain is = tt
 can_run (Make m) bytes before after plan plain is = absurd plain
-can_run (Solo s) bytes before after plan plain is = has_thread plan s (no_second (replies_fault is.tree plan) (thread_fault plan s) is.fit.conditions)
+can_run (Solo s) bytes before after plan plain is = has_thread plan s (no_second (replies_fault is.tree plan) (thread_fault plan s) is.fit)
 can_run (Weave w) bytes before after plan plain is =
-    record { samples = samples_fit plan w.samples (no_second (replies_fault is.tree plan) (samples_fault plan w.samples) is.fit.conditions) }
+    record { samples = samples_fit plan w.samples (no_second (replies_fault is.tree plan) (samples_fault plan w.samples) is.fit) }
 can_run (Run r) bytes before after plan plain is = absurd plain
 
 pub reads_plan : (command : Command) → IsPlain command → ReadsPlan command

@@ -1,10 +1,10 @@
 -- What a run with threads comes to.
 use Rattle.std.proofs.Common.{◌≡◌, ℕ, suc, Bool, true, false, List, [], ◌∷◌, ◌++◌, Option, Some, None, refl, sym, ap, ◌∙◌, subst, inl, inr, arith, length-append}
-use Rattle.std.specs.Prelude.{◌⊎◌, ◌≤◌, ◌*◌, All, length, ◌-◌, option_map}
+use Rattle.std.specs.Prelude.{◌⊎◌, ◌≤◌, ◌*◌, All, length, ◌-◌, take, option_map}
 use Rattle.std.specs.Prelude.{option_and_then, if◌then◌else◌, ⊤}
 use Rattle.std.specs.List.{list_all}
-use Rattle.std.specs.Str.{bytes_eq}
 use Rattle.std.proofs.lemmas.List.{append-nil}
+use Rattle.std.proofs.Math.Seq.{take-append_seam}
 use Rattle.std.proofs.lemmas.List.Elements.{All-nil, All-cons}
 use Rattle.thread_machine.specs.Bare.{IsLabelled}
 use Rattle.run_engine.specs.Joins.{AllLabelled}
@@ -18,6 +18,7 @@ use Rattle.outside_world.specs.Tickers.{Ticks, with_period}
 use Rattle.thread_machine.specs.declared.trace.TraceItem.{TraceItem}
 use Rattle.reporter_loop.specs.Ticked.{HasTickedWhere}
 use Rattle.run_engine.specs.Served.{AreServed}
+use Rattle.run_engine.specs.Stops.{StopHasCause}
 use Rattle.command_words.specs.CommandGrammar.{Word, Given, is_word, given_for, value_of}
 use Rattle.command_words.specs.Commands.{run, run_of, asked_of, command_of, names_run}
 use Rattle.command_words.proofs.OptionLaws.{same_text}
@@ -31,8 +32,8 @@ use Rattle.command_words.specs.declared.command.Run.{Run as RunOf}
 use Rattle.jm_command.specs.declared.status.Status.{Status}
 use Rattle.jm_command.specs.declared.status.Status.TheVariants.{Done, Usage, Refused, ReadFault, WriteFault, Memory}
 use Rattle.jm_command.specs.Command.{Edges, edges, Accepts, Says, SaysUnplanned, NoRise, status_for, number_of}
-use Rattle.jm_command.specs.Parts.{Sinks, sinks, TextsSay}
-use Rattle.jm_command.specs.Started.{Around, IsHistory, run_results, run_reports, run_tail, all_whole, RunPrints, RunStarts, StartSays, sinks_of}
+use Rattle.jm_command.specs.Parts.{sinks, TextsSay}
+use Rattle.jm_command.specs.Started.{Around, before_last, IsHistory, run_results, run_reports, run_tail, all_whole, RunPrints, RunStarts, StartSays, sinks_of}
 use Rattle.jm_command.proofs.ProgramLaws.{samples_fit, accepts_beside, nothing_at_start, cut_at_start}
 use Rattle.jm_command.proofs.ExactLaws.{exactly, plan_status, refuses_status}
 
@@ -115,6 +116,14 @@ ticked_reports closed last n ms before between after count set ticked =
     let many : n ≡ length (closed ++ last ∷ []) - 1 = omega (arith, count, length-append closed (last ∷ [])) in
     subst (λ k. HasTickedWhere k (option_map (with_period ms) before) after) many (subst (λ t. HasTickedWhere n t after) set ticked)
 
+-- what was stopped before the last report
+pub stopped_before : (limit : ℕ) (traces : List (List TraceItem)) (closed : List Report) (last : Report) → StopHasCause limit traces closed → StopHasCause limit traces (before_last (closed ++ last ∷ []))
+stopped_before limit traces closed last h = subst (StopHasCause limit traces) (sym (all_but_last closed last)) h where
+  all_but_last : (xs : List Report) (x : Report) → before_last (xs ++ x ∷ []) ≡ xs
+  all_but_last xs x =
+      let n : length (xs ++ x ∷ []) - 1 ≡ length xs = omega (arith, length-append xs (x ∷ [])) in
+      ap (λ k. take k (xs ++ x ∷ [])) n ∙ take-append_seam xs (x ∷ [])
+
 -- ---- the statuses
 
 -- what is printed of a run whose plan is accepted
@@ -145,7 +154,7 @@ run_unplanned command r is ticks after old new status s =
 -- all threads of a plan that is accepted can have the samples
 pub run_fits : (command : Command) (r : RunOf) (old new : Edges) (plan : Tree) → command ≡ Run r → Accepts command old new plan → length (threads_of plan) * r.samples ≤ 4194304
 run_fits command r old new plan is accepts =
-    let a : Accepts (Run r) old new plan = subst (λ c. Accepts c old new plan) is accepts in samples_fit plan r.samples a.accepted.fit.conditions
+    let a : Accepts (Run r) old new plan = subst (λ c. Accepts c old new plan) is accepts in samples_fit plan r.samples a.accepted.fit
 
 -- the plan was read, which printed nothing, and then the run on it was printed
 pub run_printed : (left left' : Option (List ℕ)) (read read' : ℕ) (results results' : Option (List ℕ)) (written written' : ℕ) (old between new : Option (List ℕ)) (told told' told'' : ℕ)

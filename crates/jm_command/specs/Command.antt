@@ -19,7 +19,7 @@ use Rattle.command_words.specs.declared.command.Make.{Make as MakeOf}
 use Rattle.plan_maker.specs.Generated.{generated}
 use Rattle.jm_command.specs.declared.refusal.Refusal.{Refusal}
 use Rattle.jm_command.specs.declared.refusal.Refusal.TheVariants.{TooLong}
-use Rattle.jm_command.specs.Refusals.{ReadsPlan, IsAccepted, IsRefused, not_built, not_built_beside, solo_fault, weave_fault, samples_fault, refusal_line}
+use Rattle.jm_command.specs.Refusals.{ReadsPlan, IsAccepted, IsRefused, fault_for, refusal_line}
 use Rattle.jm_command.specs.Printed.{TextsOf, MayPrint}
 
 abbrev pub usage_line : List ℕ
@@ -243,18 +243,13 @@ pub record NoRise (old new : Edges) : Type 0 where
   pub reports : Rose old.report_faults new.report_faults → ⊥
   pub patterns : Rose old.asked.oversize new.asked.oversize → ⊥
 
--- the status of what is found unfit: 3 where something is
-abbrev pub status_of_fault : {A : Type 0} → Option A → ℕ → ℕ
-status_of_fault None otherwise = otherwise
-status_of_fault (Some fault) otherwise = 3
+abbrev pub status_of_fault : Option BuildError → ℕ
+status_of_fault None = 0
+status_of_fault (Some e) = 3
 
--- the status of a plan that is accepted: 0, or 3 where it is not fit for the command
+-- the status of a plan that is accepted: 0, or 3 where it does not meet the command's own conditions
 abbrev pub status_of_plan : Command → Raw → Tree → ℕ
-status_of_plan Check tree plan = 0
-status_of_plan (Make m) tree plan = 0
-status_of_plan (Run r) tree plan = status_of_fault (not_built_beside tree plan.elements) (status_of_fault (samples_fault plan r.samples) 0)
-status_of_plan (Weave w) tree plan = status_of_fault (not_built tree plan.elements) (status_of_fault (weave_fault tree plan w) 0)
-status_of_plan (Solo s) tree plan = status_of_fault (not_built tree plan.elements) (status_of_fault (solo_fault tree plan s) 0)
+status_of_plan command tree plan = status_of_fault (fault_for command tree plan)
 
 abbrev pub status_of_outcome : Command → Raw → Result Tree BuildError → ℕ
 status_of_outcome command tree (Ok plan) = status_of_plan command tree plan

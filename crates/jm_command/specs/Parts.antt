@@ -15,13 +15,10 @@ use Rattle.command_words.specs.declared.command.Command.TheVariants.{Check, Make
 use Rattle.command_words.specs.declared.command.Make.{Make as MakeOf}
 use Rattle.command_words.specs.declared.command.Solo.{Solo}
 use Rattle.command_words.specs.declared.command.Weave.{Weave as WeaveOf}
-use Rattle.command_words.specs.declared.command.Run.{Run as RunOf}
-use Rattle.plan_json.specs.Shape.{Raw}
 use Rattle.jm_command.specs.declared.refusal.Refusal.{Refusal}
-use Rattle.jm_command.specs.declared.refusal.Refusal.TheVariants.{TooLong, Shape, Build, NotBuilt, Unfit as Conditions}
 use Rattle.jm_command.specs.declared.judge.Judged.{Judged}
 use Rattle.jm_command.specs.declared.judge.Judged.TheVariants.{Fit, Unfit, NoMemory}
-use Rattle.jm_command.specs.Refusals.{RunsAlone, RunsWoven, RunsBeside, IsAccepted, IsRefused, not_built, not_built_beside, solo_fault, weave_fault, samples_fault, refusal_line}
+use Rattle.jm_command.specs.Refusals.{IsAccepted, IsRefused, refusal_line}
 use Rattle.jm_command.specs.Printed.{default_solo, shown_of, report_of, HasShown, TextsOf, MayPrint}
 
 -- what the two sinks hold, where it is told, and their counts of faults
@@ -221,33 +218,3 @@ CanRun (Make m) plan = HasThread default_solo plan
 CanRun (SoloCommand s) plan = HasThread s plan
 CanRun (Weave w) plan = HasSamples w plan
 CanRun (Run r) plan = ⊥
-
--- a plan of which all threads can be run, or why they can't
-abbrev pub JudgesRun : RunOf → Raw → Tree → Judged → Type 0
-JudgesRun r tree plan (Fit fit) = (fit ≡ plan) × RunsBeside tree plan r
-JudgesRun r tree plan (Unfit TooLong) = ⊥
-JudgesRun r tree plan (Unfit (Shape e)) = ⊥
-JudgesRun r tree plan (Unfit (Build e)) = ⊥
-JudgesRun r tree plan (Unfit (NotBuilt path)) = not_built_beside tree plan.elements ≡ Some path
-JudgesRun r tree plan (Unfit (Conditions e)) = (not_built_beside tree plan.elements ≡ None) × (samples_fault plan r.samples ≡ Some e)
-JudgesRun r tree plan NoMemory = Unit {0}
-
--- a plan of which all threads can be run by a schedule, or why they can't
-abbrev pub JudgesWeave : WeaveOf → Raw → Tree → Judged → Type 0
-JudgesWeave w tree plan (Fit fit) = (fit ≡ plan) × RunsWoven tree plan w
-JudgesWeave w tree plan (Unfit TooLong) = ⊥
-JudgesWeave w tree plan (Unfit (Shape e)) = ⊥
-JudgesWeave w tree plan (Unfit (Build e)) = ⊥
-JudgesWeave w tree plan (Unfit (NotBuilt path)) = not_built tree plan.elements ≡ Some path
-JudgesWeave w tree plan (Unfit (Conditions e)) = (not_built tree plan.elements ≡ None) × (weave_fault tree plan w ≡ Some e)
-JudgesWeave w tree plan NoMemory = Unit {0}
-
--- a plan of which one thread can be run, or why it can't
-abbrev pub JudgesSolo : Solo → Raw → Tree → Judged → Type 0
-JudgesSolo s tree plan (Fit fit) = (fit ≡ plan) × RunsAlone tree plan s
-JudgesSolo s tree plan (Unfit TooLong) = ⊥
-JudgesSolo s tree plan (Unfit (Shape e)) = ⊥
-JudgesSolo s tree plan (Unfit (Build e)) = ⊥
-JudgesSolo s tree plan (Unfit (NotBuilt path)) = not_built tree plan.elements ≡ Some path
-JudgesSolo s tree plan (Unfit (Conditions e)) = (not_built tree plan.elements ≡ None) × (solo_fault tree plan s ≡ Some e)
-JudgesSolo s tree plan NoMemory = Unit {0}

@@ -1,6 +1,6 @@
 -- Why a plan is refused, and the line that says so.
-use Rattle.std.specs.Prelude.{◌≡◌, ℕ, ◌+◌, ◌*◌, Bool, true, false, not, ◌||◌, nat_le, List, [], ◌∷◌, ◌++◌, length, slice_get, unwrap_or, position, Option, Some, None, Ok, Err, codes, if◌then◌else◌}
-use Rattle.std.specs.Option.{option_map, option_and_then}
+use Rattle.std.specs.Prelude.{◌≡◌, ℕ, ◌+◌, ◌*◌, nat_le, List, [], ◌∷◌, ◌++◌, length, slice_get, unwrap_or, position, Option, Some, None, Ok, Err, codes, if◌then◌else◌}
+use Rattle.std.specs.Option.{option_map}
 use Rattle.plan_json.specs.Place.{Place, at, path_text}
 use Rattle.plan_json.specs.Shape.{Raw, raw, Raws, no_raws, raw_then, reading_of}
 use Rattle.plan_json.specs.declared.error.TreeError.{TreeError}
@@ -11,22 +11,16 @@ use Rattle.element_props.specs.declared.error.What.{What}
 use Rattle.element_props.specs.declared.error.What.TheVariants as whats
 use Rattle.element_props.specs.Patterns.{Asked}
 use Rattle.element_props.specs.Reads.{over, Goes, Stops}
-use Rattle.element_tree.specs.declared.kinds.Element.{Element}
-use Rattle.element_tree.specs.declared.kinds.Kind.{Kind}
-use Rattle.element_tree.specs.declared.kinds.Kind.TheVariants as kinds
-use Rattle.element_tree.specs.declared.kinds.OnError.TheVariants as on_errors
 use Rattle.element_tree.specs.Tree.{Tree, threads_of, asks_a_server}
 use Rattle.element_tree.specs.Walk.{is_enabled, reading}
-use Rattle.jm_meaning.specs.Runs.{runs}
 use Rattle.command_words.specs.declared.command.Command.{Command}
 use Rattle.command_words.specs.declared.command.Command.TheVariants.{Check, Make, Solo, Weave, Run}
 use Rattle.command_words.specs.declared.command.Solo.{Solo as SoloOf}
 use Rattle.command_words.specs.declared.command.Weave.{Weave as WeaveOf}
-use Rattle.command_words.specs.declared.command.Run.{Run as RunOf}
 use Rattle.jm_command.specs.declared.refusal.Refusal.{Refusal}
 use Rattle.jm_command.specs.declared.refusal.Refusal.TheVariants as refusals
 
--- ---- what does not run yet
+-- ---- where elements stand
 
 -- the steps from the root to each enabled element that no disabled one is above, in tree order
 unfoldable mutual
@@ -39,33 +33,9 @@ unfoldable mutual
   places_below here place (raw_then r rs) =
       (if is_enabled r then places_of (here ++ place ∷ []) r else []) ++ places_below here (place + 1) rs
 
-abbrev pub does_not_run : Element → Bool
-does_not_run e = not (runs e.kind)
-
 -- where the element of this number stands in the tree
 abbrev pub place_at : Raw → ℕ → Place
 place_at tree n = at (unwrap_or (slice_get (places_of [] tree) n) [])
-
--- where the first element in tree order stands that does not run yet
-abbrev pub not_built : Raw → List Element → Option Place
-not_built tree elements = option_map (place_at tree) (position does_not_run elements)
-
--- a group that stops the whole test after a failed sample
-abbrev pub stops_test : Kind → Bool
-stops_test (kinds.ThreadGroup loops on_errors.StopTest ramp_ms threads) = true
-stops_test kind = false
-
--- the property that is not run beside other threads, of an element that runs
-abbrev pub unbuilt_prop : Element → Option (List ℕ)
-unbuilt_prop e = if runs e.kind then Some (codes "onError") else None
-
-abbrev pub is_unbuilt_beside : Element → Bool
-is_unbuilt_beside e = not (runs e.kind) || stops_test e.kind
-
--- where the first element in tree order stands that does not run yet, or the first group's action after a failed sample that does not run yet beside other threads
-abbrev pub not_built_beside : Raw → List Element → Option Place
-not_built_beside tree elements =
-    option_map (λ n. record (place_at tree n) { prop = option_and_then unbuilt_prop (slice_get elements n) }) (position is_unbuilt_beside elements)
 
 -- ---- what a command asks of a plan
 
@@ -104,27 +74,13 @@ solo_fault tree plan s = first_fault (replies_fault tree plan) (thread_fault pla
 abbrev pub weave_fault : Raw → Tree → WeaveOf → Option BuildError
 weave_fault tree plan w = first_fault (replies_fault tree plan) (samples_fault plan w.samples)
 
--- the plan can be run by the command: each element runs, and the command's own conditions hold
-pub record RunsAlone (tree : Raw) (plan : Tree) (s : SoloOf) : Type 0 where
-  pub built : not_built tree plan.elements ≡ None
-  pub conditions : solo_fault tree plan s ≡ None
-
--- all threads of the plan can be run by a schedule
-pub record RunsWoven (tree : Raw) (plan : Tree) (w : WeaveOf) : Type 0 where
-  pub built : not_built tree plan.elements ≡ None
-  pub conditions : weave_fault tree plan w ≡ None
-
--- all threads of the plan can be run beside one another
-pub record RunsBeside (tree : Raw) (plan : Tree) (r : RunOf) : Type 0 where
-  pub built : not_built_beside tree plan.elements ≡ None
-  pub conditions : samples_fault plan r.samples ≡ None
-
-abbrev pub IsFit : Command → Raw → Tree → Type 0
-IsFit Check tree plan = Unit {0}
-IsFit (Make m) tree plan = ⊥
-IsFit (Solo s) tree plan = RunsAlone tree plan s
-IsFit (Weave w) tree plan = RunsWoven tree plan w
-IsFit (Run r) tree plan = RunsBeside tree plan r
+-- the first of the command's own conditions that the plan does not meet, if there is one
+abbrev pub fault_for : Command → Raw → Tree → Option BuildError
+fault_for Check tree plan = None
+fault_for (Make m) tree plan = None
+fault_for (Solo s) tree plan = solo_fault tree plan s
+fault_for (Weave w) tree plan = weave_fault tree plan w
+fault_for (Run r) tree plan = samples_fault plan r.samples
 
 -- ---- acceptance and refusal
 
@@ -133,41 +89,25 @@ pub record IsPlanOf (bytes : List ℕ) (before after : Asked) (tree : Raw) (plan
   pub shape : reading_of bytes ≡ Ok tree
   pub built : Goes before (reading tree) (over plan) after
 
--- the plan is fit for the command
+-- the plan meets the command's own conditions
 pub record IsAccepted (command : Command) (bytes : List ℕ) (before after : Asked) (plan : Tree) : Type 0 where
   pub tree : Raw
   pub is_plan : IsPlanOf bytes before after tree plan
-  pub fit : IsFit command tree plan
+  pub fit : fault_for command tree plan ≡ None
 
--- what does not run yet
-abbrev pub IsNotBuilt : Command → List ℕ → Asked → Asked → Place → Type 0
-IsNotBuilt Check bytes before after path = ⊥
-IsNotBuilt (Make m) bytes before after path = ⊥
-IsNotBuilt (Run r) bytes before after path =
-    (tree : Raw) × (plan : Tree) × IsPlanOf bytes before after tree plan × (not_built_beside tree plan.elements ≡ Some path)
-IsNotBuilt (Solo s) bytes before after path =
-    (tree : Raw) × (plan : Tree) × IsPlanOf bytes before after tree plan × (not_built tree plan.elements ≡ Some path)
-IsNotBuilt (Weave w) bytes before after path =
-    (tree : Raw) × (plan : Tree) × IsPlanOf bytes before after tree plan × (not_built tree plan.elements ≡ Some path)
+-- it does not meet this one
+pub record IsUnfit (command : Command) (bytes : List ℕ) (before after : Asked) (e : BuildError) : Type 0 where
+  pub tree : Raw
+  pub plan : Tree
+  pub is_plan : IsPlanOf bytes before after tree plan
+  pub unfit : fault_for command tree plan ≡ Some e
 
--- a condition of the command does not hold
-abbrev pub IsUnfit : Command → List ℕ → Asked → Asked → BuildError → Type 0
-IsUnfit Check bytes before after e = ⊥
-IsUnfit (Make m) bytes before after e = ⊥
-IsUnfit (Run r) bytes before after e =
-    (tree : Raw) × (plan : Tree) × IsPlanOf bytes before after tree plan × (not_built_beside tree plan.elements ≡ None) × (samples_fault plan r.samples ≡ Some e)
-IsUnfit (Solo s) bytes before after e =
-    (tree : Raw) × (plan : Tree) × IsPlanOf bytes before after tree plan × (not_built tree plan.elements ≡ None) × (solo_fault tree plan s ≡ Some e)
-IsUnfit (Weave w) bytes before after e =
-    (tree : Raw) × (plan : Tree) × IsPlanOf bytes before after tree plan × (not_built tree plan.elements ≡ None) × (weave_fault tree plan w ≡ Some e)
-
--- Why the bytes of a plan are refused to a command. The tree's shape is judged first, then the tree is built, then comes
--- what does not run yet, and last the command's own conditions.
+-- Why the bytes of a plan are refused to a command. The tree's shape is judged first, then the tree is built, and last come
+-- the command's own conditions.
 abbrev pub IsRefused : Command → List ℕ → Asked → Asked → Refusal → Type 0
 IsRefused command bytes before after refusals.TooLong = ⊥
 IsRefused command bytes before after (refusals.Shape e) = (reading_of bytes ≡ Err e) × (after ≡ before)
 IsRefused command bytes before after (refusals.Build e) = (tree : Raw) × (reading_of bytes ≡ Ok tree) × Stops before (reading tree) e after
-IsRefused command bytes before after (refusals.NotBuilt path) = IsNotBuilt command bytes before after path
 IsRefused command bytes before after (refusals.Unfit e) = IsUnfit command bytes before after e
 
 -- ---- the line
@@ -197,7 +137,6 @@ abbrev pub title_of : Refusal → List ℕ
 title_of refusals.TooLong = codes "8 TooMany "
 title_of (refusals.Shape e) = tree_title e
 title_of (refusals.Build e) = build_title e
-title_of (refusals.NotBuilt path) = codes "15 NotBuilt "
 title_of (refusals.Unfit e) = build_title e
 
 abbrev pub tree_path : TreeError → Option Place
@@ -229,7 +168,6 @@ abbrev pub where_of : Refusal → List ℕ
 where_of refusals.TooLong = codes "/"
 where_of (refusals.Shape e) = where_text (tree_path e)
 where_of (refusals.Build e) = where_text (build_path e)
-where_of (refusals.NotBuilt path) = path_text path
 where_of (refusals.Unfit e) = where_text (build_path e)
 
 abbrev pub what_text : What → List ℕ
@@ -250,7 +188,6 @@ abbrev pub what_of : Refusal → List ℕ
 what_of refusals.TooLong = what_text whats.Bytes
 what_of (refusals.Shape e) = []
 what_of (refusals.Build e) = build_what e
-what_of (refusals.NotBuilt path) = []
 what_of (refusals.Unfit e) = build_what e
 
 -- `refused`, the number, the name, the path or `-`, and what there is too much of

@@ -1,5 +1,5 @@
 -- What a run with threads comes to.
-use Rattle.std.specs.Prelude.{◌≡◌, ◌⊎◌, ℕ, ◌-◌, Bool, true, List, ◌++◌, length, Option, Some, None, option_map}
+use Rattle.std.specs.Prelude.{◌≡◌, ◌⊎◌, ℕ, ◌-◌, Bool, true, List, ◌++◌, length, take, Option, Some, None, option_map}
 use Rattle.std.specs.Option.{option_map_or}
 use Rattle.std.specs.List.{list_all, range_with_len}
 use Rattle.std.specs.Io.KnownBytes.{Appends}
@@ -24,6 +24,7 @@ use Rattle.run_engine.specs.Followed.{AllFollow}
 use Rattle.run_engine.specs.Joins.{AllEnd}
 use Rattle.run_engine.specs.Keeps.{all_entries}
 use Rattle.run_engine.specs.Paired.{pairs_of}
+use Rattle.run_engine.specs.Stops.{StopHasCause}
 use Rattle.command_words.specs.declared.command.Command.{Command}
 use Rattle.command_words.specs.declared.command.Command.TheVariants.{Check, Make, Solo, Weave, Run}
 use Rattle.command_words.specs.declared.command.Run.{Run as RunOf}
@@ -64,9 +65,14 @@ pub record Around : Type 0 where
 abbrev pub around : Bool → List ℕ → (ℕ → Option (List Heard)) → Option Ticks → Around
 around tells opened told ticks = record { tells = tells; opened = opened; told = told; ticks = ticks }
 
+-- the reports before the last
+abbrev pub before_last : List Report → List Report
+before_last reports = take (length reports - 1) reports
+
 -- An outside was opened for each thread, and each thread has a trace that follows what its outside was told, where the world
 -- tells. Each sample of each trace counts in exactly one report, that of the interval which its result line shows; and in the
--- total, which all reports sum to.
+-- total, which all reports sum to. A thread was stopped only where another has ended the test, or a report before the last has
+-- more errors than the limit that was asked for.
 pub record IsHistory (r : RunOf) (plan : Tree) (around : Around) (traces : List (List TraceItem)) (reports : List Report) (total : Report) : Type 0 where
   pub opened : around.opened ≡ range_with_len 0 (length (threads_of plan))
   pub threads : length traces ≡ length (threads_of plan)
@@ -74,6 +80,7 @@ pub record IsHistory (r : RunOf) (plan : Tree) (around : Around) (traces : List 
   pub follows : around.tells ≡ true → AllFollow plan (run_options r) around.told traces
   pub parted : Partition (length (labels_of plan.elements)) (pairs_of traces) reports
   pub total_is : total.rows ≡ sum_of (length (labels_of plan.elements)) (all_entries (pairs_of traces))
+  pub stopped : StopHasCause r.limit traces (before_last reports)
 
 -- a thread was not cut short because memory ran out
 abbrev pub is_whole_trace : List TraceItem → Bool

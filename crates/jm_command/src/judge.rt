@@ -2,12 +2,12 @@
 
 ghost use Rattle.std.specs.Prelude.{◌≡◌, IfOk};
 ghost use Rattle.plan_json.specs.TreeSeen.{raw_view};
-ghost use Rattle.jm_command.specs.Parts.{Judges, JudgesSolo, JudgesWeave, JudgesRun};
-ghost use Rattle.jm_command.specs.Refusals.{ReadsPlan, replies_fault, thread_fault, solo_fault, weave_fault, samples_fault};
+ghost use Rattle.jm_command.specs.Parts.{Judges};
+ghost use Rattle.jm_command.specs.Refusals.{ReadsPlan, replies_fault, thread_fault, solo_fault, weave_fault, samples_fault, fault_for};
 
+use crate::places::places_at;
 use crate::refusal::Refusal;
-use crate::unbuilt::{not_built, not_built_beside, places_at};
-use command_words::{Command, Run, Solo, Weave};
+use command_words::{Command, Solo, Weave};
 use element_props::{BuildError, Patterns, What};
 use element_tree::{Plan, build};
 use jm_base::M;
@@ -26,7 +26,7 @@ pub enum Judged {
 }
 
 /// The plan that the bytes are, if it is fit for the command, or the first refusal: of the tree's shape, of its build,
-/// of what does not run yet, and of the command's own conditions.
+/// and of the command's own conditions.
 pub fn judge<G: Patterns>(
     alloc: Global,
     command: &Command,
@@ -46,59 +46,27 @@ pub fn judge<G: Patterns>(
         Err(BuildError::NoMemory) => return Judged::NoMemory,
         Err(error) => return Judged::Unfit(Refusal::Build(error)),
     };
+    match fault_for(alloc, command, &tree, &plan) {
+        Ok(None) => Judged::Fit(plan),
+        Ok(Some(error)) => Judged::Unfit(Refusal::Unfit(error)),
+        Err(_) => Judged::NoMemory,
+    }
+}
+
+// Which of the command's own conditions the plan does not meet first, if there is one.
+fn fault_for(
+    alloc: Global,
+    command: &Command,
+    tree: &RawElement,
+    plan: &Plan,
+) -> M<Option<BuildError>>
+    ensures { IfOk result (λ fault. fault ≡ fault_for command.now (raw_view tree.now) plan.now) }
+{
     match command {
-        Command::Check => Judged::Fit(plan),
-        Command::Make(_) => unreachable!(),
-        Command::Solo(solo) => fit_to_run(alloc, solo, &tree, plan),
-        Command::Weave(weave) => fit_to_weave(alloc, weave, &tree, plan),
-        Command::Run(run) => fit_to_run_beside(alloc, run, &tree, plan),
-    }
-}
-
-// The plan of a tree, if one thread of it can be run.
-fn fit_to_run(alloc: Global, solo: &Solo, tree: &RawElement, plan: Plan) -> Judged
-    ensures { JudgesSolo solo.now (raw_view tree.now) plan result }
-{
-    match not_built(alloc, tree, &plan) {
-        Ok(None) => {}
-        Ok(Some(path)) => return Judged::Unfit(Refusal::NotBuilt(path)),
-        Err(_) => return Judged::NoMemory,
-    }
-    match solo_fault(alloc, tree, &plan, solo) {
-        Ok(None) => Judged::Fit(plan),
-        Ok(Some(error)) => Judged::Unfit(Refusal::Unfit(error)),
-        Err(_) => Judged::NoMemory,
-    }
-}
-
-// The plan of a tree, if all of its threads can be run by a schedule.
-fn fit_to_weave(alloc: Global, weave: &Weave, tree: &RawElement, plan: Plan) -> Judged
-    ensures { JudgesWeave weave.now (raw_view tree.now) plan result }
-{
-    match not_built(alloc, tree, &plan) {
-        Ok(None) => {}
-        Ok(Some(path)) => return Judged::Unfit(Refusal::NotBuilt(path)),
-        Err(_) => return Judged::NoMemory,
-    }
-    match weave_fault(alloc, tree, &plan, weave) {
-        Ok(None) => Judged::Fit(plan),
-        Ok(Some(error)) => Judged::Unfit(Refusal::Unfit(error)),
-        Err(_) => Judged::NoMemory,
-    }
-}
-
-// The plan of a tree, if all of its threads can be run beside one another.
-fn fit_to_run_beside(alloc: Global, run: &Run, tree: &RawElement, plan: Plan) -> Judged
-    ensures { JudgesRun run.now (raw_view tree.now) plan result }
-{
-    match not_built_beside(alloc, tree, &plan) {
-        Ok(None) => {}
-        Ok(Some(path)) => return Judged::Unfit(Refusal::NotBuilt(path)),
-        Err(_) => return Judged::NoMemory,
-    }
-    match samples_fault(alloc, &plan, run.samples) {
-        None => Judged::Fit(plan),
-        Some(error) => Judged::Unfit(Refusal::Unfit(error)),
+        Command::Check | Command::Make(_) => Ok(None),
+        Command::Solo(solo) => solo_fault(alloc, tree, plan, solo),
+        Command::Weave(weave) => weave_fault(alloc, tree, plan, weave),
+        Command::Run(run) => Ok(samples_fault(alloc, plan, run.samples)),
     }
 }
 

@@ -3,6 +3,7 @@
 
 mod judge;
 mod line;
+mod places;
 mod plan;
 mod print;
 mod program;
@@ -10,7 +11,6 @@ mod refusal;
 mod report;
 mod running;
 mod status;
-mod unbuilt;
 mod weaving;
 mod words;
 

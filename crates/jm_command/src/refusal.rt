@@ -18,8 +18,6 @@ pub enum Refusal {
     Shape(TreeError),
     /// The tree is not a plan.
     Build(BuildError),
-    /// The element or the property at this path does not run yet.
-    NotBuilt(Path),
     /// A condition of the command does not hold.
     Unfit(BuildError),
 }
@@ -46,7 +44,6 @@ fn title_of(refusal: &Refusal) -> &'static [u8]
         Refusal::TooLong => b"8 TooMany ",
         Refusal::Shape(error) => tree_title(error),
         Refusal::Build(error) | Refusal::Unfit(error) => build_title(error),
-        Refusal::NotBuilt(_) => b"15 NotBuilt ",
     }
 }
 
@@ -87,7 +84,6 @@ fn where_of(alloc: Global, refusal: &Refusal) -> M<Text>
         Refusal::TooLong => Text::new(alloc, b"/"),
         Refusal::Shape(error) => where_text(alloc, tree_path(error)),
         Refusal::Build(error) | Refusal::Unfit(error) => where_text(alloc, build_path(error)),
-        Refusal::NotBuilt(path) => path.text(alloc),
     }
 }
 
@@ -132,7 +128,7 @@ fn what_of(refusal: &Refusal) -> &'static [u8]
     match refusal {
         Refusal::TooLong => what_text(What::Bytes),
         Refusal::Build(error) | Refusal::Unfit(error) => build_what(error),
-        Refusal::Shape(_) | Refusal::NotBuilt(_) => b"",
+        Refusal::Shape(_) => b"",
     }
 }
 

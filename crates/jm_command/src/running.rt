@@ -194,7 +194,7 @@ fn run_beside<
         props: &run.props,
         seed: run.seed,
         budget: run.samples,
-        limit: u64::MAX,
+        limit: run.limit,
     };
     match run_threads(rt, alloc, &ask, world, ticker, hook, reports) {
         Ok(books) => print_books(alloc, plan, &books, results, reports),

@@ -28,6 +28,7 @@ use Rattle.phaser_core.proofs.CellSteps.{place_in, place_cell, cell_in, column_l
 use Rattle.phaser_core.proofs.Steps.{enter_keeps, load_keeps, add_keeps, exit_keeps, look_stop_keeps, raise_keeps, split_keeps, load_knows, look_stop_knows, reader_is, labels_are, swap_keeps, clear_keeps, flip_keeps, look_keeps, take_keeps, raise_as_reporter_keeps, split_first_keeps, join_keeps, look_finds, swap_finds, clear_finds, stop_finds, take_sums, reports_sum, joined_bounds, joined_sums, others_gone, opens_keeps}
 use Rattle.phaser_core.proofs.Ends.{read_knows, partition_of, share_in}
 use Rattle.phaser_words.proofs.Counts.{writers_counted}
+use Rattle.phaser_words.proofs.Stopping.{stop_was_raised}
 use Rattle.phaser_words.specs.RecorderKinds.{holds_of, first_view, writing_of, reading_of, waited_for, parity_in, taken_in, moved, adds_of, exits_of, enters, loads, adds, exits, swaps, clears, flips, looks, takes, watches, raises, reporter_raises, recalls, reads, CanEnd, Recalled, lists_of}
 
 abbrev Sat : Type 0
@@ -247,7 +248,7 @@ pub recall_allowed : (n : Numbers) (m : Numbers) (slots id : ℕ) (me : Sat) →
 recall_allowed n m slots id me same is s k _ at _ =
     let r : ReporterView = reading_of me.0 in
     let at_r : get_elem? s.views id ≡ some (Reporter r) = subst (λ (u : View). get_elem? s.views id ≡ some u) is at in
-    let knows : Recalled n r = record { sums = reports_sum n s.words s.views k id r at_r; counts = writers_counted n s.words s.views k id r at_r; bounds = in_bounds n s.words s.views id r k at_r; stripes = joined_sums n s.words s.views k id r at_r; ends = parted n s.words s.views id r k at_r } in
+    let knows : Recalled n r = record { sums = reports_sum n s.words s.views k id r at_r; counts = writers_counted n s.words s.views k id r at_r; bounds = in_bounds n s.words s.views id r k at_r; stripes = joined_sums n s.words s.views k id r at_r; ends = parted n s.words s.views id r k at_r; stop = stop_was_raised n s.words s.views k r (front_of n s.words s.views id r k at_r) } in
     (me.0, keeps, tt, unmoved n s.words s.views 0 id me.0 k at, (refl, subst (λ (z : Numbers). Recalled z r) (sym same) knows))
 
 pub read_allowed : (n : Numbers) (slots id : ℕ) (me : Sat) (j p word : ℕ) → p ≡ j → me.0 ≡ Reporter (reading_of me.0) → (reading_of me.0).closing ≡ Idle → AllJoined (reading_of me.0) → j < table_cells n.labels

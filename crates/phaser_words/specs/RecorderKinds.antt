@@ -215,6 +215,10 @@ pub record CountsWriters (n : Numbers) (r : ReporterView) : Type 0 where
   pub made : made_known r.joined ≤ n.writers
   pub order : 0 < made_known r.joined → length r.joined ≤ made_known r.joined
 
+-- where a joined writer saw stop raised, the reporter or a joined writer raised it
+abbrev pub StopWasRaised : ReporterView → Type 0
+StopWasRaised r = 0 < saw_in (Reporter r) → 0 < raised_in (Reporter r)
+
 -- what the rule says of the reporter's own view; what joined writers recorded in an interval sums to rows in bounds, and their cells sum some entries, stripe by stripe
 pub record Recalled (n : Numbers) (r : ReporterView) : Type 0 where
   pub sums : SumsOfLists n r
@@ -222,6 +226,7 @@ pub record Recalled (n : Numbers) (r : ReporterView) : Type 0 where
   pub bounds : (m : ℕ) → IsInBounds (sum_of n.labels (entries_in m (lists_of r.joined)))
   pub stripes : (m : ℕ) → SumsOfStripes n.labels (table_cells n.labels) (λ j. joined_at n.labels m j r.joined)
   pub ends : r.closing ≡ Idle → AllJoined r → CanEnd r
+  pub stop : AllJoined r → StopWasRaised r
 
 abbrev pub recalls : Numbers → Step (Unit {0}) → Sat → ℕ → Sat → Type 0
 recalls n st m found m' = (m' ≡ m) × Recalled n (reading_of m.0)

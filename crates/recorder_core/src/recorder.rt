@@ -8,7 +8,7 @@ ghost use Rattle.phaser_core.specs.CoreMoves.{splitting, taking_in, marked, or, 
 ghost use Rattle.phaser_core.specs.declared.view.Stage.TheVariants.{Out};
 ghost use Rattle.phaser_core.specs.declared.view.ReporterStage.TheVariants.{Idle};
 ghost use Rattle.phaser_core.specs.declared.view.View.TheVariants.{Writer};
-ghost use Rattle.phaser_words.specs.RecorderKinds.{lists_of};
+ghost use Rattle.phaser_words.specs.RecorderKinds.{lists_of, StopWasRaised};
 ghost use Rattle.phaser_words.specs.WordSeats.{writing, reading, numbers, IsWriterOf, IsReporterOf};
 ghost use Rattle.recorder_core.specs.Stands.{Same, closed_as, open_count};
 ghost use Rattle.recorder_core.specs.RecorderSeats.{writes, reports, closes, is_settled, numbers_of, IsWriter, IsReporter, IsClosing, IsPoll, books_of, all_reports_of, EndsWith};
@@ -211,7 +211,8 @@ impl Recorder {
     }
 
     /// The books, once every writer was joined, and the report of the interval that was open, which is the last of the
-    /// reports and in bounds. Each entry that a writer recorded counts in exactly one of the reports.
+    /// reports and in bounds. Each entry that a writer recorded counts in exactly one of the reports. Where a writer saw stop
+    /// raised, the reporter or a writer raised it.
     pub fn finish(self, seat: ReporterSeat, into: &mut Report) -> Books
         requires seat { IsReporter self seat }
         requires joined { AllJoined (reports seat) }
@@ -221,6 +222,7 @@ impl Recorder {
         ensures parted { Partition (numbers_of self).labels (lists_of (books_of result).joined) (all_reports_of result) }
         ensures intervals { result.intervals ≡ (reports seat).interval + 1 }
         ensures count { result.intervals ≡ length (all_reports_of result) }
+        ensures stop { StopWasRaised (reports seat) }
         ensures writers { result.writers ≡ length (reports seat).joined }
         ensures interval { into.new.interval ≡ (reports seat).interval }
         ensures rows { length into.new.rows ≡ (numbers_of self).labels }
@@ -251,6 +253,7 @@ impl Recorder {
         ensures seat { IsReporterOf self.now.words words.new }
         ensures same { reading words.new ≡ reading words.old }
         ensures ends { EndsWith (numbers_of self.now) (reading words.old) into.new }
+        ensures stop { StopWasRaised (reading words.old) }
     {
         self.words.recall(words);
         read_report(&self.words, words, into);

@@ -9,7 +9,7 @@ use Rattle.phaser_core.specs.declared.view.ReporterView.{ReporterView}
 use Rattle.phaser_core.specs.CoreMoves.{or}
 use Rattle.recorder_core.specs.Stands.{closed_as}
 use Rattle.interval_reporter.specs.Judged.{errors_of}
-use Rattle.reporter_loop.specs.Reported.{raised_if, judged, any_over, AllInBounds, Reported}
+use Rattle.reporter_loop.specs.Reported.{raised_if, judged, any_over, AllInBounds, Reported, EndsUnjudged}
 use Rattle.reporter_loop.specs.ReportsWritten.{texts_of, AreNumbered, AppendsPrefix, WritesPrefix}
 use Rattle.reporter_loop.proofs.Numbers.{numbers_more}
 use Rattle.reporter_loop.proofs.Texts.{written_more, prefix_more}
@@ -111,3 +111,7 @@ reported_same text limit r s old new interval closed raised h = record {
   few = (let few = h.few in omega (arith, interval));
   raised = raised ∙ h.raised ∙ sym (ap (any_over limit) closed);
 }
+
+-- one report more, of which the hook was not asked
+pub unjudged_after : (text : Report → List ℕ) (limit : ℕ) (r s : ReporterView) (x : Report) (old new : Option (List ℕ)) → Reported text limit r old new → s ≡ closed_as r x → EndsUnjudged limit s
+unjudged_after text limit r s x old new h is = record { before = r.closed; last = x; closed_are = ap (λ (q : ReporterView). q.closed) is; raised = ap (λ (q : ReporterView). q.raised) is ∙ h.raised }

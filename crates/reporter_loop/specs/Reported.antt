@@ -1,5 +1,5 @@
 -- What the reporter has closed, written and raised.
-use Rattle.std.specs.Prelude.{◌≡◌, ℕ, ◌≤◌, Bool, true, false, nat_lt, List, [], ◌∷◌, length, Option}
+use Rattle.std.specs.Prelude.{◌≡◌, ℕ, ◌≤◌, Bool, true, false, nat_lt, List, [], ◌∷◌, ◌++◌, length, Option}
 use Rattle.std.specs.Io.KnownBytes.{Appends}
 use Rattle.interval_tables.specs.declared.report.Report.{Report}
 use Rattle.interval_tables.specs.Rows.{IsInBounds}
@@ -35,3 +35,11 @@ pub record Reported (text : Report → List ℕ) (limit : ℕ) (r : ReporterView
   pub count : length r.closed ≡ r.interval
   pub few : r.interval ≤ 16777216
   pub raised : r.raised ≡ any_over limit r.closed
+
+-- The last closed report was not written whole, and the hook was not asked of it: stop was raised exactly where one before it has
+-- more errors than the limit.
+pub record EndsUnjudged (limit : ℕ) (r : ReporterView) : Type 0 where
+  pub before : List Report
+  pub last : Report
+  pub closed_are : r.closed ≡ before ++ last ∷ []
+  pub raised : r.raised ≡ any_over limit before

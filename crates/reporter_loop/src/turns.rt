@@ -12,7 +12,8 @@ ghost use Rattle.phaser_core.specs.declared.view.ReporterView.{ReporterView};
 ghost use Rattle.recorder_core.specs.RecorderSeats.{reports, numbers_of, IsReporter};
 ghost use Rattle.interval_reporter.specs.Judged.{Keeps, errors_of};
 ghost use Rattle.reporter_loop.specs.Failing.{IsCause};
-ghost use Rattle.reporter_loop.specs.Reported.{Reported, judged, raised_if};
+ghost use Rattle.recorder_core.specs.Stands.{closed_as};
+ghost use Rattle.reporter_loop.specs.Reported.{Reported, EndsUnjudged, judged, raised_if};
 ghost use Rattle.reporter_loop.specs.Ticked.{HasTickedWhere};
 ghost use Rattle.reporter_loop.specs.ReportsWritten.{AppendsPrefix, WritesPrefix};
 
@@ -77,6 +78,7 @@ fn one_interval<R: Wait, K: Sink, F: Fn(&Report, u64) -> Verdict>(
     ensures next { (reports result.0).interval ≡ (reports seat).interval + 1 }
     ensures joined { (reports result.0).joined ≡ (reports seat).joined }
     ensures judged { OnOk result.1 (reports result.0 ≡ judged rules.now.limit (reports seat) report.new) }
+    ensures unjudged { OnErr result.1 (reports result.0 ≡ closed_as (reports seat) report.new) }
     ensures written { OnOk result.1 (Appends (K.written sink.old) (K.written sink.new) (report_text rules.now.plan.now report.new)) }
     ensures cut { OnErr result.1 (AppendsPrefix (K.written sink.old) (K.written sink.new) (report_text rules.now.plan.now report.new)) }
     ensures ok { OnOk result.1 (K.faults sink.new ≡ K.faults sink.old) }
@@ -117,6 +119,9 @@ fn one_turn<R: Wait, T: Ticker, K: Sink, F: Fn(&Report, u64) -> Verdict>(
     ensures prefix { OnErr result.1 ((old : Option (List ℕ))
         → Reported (report_text rules.now.plan.now) rules.now.limit (reports seat) old (K.written sink.old)
         → WritesPrefix (report_text rules.now.plan.now) old (K.written sink.new)) }
+    ensures unjudged { OnErr result.1 ((old : Option (List ℕ))
+        → Reported (report_text rules.now.plan.now) rules.now.limit (reports seat) old (K.written sink.old)
+        → EndsUnjudged rules.now.limit (reports result.0)) }
     ensures ok { OnOk result.1 (K.faults sink.new ≡ K.faults sink.old) }
     ensures cause { IfErr result.1 (IsCause (K.faults sink.old) (K.faults sink.new)) }
 {
@@ -128,8 +133,9 @@ fn one_turn<R: Wait, T: Ticker, K: Sink, F: Fn(&Report, u64) -> Verdict>(
 }
 
 /// Closes intervals as the ticker says, until all workers have ended, 16,777,216 intervals are closed, or a report was not
-/// written whole. The ticker is asked at least once. Each closed report is written at once, in `report` the last of them
-/// is left, and each that was written whole is judged. The seat is handed back in each case.
+/// written whole. The ticker is asked at least once. Each closed report is written at once, and in `report` the last of them
+/// is left. When a report was written whole the hook is asked of it, and where that answers `Stop`, stop is raised. The seat
+/// is handed back in each case.
 pub fn report_until<R: Wait, T: Ticker, K: Sink, F: Fn(&Report, u64) -> Verdict>(
     rt: &R,
     alloc: Global,
@@ -152,6 +158,7 @@ pub fn report_until<R: Wait, T: Ticker, K: Sink, F: Fn(&Report, u64) -> Verdict>
     ensures ticked { HasTickedWhere (reports result.0).interval (T.ticks ticker.old) (T.ticks ticker.new) }
     ensures reported { OnOk result.1 (Reported (report_text rules.now.plan.now) rules.now.limit (reports result.0) (K.written sink.old) (K.written sink.new)) }
     ensures prefix { OnErr result.1 (WritesPrefix (report_text rules.now.plan.now) (K.written sink.old) (K.written sink.new)) }
+    ensures unjudged { OnErr result.1 (EndsUnjudged rules.now.limit (reports result.0)) }
     ensures ok { OnOk result.1 (K.faults sink.new ≡ K.faults sink.old) }
     ensures cause { IfErr result.1 (IsCause (K.faults sink.old) (K.faults sink.new)) }
 {

@@ -12,7 +12,7 @@ use Rattle.recorder_core.specs.declared.places.Recorder.{Recorder}
 use Rattle.critical_section.specs.declared.places.Sections.{Sections}
 use Rattle.run_engine.specs.declared.job.Job.{Job}
 use Rattle.run_engine.specs.Followed.{EndsWith, FollowsWhere}
-use Rattle.run_engine.specs.JobsRan.{SameOutside, RunsToEnd, JobRan, AllRan, AllAmong}
+use Rattle.run_engine.specs.JobsRan.{SameOutside, HasEnded, RunsToEnd, JobRan, AllRan, AllAmong}
 use Rattle.run_engine.specs.Made.{IsFresh, AllFresh}
 use Rattle.run_engine.specs.Joins.{IsDone, AllDone}
 
@@ -20,22 +20,33 @@ module _ (start now : Account) (plan : Tree) (thread : ℕ) (options : Options) 
   ended : (end : End) → Follows start now plan thread options trace end → EndsWith trace end
   ended end f = record { before = f.last.0; last = f.last.1 }
 
-  ends_so : (end : End) → HasRun start now plan thread options trace end → EndsWith trace end
+  -- a thread that has run to its end has ended
+  pub has_ended : (end : End) → HasRun start now plan thread options trace end → HasEnded start now plan thread options trace end
+  has_ended Completed h = h
+  has_ended StopThread h = h
+  has_ended StopTest h = h
+  has_ended Stopped h = absurd h
+  has_ended SampleLimit h = h
+  has_ended RoundLimit h = h
+  has_ended ValueLimit h = h
+  has_ended NoMemory h = h
+
+  ends_so : (end : End) → HasEnded start now plan thread options trace end → EndsWith trace end
   ends_so Completed h = ended Completed h
   ends_so StopThread h = ended StopThread h
   ends_so StopTest h = ended StopTest h
-  ends_so Stopped h = absurd h
+  ends_so Stopped h = record { before = h.last.0; last = h.last.1 }
   ends_so SampleLimit h = ended SampleLimit h
   ends_so RoundLimit h = ended RoundLimit h
   ends_so ValueLimit h = ended ValueLimit h
   ends_so NoMemory h = record { before = h.0; last = h.1 }
 
   module _ (nothing : start.told ≡ Some []) (same : SameOutside start now) where
-    follows_so : (end : End) → HasRun start now plan thread options trace end → FollowsWhere plan thread options now.told trace
+    follows_so : (end : End) → HasEnded start now plan thread options trace end → FollowsWhere plan thread options now.told trace
     follows_so Completed h = let t = h.told nothing in (t.0, t.1, record { end = Completed; ends = ended Completed h; follows = t.2 })
     follows_so StopThread h = let t = h.told nothing in (t.0, t.1, record { end = StopThread; ends = ended StopThread h; follows = t.2 })
     follows_so StopTest h = let t = h.told nothing in (t.0, t.1, record { end = StopTest; ends = ended StopTest h; follows = t.2 })
-    follows_so Stopped h = absurd h
+    follows_so Stopped h = let t = h.told nothing in (t.0, t.1, record { end = Stopped; ends = record { before = h.last.0; last = h.last.1 }; follows = t.2 })
     follows_so SampleLimit h = let t = h.told nothing in (t.0, t.1, record { end = SampleLimit; ends = ended SampleLimit h; follows = t.2 })
     follows_so RoundLimit h = let t = h.told nothing in (t.0, t.1, record { end = RoundLimit; ends = ended RoundLimit h; follows = t.2 })
     follows_so ValueLimit h = let t = h.told nothing in (t.0, t.1, record { end = ValueLimit; ends = ended ValueLimit h; follows = t.2 })

@@ -8,3 +8,5 @@ pub mod Opening
 pub mod Seqs
 pub mod Traces
 pub mod Placing
+pub mod Stopping
+pub mod Writing

@@ -26,6 +26,7 @@ use Rattle.thread_machine.specs.Standing.{Standing, rest}
 use Rattle.thread_machine.specs.Stepped.{trace_paused, Begins, Gives, Steps, Ends, IsOver}
 use Rattle.thread_machine.proofs.Ends.{begun_on}
 use Rattle.thread_machine.proofs.Labels.{lock_within}
+use Rattle.run_engine.proofs.Traces.{stopped_as}
 use Rattle.run_engine.specs.SectionsRun.{section_in, entered_in, sections_of_all, RisesAfter, Rises, AllRise, AreNumbered, IsFirstSeat, HasTaken, KeepsSections, HeldAs}
 
 -- ---- the sections of a trace
@@ -241,6 +242,25 @@ module _ (s : Sections) (held : Option ℕ) (seat : SectionSeat) (a b : Account)
 
   pub rises_ended : (end : End) → Steps a b old new (Ended end) → Rises new.trace
   rises_ended end e = subst (RisesAfter []) (sym (sections_same a b old new (Ended end) e)) h.rises
+
+-- ---- the thread was stopped
+
+module _ (s : Sections) (held : Option ℕ) (seat : SectionSeat) (old new : Standing) (h : Holding s held seat old) (is : new ≡ stopped_as old) where
+  stopped_same : entered_in new.trace ≡ entered_in old.trace
+  stopped_same = ap (λ w. entered_in w.trace) is ∙ left_same old.trace old.section Stopped
+
+  pub keeps_stopped : (after : SectionSeat) → IsSeatOf s after → view_of after ≡ closed (view_of seat) → KeepsSections s after new
+  keeps_stopped after seat_of closes = record {
+    seat_of = seat_of;
+    none_open = ap (λ v. v.inside) closes;
+    own = ap (λ v. v.own) closes ∙ h.own ∙ sym stopped_same;
+    joined = ap (λ v. v.joined) closes ∙ h.joined;
+    one = ap (λ v. v.seats) closes ∙ h.one;
+    locks = locks_fit s old new (ap (λ w. w.plan) is) h.locks;
+  }
+
+  pub rises_stopped : Rises new.trace
+  rises_stopped = subst (RisesAfter []) (sym stopped_same) h.rises
 
 -- a seat without an open section is as it would be with it closed
 pub closed_none : (v : SeatView) → v.inside ≡ None → v ≡ closed v

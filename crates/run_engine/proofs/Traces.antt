@@ -1,5 +1,5 @@
 -- What a step of a worker leaves of its samples and of its outside.
-use Rattle.std.proofs.Common.{◌≡◌, ◌∙◌, ℕ, zero, suc, ◌+◌, ◌-◌, ◌<◌, ◌≤◌, Bool, false, List, [], ◌∷◌, ◌++◌, length, Option, None, Some, refl, sym, ap, subst, inl, inr, arith, append_assoc}
+use Rattle.std.proofs.Common.{◌≡◌, ◌∙◌, ℕ, zero, suc, ◌+◌, ◌-◌, ◌<◌, ◌≤◌, Bool, false, true, List, [], ◌∷◌, ◌++◌, length, Option, None, Some, refl, sym, ap, subst, inl, inr, arith, append_assoc}
 use Rattle.std.specs.Option.{option_map}
 use Rattle.std.proofs.lemmas.List.{append-nil}
 use Rattle.jm_base.specs.declared.types.Entry.{Entry}
@@ -123,10 +123,11 @@ module _ (a b : Account) (old new : Standing) where
   pub pairs_ended : (end : End) → Steps a b old new (Ended end) → pairs new.trace ≡ pairs old.trace
   pairs_ended end s = pairs_ends s.begun b (rest s.between) s.between new end s.gives ∙ pairs_begun a s.begun old s.between s.begins
 
-  -- the trace has its end, and no thread was stopped
+  -- the trace has its end
   pub ends_with : (end : End) → Steps a b old new (Ended end) → EndsWith new.trace end
   ends_with end s = ends_traced s.begun b (rest s.between) s.between new end s.gives
 
+  -- no step is that of a thread that is stopped
   pub not_stopped : (end : End) → Steps a b old new (Ended end) → is_stopped end ≡ false
   not_stopped Completed s = refl
   not_stopped StopThread s = refl
@@ -196,3 +197,15 @@ units_leave a b old new lock s =
 pub label_fits : (plan first : Tree) (label labels : ℕ) → plan ≡ first → label < length (labels_of plan.elements) → length (labels_of first.elements) ≤ labels → label < labels
 label_fits plan first label labels is low few =
     let here : label < length (labels_of first.elements) = subst (λ (p : Tree). label < length (labels_of p.elements)) is low in omega arith
+
+-- ---- a worker that was stopped
+
+abbrev pub stopped_as : Standing → Standing
+stopped_as w = record w { section = None; ended = true; trace = w.trace ++ (left_traced w.section ++ EndedItem Stopped ∷ []) }
+
+module _ (old new : Standing) (is : new ≡ stopped_as old) where
+  pub pairs_stopped : pairs new.trace ≡ pairs old.trace
+  pairs_stopped = ap (λ w. pairs w.trace) is ∙ pairs_left old.trace old.section Stopped
+
+  pub ends_stopped : EndsWith new.trace Stopped
+  ends_stopped = record { before = old.trace ++ left_traced old.section; last = ap (λ w. w.trace) is ∙ sym (append_assoc old.trace (left_traced old.section) (EndedItem Stopped ∷ [])) }

@@ -1,6 +1,7 @@
 -- A worker before its run, and after.
 use Rattle.std.specs.Prelude.{◌≡◌, ℕ, ◌+◌, ◌≤◌, ◌<◌, false, List, [], Some, None, length, slice_index_or}
 use Rattle.jm_base.specs.declared.types.End.{End}
+use Rattle.jm_base.specs.declared.types.End.TheVariants.{Completed, StopThread, StopTest, Stopped, SampleLimit, RoundLimit, ValueLimit, NoMemory}
 use Rattle.jm_base.specs.declared.types.Heard.{Heard}
 use Rattle.jm_base.specs.Outside.{Account}
 use Rattle.element_tree.specs.Tree.{Tree}
@@ -8,7 +9,7 @@ use Rattle.element_tree.specs.Names.{labels_of}
 use Rattle.jm_meaning.specs.Beginning.{Options}
 use Rattle.thread_machine.specs.declared.trace.TraceItem.{TraceItem}
 use Rattle.thread_machine.specs.Standing.{Stands}
-use Rattle.thread_machine.specs.Follows.{HasRun}
+use Rattle.thread_machine.specs.Follows.{HasRun, WasStopped}
 use Rattle.recorder_core.specs.declared.places.Recorder.{Recorder}
 use Rattle.recorder_core.specs.RecorderSeats.{writes, numbers_of, IsWriter}
 use Rattle.critical_section.specs.declared.places.Sections.{Sections}
@@ -22,9 +23,20 @@ pub record SameOutside (before after : Account) : Type 0 where
   pub origin : after.origin ≡ before.origin
   pub tells : (heard : List Heard) → before.told ≡ Some heard → (more : List Heard) × (after.told ≡ Some more)
 
--- the thread has run to some end
+-- the thread has run to this end, or was stopped
+abbrev pub HasEnded : Account → Account → Tree → ℕ → Options → List TraceItem → End → Type 0
+HasEnded start now plan thread options trace Completed = HasRun start now plan thread options trace Completed
+HasEnded start now plan thread options trace StopThread = HasRun start now plan thread options trace StopThread
+HasEnded start now plan thread options trace StopTest = HasRun start now plan thread options trace StopTest
+HasEnded start now plan thread options trace Stopped = WasStopped start now plan thread options trace
+HasEnded start now plan thread options trace SampleLimit = HasRun start now plan thread options trace SampleLimit
+HasEnded start now plan thread options trace RoundLimit = HasRun start now plan thread options trace RoundLimit
+HasEnded start now plan thread options trace ValueLimit = HasRun start now plan thread options trace ValueLimit
+HasEnded start now plan thread options trace NoMemory = HasRun start now plan thread options trace NoMemory
+
+-- the thread has come to some end
 abbrev pub RunsToEnd : Account → Account → Tree → ℕ → Options → List TraceItem → Type 0
-RunsToEnd start now plan thread options trace = (end : End) × HasRun start now plan thread options trace end
+RunsToEnd start now plan thread options trace = (end : End) × HasEnded start now plan thread options trace end
 
 -- it has done nothing, and its plan and its budget fit the recorder
 pub record CanRun {O : Type 0} (r : Recorder) (j : Job O) : Type 0 where

@@ -8,3 +8,4 @@ pub mod Marks
 pub mod Paired
 pub mod JobsRan
 pub mod Served
+pub mod Stops

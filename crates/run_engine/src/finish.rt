@@ -7,7 +7,7 @@ ghost use Rattle.interval_tables.specs.Rows.{sum_of, IsInBounds};
 ghost use Rattle.output_lines.specs.Reports.{report_text};
 ghost use Rattle.phaser_core.specs.Shares.{Partition};
 ghost use Rattle.phaser_core.specs.Views.{AllJoined};
-ghost use Rattle.phaser_words.specs.RecorderKinds.{lists_of};
+ghost use Rattle.phaser_words.specs.RecorderKinds.{lists_of, StopWasRaised};
 ghost use Rattle.recorder_core.specs.RecorderSeats.{reports, numbers_of, books_of, all_reports_of, IsReporter};
 ghost use Rattle.reporter_loop.specs.Failing.{IsCause};
 ghost use Rattle.reporter_loop.specs.Reported.{Reported};
@@ -48,6 +48,7 @@ pub fn finish_run<K: Sink>(
     requires none { total.rows ≡ sum_of (length (labels_of ask.now.plan.now.elements)) [] }
     ensures traces { IfOk result (λ b. b.traces ≡ traces.items) }
     ensures lists { IfOk result (λ b. books_of b.books ≡ reports seat) }
+    ensures stop { OnOk result (StopWasRaised (reports seat)) }
     ensures parted { IfOk result (λ b. Partition (length (labels_of ask.now.plan.now.elements)) (pairs_of b.traces) (all_reports_of b.books)) }
     ensures total { IfOk result (λ b. b.total.rows ≡ sum_of (length (labels_of ask.now.plan.now.elements)) (all_entries (pairs_of b.traces))) }
     ensures bounds { IfOk result (λ b. IsInBounds b.total.rows) }

@@ -23,6 +23,7 @@ ghost use Rattle.run_engine.specs.Marks.{AllMarked};
 ghost use Rattle.run_engine.specs.Paired.{pairs_of};
 ghost use Rattle.run_engine.specs.SectionsRun.{IsFirstSeat, AreNumbered, AllRise};
 ghost use Rattle.run_engine.specs.Served.{AreServed};
+ghost use Rattle.run_engine.specs.Stops.{StopHasCause};
 
 use crate::ask::RunAsk;
 use crate::beside::run_beside;
@@ -87,8 +88,10 @@ fn open_sections(alloc: Global, plan: &Plan, threads: u16) -> M<(Sections, Secti
 
 /// Runs all threads of a plan at the same time, each over an outside of the world, in a thread of its own where one can be
 /// started. Meanwhile the reporter asks the ticker, at least once in a run. At each true answer it closes an interval, writes
-/// its report to `reports` at once and asks the hook of it; where the hook answers `Stop`, it raises stop. After 16,777,216
-/// intervals the ticker is asked no more. When all threads have ended, they are joined and the last report is written.
+/// its report to `reports` at once and asks the hook of it; where the hook answers `Stop`, it raises stop. A thread that ends
+/// the test raises stop too. Each thread looks before each step whether stop is raised, and then ends with `End::Stopped`: its
+/// open section is left, and no transaction that is open gives its sample. After 16,777,216 intervals the ticker is asked no
+/// more. When all threads have ended, they are joined and the last report is written; the hook is not asked of that one.
 ///
 /// All seats of writers are made before the first thread starts. In each case no thread is left running, and each outside
 /// that was opened is closed.
@@ -151,6 +154,9 @@ pub fn run_threads<
     // The reporter raised stop exactly where some report before the last has more errors than the limit: never at 2^64 - 1.
     ensures raised { IfOk result (λ b. (books_of b.books).raised ≡ any_over ask.now.limit (books_of b.books).closed) }
     ensures unlimited { IfOk result (λ b. ask.now.limit ≡ 2 ^ 64 - 1 → (books_of b.books).raised ≡ false) }
+
+    // A thread was stopped only where another has ended the test, or such a report has more errors than the limit.
+    ensures stopped { IfOk result (λ b. StopHasCause ask.now.limit b.traces (books_of b.books).closed) }
 {
     let (threads, labels) = (ask.plan.threads(), ask.plan.labels());
     let Ok(room) = Room::new(alloc, labels, threads) else {

@@ -13,7 +13,7 @@ ghost use Rattle.recorder_core.specs.RecorderSeats.{writes, numbers_of, IsWriter
 ghost use Rattle.run_engine.specs.Keeps.{KeepsTo};
 ghost use Rattle.run_engine.specs.Paired.{pairs};
 ghost use Rattle.run_engine.specs.Followed.{EndsWith};
-ghost use Rattle.run_engine.specs.Marks.{SameMarks, is_stopped};
+ghost use Rattle.run_engine.specs.Marks.{SameWriter, is_stopped};
 ghost use Rattle.run_engine.specs.JobsRan.{SameOutside, RunsToEnd};
 ghost use Rattle.run_engine.specs.SectionsRun.{entered_in, Rises, KeepsSections, HeldAs};
 
@@ -24,9 +24,11 @@ use std::sync::Wait;
 use std::sync::ledger::{Blank, Ledger};
 use thread_machine::{Step, Worker};
 
-/// Runs a worker to its end, and gives that end. Each sample is recorded, and the interval in which it counts is noted in the
-/// trace. Each section is entered, where it waits until no other thread has one of its lock open, and left, out of memory
-/// too.
+/// Runs a worker to its end, and gives that end. Before each step it looks whether stop is raised, and then stops the worker.
+/// Each sample is recorded, and the interval in which it counts is noted in the trace. Each section is entered, where it waits
+/// until no other thread has one of its lock open, and left, where the worker is stopped and out of memory too.
+///
+/// The writer saw stop exactly where the end is `End::Stopped`.
 pub fn run_samples<R: Wait, O: Outside, L: Ledger>(
     rt: &R,
     recorder: &Recorder,
@@ -46,6 +48,7 @@ pub fn run_samples<R: Wait, O: Outside, L: Ledger>(
     requires rises { Rises worker.old.trace }
     requires few { length (entered_in worker.old.trace) + worker.old.units ≤ 4194304 }
     requires going { worker.old.ended ≡ false }
+    requires unseen { (writes seat.old).saw ≡ false }
     requires none { (writes seat.old).list ≡ [] }
     requires listed { (writes seat.old).list ≡ pairs worker.old.trace }
     requires labels { length (labels_of worker.old.plan.elements) ≤ (numbers_of recorder.now).labels }
@@ -54,18 +57,23 @@ pub fn run_samples<R: Wait, O: Outside, L: Ledger>(
     ensures listed { (writes seat.new).list ≡ pairs worker.new.trace }
     ensures entered { KeepsSections sections.now section.new worker.new }
     ensures rises { Rises worker.new.trace }
-    ensures marks { SameMarks (writes seat.old) (writes seat.new) }
+    ensures same { SameWriter (writes seat.old) (writes seat.new) }
+    ensures saw { (writes seat.new).saw ≡ is_stopped result }
     ensures keeps { KeepsTo (numbers_of recorder.now).labels (numbers_of recorder.now).budget (writes seat.new).list }
     ensures plan { (worker.new.plan ≡ worker.old.plan) × (worker.new.thread ≡ worker.old.thread) }
     ensures outside { SameOutside (O.account out.old) (O.account out.new) }
     ensures ended { EndsWith worker.new.trace result }
-    ensures not_stopped { is_stopped result ≡ false }
     ensures runs { (start : Account) (options : Options) → Stands start (O.account out.old) options worker.old
         → RunsToEnd start (O.account out.new) worker.old.plan worker.old.thread options worker.new.trace }
 {
     let mut steps = Steps::<L>::new(blank);
     let mut held = None;
     'steps: loop {
+        if recorder.stop_seen(seat) {
+            worker.stop();
+            leave_open(sections, section, held);
+            return End::Stopped;
+        }
         match worker.step(out) {
             Step::Ended(end) => {
                 leave_open(sections, section, held);
@@ -89,7 +97,7 @@ pub fn run_samples<R: Wait, O: Outside, L: Ledger>(
     }
 }
 
-// Leaves the section that is still open, as where a step found no memory.
+// Leaves the section that is still open, as where the worker was stopped or a step found no memory.
 fn leave_open(sections: &Sections, seat: &mut SectionSeat, held: Option<u16>)
     requires seat { IsSeatOf sections.now seat.old }
     requires held { HeldAs held (view_of seat.old) }

@@ -1,7 +1,7 @@
-use Rattle.std.proofs.Common.{length, ap, ◌∙◌, refl, inl, rules}
+use Rattle.std.proofs.Common.{length, ap, ◌∙◌}
 use Rattle.interval_tables.proofs.Sums.{length-sum_of}
 use Rattle.recorder_core.specs.RecorderSeats.{books_of, last_report, all_reports_of}
-use Rattle.jm_command.proofs.StartLaws.{labelled_all, ticked_reports, books_say}
+use Rattle.jm_command.proofs.StartLaws.{labelled_all, ticked_reports, stopped_before, books_say}
 use Rattle.jm_command.proofs.running.run_beside.Goals as goal
 
 pub print_books-requires-clause-threads : goal.print_books-requires-clause-threads
@@ -23,6 +23,7 @@ returns-in-Ok-clause-prints g c =
       follows = c.in-Ok.ensures.follows;
       parted = c.in-Ok.ensures.parted;
       total_is = c.in-Ok.ensures.total;
+      stopped = stopped_before c.args.run.now.limit c.in-Ok.books.traces (books_of c.in-Ok.books.books).closed (last_report (books_of c.in-Ok.books.books)) c.in-Ok.ensures.stopped;
     })
     (ticked_reports (books_of c.in-Ok.books.books).closed (last_report (books_of c.in-Ok.books.books)) _ _ _ _ _ c.in-Ok.ensures.count c.every.ensures c.in-Ok.ensures.ticked)
     _ _ _ _ _ _ _ _ _ _ c.in-Ok.ensures.written c.in-Ok.ensures.ok c.print_books.result c.print_books.ensures

@@ -9,6 +9,10 @@ pub returns-in-Err-clause-prefix : goal.returns-in-Err-clause-prefix
 returns-in-Err-clause-prefix g c =
     at_err c.one_turn-next.result.1 c.in-Err.error c.in-Err.is c.one_turn-next.ensures.prefix (g.K.Sink.written c.args.sink.now) c.loop.invariant.reported
 
+pub returns-in-Err-clause-unjudged : goal.returns-in-Err-clause-unjudged
+returns-in-Err-clause-unjudged g c =
+    at_err c.one_turn-next.result.1 c.in-Err.error c.in-Err.is c.one_turn-next.ensures.unjudged (g.K.Sink.written c.args.sink.now) c.loop.invariant.reported
+
 pub returns-then-interval-eq-MOST_INTERVALS-clause-reported : goal.returns-then-interval-eq-MOST_INTERVALS-clause-reported
 returns-then-interval-eq-MOST_INTERVALS-clause-reported g c =
     at_ok c.one_turn-next.result.1 c.in_default.not-Err c.one_turn-next.ensures.reported (g.K.Sink.written c.args.sink.now) c.loop.invariant.reported

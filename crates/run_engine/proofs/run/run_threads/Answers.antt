@@ -1,7 +1,8 @@
-use Rattle.std.proofs.Common.{◌∙◌, ℕ, Bool, ap, sym, subst, length}
+use Rattle.std.proofs.Common.{◌≡◌, ◌∙◌, ℕ, Bool, ap, sym, subst, length}
 use Rattle.output_lines.specs.Reports.{report_text}
 use Rattle.phaser_core.specs.declared.view.ReporterView.{ReporterView}
 use Rattle.recorder_core.specs.RecorderSeats.{reports}
+use Rattle.reporter_loop.specs.Reported.{any_over}
 use Rattle.reporter_loop.proofs.Judging.{reported_same, quiet}
 use Rattle.reporter_loop.proofs.Outcomes.{if_ok_then, if_ok_and, err_then, on_ok}
 use Rattle.run_engine.specs.Asked.{options_of}
@@ -14,6 +15,7 @@ use Rattle.run_engine.proofs.Opening.{none_served}
 use Rattle.element_tree.specs.Names.{locks_of}
 use Rattle.run_engine.specs.SectionsRun.{AreNumbered, AllRise}
 use Rattle.run_engine.proofs.Placing.{all_seats, numbered_all}
+use Rattle.run_engine.proofs.Stopping.{stopped_books}
 use Rattle.run_engine.proofs.Finishing.{all_among}
 use Rattle.run_engine.proofs.run.run_threads.Goals as goal
 
@@ -91,3 +93,11 @@ returns-in-Ok-outcome-clause-unlimited g c =
     let r = reports c.run_beside-jobs.result.1 in let only = c.join_all.ensures.only in
     if_ok_then c.finish_run.result c.finish_run.ensures.lists (λ b is most.
     ap (λ (q : ReporterView). q.raised) is ∙ only.raised ∙ h.raised ∙ quiet limit r.closed most h.bounds)
+
+pub returns-in-Ok-outcome-clause-stopped : goal.returns-in-Ok-outcome-clause-stopped
+returns-in-Ok-outcome-clause-stopped g c =
+    let limit = c.args.ask.now.limit in
+    let h = on_ok c.run_beside-jobs.result.2 c.in-Ok-outcome.is c.run_beside-jobs.ensures.reported in
+    let s = reports c.join_all.new.seat in let only = c.join_all.ensures.only in
+    let raised : s.raised ≡ any_over limit s.closed = only.raised ∙ h.raised ∙ ap (any_over limit) (sym only.closed) in
+    stopped_books limit s c.join_all.new.traces.items c.join_all.ensures.marks raised c.finish_run.result c.finish_run.ensures.traces c.finish_run.ensures.lists c.finish_run.ensures.stop

@@ -1,18 +1,20 @@
-use Rattle.std.proofs.Common.{◌≡◌, ◌∙◌, refl, ◌+◌, ◌++◌, ◌∷◌, [], length, ◌≤◌, sym, ap, subst, arith, length-append}
+use Rattle.std.proofs.Common.{◌≡◌, ◌∙◌, refl, ◌+◌, length, ◌≤◌, sym, ap, subst, arith}
+use Rattle.jm_base.specs.declared.types.End.TheVariants.{Stopped}
 use Rattle.thread_machine.specs.declared.step.Step.TheVariants.{Sampled, Null}
 use Rattle.thread_machine.proofs.Ends.{begun_on, noted_on, noted_is, entered_is}
 use Rattle.thread_machine.proofs.PlaceLaws.{fewer_sampled, fewer_null, fewer_enters, fewer_leaves}
-use Rattle.run_engine.proofs.Placing.{holding_first, holding_same, sections_noted, sections_same, lock_low, none_inside, few_own, holding_entered, known_so, open_so, holding_left, keeps_ended, rises_ended}
-use Rattle.run_engine.proofs.Bounding.{in_range_snoc, small_snoc}
-use Rattle.run_engine.proofs.Traces.{same_outside, same_then, pairs_entered, pairs_leave, units_entered, units_leave, same_steps, pairs_noted, pairs_null, pairs_ended, ends_with, not_stopped, label_low, label_fits, units_left, units_null}
-use Rattle.phaser_core.specs.Shares.{AllInRange}
-use Rattle.phaser_core.specs.Invariant.{AllSmall}
 use Rattle.recorder_core.specs.RecorderSeats.{writes, numbers_of}
+use Rattle.run_engine.specs.Keeps.{KeepsTo}
+use Rattle.run_engine.proofs.Finishing.{has_ended}
+use Rattle.run_engine.proofs.Placing.{holding_first, holding_same, sections_noted, sections_same, lock_low, none_inside, few_own, holding_entered, known_so, open_so, holding_left, keeps_ended, rises_ended, keeps_stopped, rises_stopped}
+use Rattle.run_engine.proofs.Traces.{same_outside, same_then, pairs_entered, pairs_leave, units_entered, units_leave, same_steps, pairs_noted, pairs_null, pairs_ended, ends_with, not_stopped, label_low, label_fits, units_left, units_null, pairs_stopped, ends_stopped}
+use Rattle.run_engine.proofs.Writing.{looked, seen, same_marked, writing_same, writing_more, writing_first, keeps_to}
 use Rattle.run_engine.proofs.samples.run_samples.Goals as goal
 
 pub steps-preserved-in-Sampled : goal.steps-preserved-in-Sampled
 steps-preserved-in-Sampled g c =
     let i = c.steps.invariant in
+    let h = looked c.args.recorder.now _ c.steps.seat c.stop_seen.new.seat c.steps.worker c.stop_seen.result i.writing c.stop_seen.ensures.seat c.stop_seen.ensures.mark c.if-stop_seen.false in
     let s = c.in-Sampled.ensures.steps in
     let begun = begun_on _ _ _ s.between s.begins in
     let given = s.gives in
@@ -21,25 +23,19 @@ steps-preserved-in-Sampled g c =
     let is = noted_is k c.step.new.self c.noted.new.self given.sample (ap (λ w. w.owed) given.new_is) c.noted.ensures.item in
     let on = noted_on k c.step.new.self c.noted.new.self given.sample is in
     let r = c.record_entry-interval.ensures in
-    let list : (writes c.record_entry-interval.new.seat).list ≡ (writes c.steps.seat).list ++ (k, entry) ∷ [] = ap (λ w. w.list) r.list in
-    let more : length (writes c.record_entry-interval.new.seat).list ≡ length (writes c.steps.seat).list + 1 = ap length list ∙ length-append (writes c.steps.seat).list ((k, entry) ∷ []) in
     let used : c.step.new.self.units + 1 ≡ c.steps.worker.units = units_left _ _ _ _ entry s in
     let kept : c.noted.new.self.units ≡ c.step.new.self.units = ap (λ w. w.units) is in
-    let room : length (writes c.steps.seat).list + c.steps.worker.units ≤ (numbers_of c.args.recorder.now).budget = i.room in
+    let label = label_fits c.steps.worker.plan c.args.worker.now.plan entry.label (numbers_of c.args.recorder.now).labels i.plan (label_low _ _ _ _ entry s) c.requires.labels in
     record {
-      seat = r.seat;
+      writing = writing_more c.args.recorder.now _ c.stop_seen.new.seat c.record_entry-interval.new.seat c.steps.worker c.noted.new.self k entry h r.seat r.list (pairs_noted _ _ _ c.step.new.self entry s c.noted.new.self k is)
+          (omega (arith, used, kept)) label r.elapsed r.bytes;
       owed = on.owed;
       entering = on.entering ∙ ap (λ w. w.entering) given.new_is ∙ begun.entering ∙ i.entering;
       holding = holding_same c.args.sections.now c.steps.held c.steps.section c.steps.worker c.noted.new.self i.holding (on.section ∙ ap (λ w. w.section) given.new_is ∙ begun.section)
           (sections_noted c.step.new.self c.noted.new.self given.sample k is ∙ sections_same _ _ _ _ (Sampled entry) s) (on.plan ∙ ap (λ w. w.plan) given.new_is ∙ begun.plan) (omega (arith, used, kept));
       going = on.ended ∙ ap (λ w. w.ended) given.new_is ∙ begun.ended ∙ i.going;
-      listed = ap (λ w. w.list) r.list ∙ ap (λ l. l ++ (k, entry) ∷ []) i.listed ∙ sym (pairs_noted _ _ _ c.step.new.self entry s c.noted.new.self k is);
-      marks = (ap (λ w. w.number) r.list ∙ i.marks.0, ap (λ w. w.made) r.list ∙ i.marks.1, ap (λ w. w.raised) r.list ∙ i.marks.2, ap (λ w. w.saw) r.list ∙ i.marks.3);
       plan = on.plan ∙ ap (λ w. w.plan) given.new_is ∙ begun.plan ∙ i.plan;
       thread = on.thread ∙ ap (λ w. w.thread) given.new_is ∙ begun.thread ∙ i.thread;
-      room = omega arith;
-      in_range = subst (AllInRange (numbers_of c.args.recorder.now).labels) (sym list) (in_range_snoc (numbers_of c.args.recorder.now).labels (writes c.steps.seat).list (k, entry) i.in_range (label_fits c.steps.worker.plan c.args.worker.now.plan entry.label (numbers_of c.args.recorder.now).labels i.plan (label_low _ _ _ _ entry s) c.requires.labels));
-      small = subst AllSmall (sym list) (small_snoc (writes c.steps.seat).list (k, entry) i.small r.elapsed r.bytes);
       outside = same_then _ _ _ i.outside (same_steps _ _ _ _ _ s);
       stands = λ start options stands. c.noted.ensures.stands start _ options (c.in-Sampled.ensures.stands start options (i.stands start options stands));
     }
@@ -47,43 +43,33 @@ steps-preserved-in-Sampled g c =
 pub steps-preserved-in-Null : goal.steps-preserved-in-Null
 steps-preserved-in-Null g c =
     let i = c.steps.invariant in
+    let h = looked c.args.recorder.now _ c.steps.seat c.stop_seen.new.seat c.steps.worker c.stop_seen.result i.writing c.stop_seen.ensures.seat c.stop_seen.ensures.mark c.if-stop_seen.false in
     let s = c.in-Null.ensures.steps in
     let begun = begun_on _ _ _ s.between s.begins in
     let given = s.gives in
     let less : c.step.new.self.units ≤ c.steps.worker.units = units_null _ _ _ _ s in
-    let room : length (writes c.steps.seat).list + c.steps.worker.units ≤ (numbers_of c.args.recorder.now).budget = i.room in
     record {
-      seat = i.seat;
+      writing = writing_same c.args.recorder.now _ c.stop_seen.new.seat c.steps.worker c.step.new.self h (pairs_null _ _ _ c.step.new.self s) less;
       owed = ap (λ w. w.owed) given.new_is ∙ begun.owed ∙ i.owed;
       entering = ap (λ w. w.entering) given.new_is ∙ begun.entering ∙ i.entering;
       holding = holding_same c.args.sections.now c.steps.held c.steps.section c.steps.worker c.step.new.self i.holding (ap (λ w. w.section) given.new_is ∙ begun.section)
           (sections_same _ _ _ _ Null s) (ap (λ w. w.plan) given.new_is ∙ begun.plan) less;
       going = ap (λ w. w.ended) given.new_is ∙ begun.ended ∙ i.going;
-      listed = i.listed ∙ sym (pairs_null _ _ _ c.step.new.self s);
-      marks = i.marks;
       plan = ap (λ w. w.plan) given.new_is ∙ begun.plan ∙ i.plan;
       thread = ap (λ w. w.thread) given.new_is ∙ begun.thread ∙ i.thread;
-      room = omega arith;
-      in_range = i.in_range;
-      small = i.small;
       outside = same_then _ _ _ i.outside (same_steps _ _ _ _ _ s);
       stands = λ start options stands. c.in-Null.ensures.stands start options (i.stands start options stands);
     }
 
 pub steps-init : goal.steps-init
 steps-init g c = record {
-  seat = c.requires.seat;
+  writing = writing_first c.args.recorder.now c.args.seat.now c.args.worker.now c.requires.seat c.requires.none c.requires.listed c.requires.unseen c.requires.budget;
   owed = c.requires.owed;
   entering = c.requires.entering;
   holding = holding_first c.args.sections.now c.args.section.now c.args.worker.now c.requires.entered c.requires.closed c.requires.rises c.requires.few;
   going = c.requires.going;
-  listed = c.requires.listed;
-  marks = (refl, refl, refl, refl);
   plan = refl;
   thread = refl;
-  room = (let none = ap length c.requires.none in let budget = c.requires.budget in omega (arith, none, budget));
-  in_range = subst (AllInRange (numbers_of c.args.recorder.now).labels) (sym c.requires.none) tt;
-  small = subst AllSmall (sym c.requires.none) tt;
   outside = same_outside _;
   stands = λ start options stands. stands;
 }
@@ -100,6 +86,7 @@ enter-place-requires-clause-few g c = few_own c.args.sections.now c.steps.held c
 pub steps-preserved-in-Enter : goal.steps-preserved-in-Enter
 steps-preserved-in-Enter g c =
     let i = c.steps.invariant in
+    let h = looked c.args.recorder.now _ c.steps.seat c.stop_seen.new.seat c.steps.worker c.stop_seen.result i.writing c.stop_seen.ensures.seat c.stop_seen.ensures.mark c.if-stop_seen.false in
     let s = c.in-Enter.ensures.steps in
     let lock = c.in-Enter.lock in
     let place = c.enter-place.result in
@@ -108,20 +95,14 @@ steps-preserved-in-Enter g c =
     let is = entered_is place c.step.new.self c.entered.new.self lock (ap (λ w. w.entering) given.new_is) c.entered.ensures.item in
     let less : c.step.new.self.units ≤ c.steps.worker.units = units_entered _ _ _ _ lock s in
     let kept : c.entered.new.self.units ≡ c.step.new.self.units = ap (λ w. w.units) is in
-    let room : length (writes c.steps.seat).list + c.steps.worker.units ≤ (numbers_of c.args.recorder.now).budget = i.room in
     record {
-      seat = i.seat;
+      writing = writing_same c.args.recorder.now _ c.stop_seen.new.seat c.steps.worker c.entered.new.self h (pairs_entered _ _ _ c.step.new.self lock place s c.entered.new.self is) (omega (arith, less, kept));
       owed = ap (λ w. w.owed) is ∙ ap (λ w. w.owed) given.new_is ∙ begun.owed ∙ i.owed;
       entering = ap (λ w. w.entering) is;
       holding = holding_entered c.args.sections.now c.steps.held c.steps.section _ _ c.steps.worker c.step.new.self i.holding lock s place c.enter-place.new.seat c.entered.new.self is c.enter-place.ensures.seat c.enter-place.ensures.entered;
       going = ap (λ w. w.ended) is ∙ ap (λ w. w.ended) given.new_is ∙ begun.ended ∙ i.going;
-      listed = i.listed ∙ sym (pairs_entered _ _ _ c.step.new.self lock place s c.entered.new.self is);
-      marks = i.marks;
       plan = ap (λ w. w.plan) is ∙ ap (λ w. w.plan) given.new_is ∙ begun.plan ∙ i.plan;
       thread = ap (λ w. w.thread) is ∙ ap (λ w. w.thread) given.new_is ∙ begun.thread ∙ i.thread;
-      room = omega (arith, less, kept, room);
-      in_range = i.in_range;
-      small = i.small;
       outside = same_then _ _ _ i.outside (same_steps _ _ _ _ _ s);
       stands = λ start options stands. c.entered.ensures.stands start _ options (c.in-Enter.ensures.stands start options (i.stands start options stands));
     }
@@ -135,25 +116,20 @@ leave-requires-clause-open g c = open_so c.args.sections.now c.steps.held c.step
 pub steps-preserved : goal.steps-preserved
 steps-preserved g c =
     let i = c.steps.invariant in
+    let h = looked c.args.recorder.now _ c.steps.seat c.stop_seen.new.seat c.steps.worker c.stop_seen.result i.writing c.stop_seen.ensures.seat c.stop_seen.ensures.mark c.if-stop_seen.false in
     let s = c.in-Leave.ensures.steps in
     let lock = c.in-Leave.lock in
     let begun = begun_on _ _ _ s.between s.begins in
     let given = s.gives in
     let less : c.step.new.self.units ≤ c.steps.worker.units = units_leave _ _ _ _ lock s in
-    let room : length (writes c.steps.seat).list + c.steps.worker.units ≤ (numbers_of c.args.recorder.now).budget = i.room in
     record {
-      seat = i.seat;
+      writing = writing_same c.args.recorder.now _ c.stop_seen.new.seat c.steps.worker c.step.new.self h (pairs_leave _ _ _ c.step.new.self lock s) less;
       owed = ap (λ w. w.owed) given.new_is ∙ begun.owed ∙ i.owed;
       entering = ap (λ w. w.entering) given.new_is ∙ begun.entering ∙ i.entering;
       holding = holding_left c.args.sections.now c.steps.held c.steps.section _ _ c.steps.worker c.step.new.self i.holding lock s c.leave.new.seat c.leave.ensures.seat c.leave.ensures.closed;
       going = ap (λ w. w.ended) given.new_is ∙ begun.ended ∙ i.going;
-      listed = i.listed ∙ sym (pairs_leave _ _ _ c.step.new.self lock s);
-      marks = i.marks;
       plan = ap (λ w. w.plan) given.new_is ∙ begun.plan ∙ i.plan;
       thread = ap (λ w. w.thread) given.new_is ∙ begun.thread ∙ i.thread;
-      room = omega (arith, less, room);
-      in_range = i.in_range;
-      small = i.small;
       outside = same_then _ _ _ i.outside (same_steps _ _ _ _ _ s);
       stands = λ start options stands. c.in-Leave.ensures.stands start options (i.stands start options stands);
     }
@@ -176,11 +152,24 @@ steps-smaller-in-Enter g c =
 pub steps-smaller : goal.steps-smaller
 steps-smaller g c = fewer_leaves _ _ _ c.step.new.self c.in-Leave.lock c.in-Leave.ensures.steps
 
-pub leave_open-requires-clause-held : goal.leave_open-requires-clause-held
-leave_open-requires-clause-held g c = c.steps.invariant.holding.open_
+pub record_entry-interval-requires-clause-room : goal.record_entry-interval-requires-clause-room
+record_entry-interval-requires-clause-room g c =
+    let h = looked c.args.recorder.now _ c.steps.seat c.stop_seen.new.seat c.steps.worker c.stop_seen.result c.steps.invariant.writing c.stop_seen.ensures.seat c.stop_seen.ensures.mark c.if-stop_seen.false in
+    let used : c.step.new.self.units + 1 ≡ c.steps.worker.units = units_left _ _ _ _ c.in-Sampled.entry c.in-Sampled.ensures.steps in
+    let room = h.room in omega (arith, used, room)
 
-pub leave_open-requires-clause-lock : goal.leave_open-requires-clause-lock
-leave_open-requires-clause-lock g c = c.steps.invariant.holding.known
+pub record_entry-interval-requires-clause-label : goal.record_entry-interval-requires-clause-label
+record_entry-interval-requires-clause-label g c =
+    label_fits c.steps.worker.plan c.args.worker.now.plan c.in-Sampled.entry.label (numbers_of c.args.recorder.now).labels c.steps.invariant.plan
+    (label_low _ _ _ _ c.in-Sampled.entry c.in-Sampled.ensures.steps) c.requires.labels
+
+-- ---- the worker has ended
+
+pub leave_open-in-Ended-requires-clause-held : goal.leave_open-in-Ended-requires-clause-held
+leave_open-in-Ended-requires-clause-held g c = c.steps.invariant.holding.open_
+
+pub leave_open-in-Ended-requires-clause-lock : goal.leave_open-in-Ended-requires-clause-lock
+leave_open-in-Ended-requires-clause-lock g c = c.steps.invariant.holding.known
 
 pub returns-in-Ended-clause-rises : goal.returns-in-Ended-clause-rises
 returns-in-Ended-clause-rises g c =
@@ -189,29 +178,75 @@ returns-in-Ended-clause-rises g c =
 pub returns-in-Ended-clause-entered : goal.returns-in-Ended-clause-entered
 returns-in-Ended-clause-entered g c =
     keeps_ended c.args.sections.now c.steps.held c.steps.section _ _ c.steps.worker c.step.new.self c.steps.invariant.holding c.in-Ended.end c.in-Ended.ensures.steps
-    c.leave_open.new.seat c.leave_open.ensures.seat c.leave_open.ensures.closed
-
-pub record_entry-interval-requires-clause-room : goal.record_entry-interval-requires-clause-room
-record_entry-interval-requires-clause-room g c =
-    let i = c.steps.invariant in
-    let used : c.step.new.self.units + 1 ≡ c.steps.worker.units = units_left _ _ _ _ c.in-Sampled.entry c.in-Sampled.ensures.steps in
-    let room : length (writes c.steps.seat).list + c.steps.worker.units ≤ (numbers_of c.args.recorder.now).budget = i.room in omega arith
-
-pub record_entry-interval-requires-clause-label : goal.record_entry-interval-requires-clause-label
-record_entry-interval-requires-clause-label g c =
-    label_fits c.steps.worker.plan c.args.worker.now.plan c.in-Sampled.entry.label (numbers_of c.args.recorder.now).labels c.steps.invariant.plan
-    (label_low _ _ _ _ c.in-Sampled.entry c.in-Sampled.ensures.steps) c.requires.labels
+    c.leave_open-in-Ended.new.seat c.leave_open-in-Ended.ensures.seat c.leave_open-in-Ended.ensures.closed
 
 pub returns-in-Ended-clause-listed : goal.returns-in-Ended-clause-listed
-returns-in-Ended-clause-listed g c = c.steps.invariant.listed ∙ sym (pairs_ended _ _ _ c.step.new.self c.in-Ended.end c.in-Ended.ensures.steps)
+returns-in-Ended-clause-listed g c =
+    let h = looked c.args.recorder.now _ c.steps.seat c.stop_seen.new.seat c.steps.worker c.stop_seen.result c.steps.invariant.writing c.stop_seen.ensures.seat c.stop_seen.ensures.mark c.if-stop_seen.false in
+    h.listed ∙ sym (pairs_ended _ _ _ c.step.new.self c.in-Ended.end c.in-Ended.ensures.steps)
+
+pub returns-in-Ended-clause-same : goal.returns-in-Ended-clause-same
+returns-in-Ended-clause-same g c =
+    let h = looked c.args.recorder.now _ c.steps.seat c.stop_seen.new.seat c.steps.worker c.stop_seen.result c.steps.invariant.writing c.stop_seen.ensures.seat c.stop_seen.ensures.mark c.if-stop_seen.false in
+    h.same
+
+pub returns-in-Ended-clause-saw : goal.returns-in-Ended-clause-saw
+returns-in-Ended-clause-saw g c =
+    let h = looked c.args.recorder.now _ c.steps.seat c.stop_seen.new.seat c.steps.worker c.stop_seen.result c.steps.invariant.writing c.stop_seen.ensures.seat c.stop_seen.ensures.mark c.if-stop_seen.false in
+    h.unseen ∙ sym (not_stopped _ _ _ c.step.new.self c.in-Ended.end c.in-Ended.ensures.steps)
+
+pub returns-in-Ended-clause-keeps : goal.returns-in-Ended-clause-keeps
+returns-in-Ended-clause-keeps g c =
+    let h = looked c.args.recorder.now _ c.steps.seat c.stop_seen.new.seat c.steps.worker c.stop_seen.result c.steps.invariant.writing c.stop_seen.ensures.seat c.stop_seen.ensures.mark c.if-stop_seen.false in
+    keeps_to c.args.recorder.now _ c.stop_seen.new.seat c.steps.worker h
 
 pub returns-in-Ended-clause-runs : goal.returns-in-Ended-clause-runs
 returns-in-Ended-clause-runs g c = λ start options stands.
-    let i = c.steps.invariant in
-    (c.in-Ended.end, rw (← i.plan, ← i.thread) (c.in-Ended.ensures.stands start options (i.stands start options stands)))
+    let i = c.steps.invariant in (
+      c.in-Ended.end,
+      has_ended start _ c.args.worker.now.plan c.args.worker.now.thread options c.step.new.self.trace c.in-Ended.end (rw (← i.plan, ← i.thread) (c.in-Ended.ensures.stands start options (i.stands start options stands))),
+    )
 
 pub returns-in-Ended-clause-ended : goal.returns-in-Ended-clause-ended
 returns-in-Ended-clause-ended g c = ends_with _ _ _ c.step.new.self c.in-Ended.end c.in-Ended.ensures.steps
 
-pub returns-in-Ended-clause-not_stopped : goal.returns-in-Ended-clause-not_stopped
-returns-in-Ended-clause-not_stopped g c = not_stopped _ _ _ c.step.new.self c.in-Ended.end c.in-Ended.ensures.steps
+-- ---- it was stopped
+
+pub leave_open-requires-clause-held : goal.leave_open-requires-clause-held
+leave_open-requires-clause-held g c = c.steps.invariant.holding.open_
+
+pub leave_open-requires-clause-lock : goal.leave_open-requires-clause-lock
+leave_open-requires-clause-lock g c = c.steps.invariant.holding.known
+
+pub returns-then-stop_seen-clause-listed : goal.returns-then-stop_seen-clause-listed
+returns-then-stop_seen-clause-listed g c =
+    ap (λ w. w.list) c.stop_seen.ensures.mark ∙ c.steps.invariant.writing.listed ∙ sym (pairs_stopped c.steps.worker c.stop.new.self c.stop.ensures.stopped)
+
+pub returns-then-stop_seen-clause-entered : goal.returns-then-stop_seen-clause-entered
+returns-then-stop_seen-clause-entered g c =
+    keeps_stopped c.args.sections.now c.steps.held c.steps.section c.steps.worker c.stop.new.self c.steps.invariant.holding c.stop.ensures.stopped
+    c.leave_open.new.seat c.leave_open.ensures.seat c.leave_open.ensures.closed
+
+pub returns-then-stop_seen-clause-rises : goal.returns-then-stop_seen-clause-rises
+returns-then-stop_seen-clause-rises g c =
+    rises_stopped c.args.sections.now c.steps.held c.steps.section c.steps.worker c.stop.new.self c.steps.invariant.holding c.stop.ensures.stopped
+
+pub returns-then-stop_seen-clause-same : goal.returns-then-stop_seen-clause-same
+returns-then-stop_seen-clause-same g c = same_marked _ _ _ _ c.stop_seen.ensures.mark c.steps.invariant.writing.same
+
+pub returns-then-stop_seen-clause-saw : goal.returns-then-stop_seen-clause-saw
+returns-then-stop_seen-clause-saw g c = seen _ _ _ c.stop_seen.ensures.mark c.if-stop_seen.true
+
+pub returns-then-stop_seen-clause-keeps : goal.returns-then-stop_seen-clause-keeps
+returns-then-stop_seen-clause-keeps g c =
+    let list : (writes c.stop_seen.new.seat).list ≡ (writes c.steps.seat).list = ap (λ w. w.list) c.stop_seen.ensures.mark in
+    subst (KeepsTo (numbers_of c.args.recorder.now).labels (numbers_of c.args.recorder.now).budget) (sym list)
+    (keeps_to c.args.recorder.now _ c.steps.seat c.steps.worker c.steps.invariant.writing)
+
+pub returns-then-stop_seen-clause-ended : goal.returns-then-stop_seen-clause-ended
+returns-then-stop_seen-clause-ended g c = ends_stopped c.steps.worker c.stop.new.self c.stop.ensures.stopped
+
+pub returns-then-stop_seen-clause-runs : goal.returns-then-stop_seen-clause-runs
+returns-then-stop_seen-clause-runs g c = λ start options stands.
+    let i = c.steps.invariant in
+    (Stopped, rw (← i.plan, ← i.thread) (c.stop.ensures.follows start _ options (i.stands start options stands)))

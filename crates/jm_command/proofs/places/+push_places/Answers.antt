@@ -1,7 +1,7 @@
 use Rattle.std.proofs.Common.{◌++◌, ◌∷◌, [], List, ℕ, ap, ◌∙◌, refl, rules, arith}
 use Rattle.plan_json.proofs.ShapeLaws.{popped}
-use Rattle.jm_command.proofs.UnbuiltLaws.{first_place, skipped, added, all_placed}
-use Rattle.jm_command.proofs.unbuilt.+push_places.Goals as goal
+use Rattle.jm_command.proofs.PlaceLaws.{first_place, skipped, added, all_placed}
+use Rattle.jm_command.proofs.places.+push_places.Goals as goal
 
 pub below-init : goal.below-init
 below-init t c = record {

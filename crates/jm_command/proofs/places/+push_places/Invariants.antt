@@ -1,7 +1,7 @@
 use Rattle.std.proofs.Common.{◌≡◌, ◌++◌, drop, map}
 use Rattle.plan_json.specs.TreeSeen.{raw_view, raws_of}
 use Rattle.jm_command.specs.Refusals.{places_of, places_below}
-use Rattle.jm_command.proofs.unbuilt.+push_places.Given as goal
+use Rattle.jm_command.proofs.places.+push_places.Given as goal
 
 abbrev pub decreases-push_places : goal.decreases-push_places
 decreases-push_places l = goal.size-push_places l
