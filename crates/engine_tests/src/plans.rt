@@ -21,6 +21,10 @@ pub const TWO_THREADS: &[u8] =
 pub const SECTION: &[u8] =
     b"{\"type\":\"TestPlan\",\"children\":[{\"type\":\"ThreadGroup\",\"name\":\"TG\",\"props\":{\"loops\":10,\"threads\":8},\"children\":[{\"type\":\"CriticalSection\",\"props\":{\"lock\":\"l\"},\"children\":[{\"type\":\"Script\",\"name\":\"A\",\"props\":{\"replies\":[{\"ms\":5}]}}]}]}]}";
 
+/// The same with 64 threads, each of which enters the section twenty times.
+pub const CROWDED_SECTION: &[u8] =
+    b"{\"type\":\"TestPlan\",\"children\":[{\"type\":\"ThreadGroup\",\"name\":\"TG\",\"props\":{\"loops\":20,\"threads\":64},\"children\":[{\"type\":\"CriticalSection\",\"props\":{\"lock\":\"l\"},\"children\":[{\"type\":\"Script\",\"name\":\"A\",\"props\":{\"replies\":[{\"ms\":5}]}}]}]}]}";
+
 // A plan of that many threads, each of which makes 100 samples of 5 milliseconds: the text before and after the number.
 const BEFORE: &[u8] =
     b"{\"type\":\"TestPlan\",\"children\":[{\"type\":\"ThreadGroup\",\"name\":\"TG\",\"props\":{\"loops\":100,\"threads\":";
