@@ -21,6 +21,10 @@ pub const TWO_THREADS: &[u8] =
 pub const SECTION: &[u8] =
     b"{\"type\":\"TestPlan\",\"children\":[{\"type\":\"ThreadGroup\",\"name\":\"TG\",\"props\":{\"loops\":10,\"threads\":8},\"children\":[{\"type\":\"CriticalSection\",\"props\":{\"lock\":\"l\"},\"children\":[{\"type\":\"Script\",\"name\":\"A\",\"props\":{\"replies\":[{\"ms\":5}]}}]}]}]}";
 
+/// The same with 64 threads, each of which enters the section twenty times.
+pub const CROWDED_SECTION: &[u8] =
+    b"{\"type\":\"TestPlan\",\"children\":[{\"type\":\"ThreadGroup\",\"name\":\"TG\",\"props\":{\"loops\":20,\"threads\":64},\"children\":[{\"type\":\"CriticalSection\",\"props\":{\"lock\":\"l\"},\"children\":[{\"type\":\"Script\",\"name\":\"A\",\"props\":{\"replies\":[{\"ms\":5}]}}]}]}]}";
+
 /// One thread that makes failing samples for ever.
 pub const FAILING: &[u8] =
     b"{\"type\":\"TestPlan\",\"children\":[{\"type\":\"ThreadGroup\",\"name\":\"TG\",\"props\":{\"loops\":-1},\"children\":[{\"type\":\"Script\",\"name\":\"A\",\"props\":{\"replies\":[{\"code\":500}]}}]}]}";

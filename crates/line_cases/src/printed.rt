@@ -100,14 +100,14 @@ pub fn result_case(alloc: Global, plan: &Plan, given: &str) -> anyhow::Result<St
     Ok(text)
 }
 
-// The same line fourteen times in one text, as lines are printed.
-fn fourteen_lines(alloc: Global, plan: &Plan, line: &Line, name: &Text) -> M<Vec<u8>>
+// The same line 64 times in one text, as lines are printed.
+fn many_lines(alloc: Global, plan: &Plan, line: &Line, name: &Text) -> M<Vec<u8>>
     requires thread { line.now.thread < length (threads_of plan.now) }
     requires label { line.now.sample.label < length (labels_of plan.now.elements) }
     requires name { name.now ≡ thread_name_of plan.now line.now.thread }
 {
     let mut lines = ResultLines::new(alloc);
-    for _ in 0..14 {
+    for _ in 0..64 {
         lines.add(plan, line.thread, name, &line.sample, line.interval)?;
     }
     let mut text = Vec::new(alloc);
@@ -115,7 +115,7 @@ fn fourteen_lines(alloc: Global, plan: &Plan, line: &Line, name: &Text) -> M<Vec
     Ok(text)
 }
 
-// How many bytes that many texts of fourteen lines have together.
+// How many bytes that many texts of 64 lines have together.
 fn write_often(alloc: Global, plan: &Plan, line: &Line, texts: u32) -> M<u64>
     requires thread { line.now.thread < length (threads_of plan.now) }
     requires label { line.now.sample.label < length (labels_of plan.now.elements) }
@@ -123,18 +123,18 @@ fn write_often(alloc: Global, plan: &Plan, line: &Line, texts: u32) -> M<u64>
     let name = plan.thread_name(alloc, line.thread)?;
     let mut bytes = 0u64;
     for _ in 0..texts {
-        let text = fourteen_lines(alloc, plan, line, &name)?;
+        let text = many_lines(alloc, plan, line, &name)?;
         bytes = bytes.wrapping_add(text.len() as u64);
     }
     Ok(bytes)
 }
 
-/// The same line that many times, as far as that is whole texts of fourteen lines, so that a script can time it: how many bytes
+/// The same line that many times, as far as that is whole texts of 64 lines, so that a script can time it: how many bytes
 /// they have together.
 pub fn times_case(alloc: Global, plan: &Plan, given: &str) -> anyhow::Result<String> {
     let (count, rest) = parted(given, ' ');
     let line = line_in(alloc, plan, rest)?;
-    let bytes = write_often(alloc, plan, &line, whole(count) / 14)?;
+    let bytes = write_often(alloc, plan, &line, whole(count) / 64)?;
     Ok(format!(in alloc; "= {bytes} bytes\n")?)
 }
 

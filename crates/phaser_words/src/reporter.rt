@@ -94,8 +94,7 @@ impl Words {
 
     /// Looks once at the end word of the phase that ended: `Settled` where it shows what the reporter waits for, or `NotYet`
     /// with what this look found, which is less, and what the word is to show. What was found stays in the seat's view
-    /// until the next look or until the interval is closed. Where it settled and there are no labels, the interval is closed
-    /// with a report without rows.
+    /// until the next look. Where it settled and there are no labels, the interval is closed with a report without rows.
     pub fn look(&self, seat: &mut ReporterWordSeat) -> Applied
         requires seat { IsReporterOf self.now seat.old }
         requires waiting { IsWaiting (reading seat.old).closing }

@@ -1,6 +1,6 @@
 // Result lines.
 
-ghost use Rattle.std.specs.Prelude.{◌≡◌, ◌<◌, ◌++◌, All, length, Some, is_some, option_map, true, IfOk, OnOk, IsErrOf};
+ghost use Rattle.std.specs.Prelude.{◌≡◌, ◌<◌, ◌≤◌, ◌++◌, All, length, Some, is_some, option_map, true, IfOk, OnOk, IsErrOf};
 ghost use Rattle.element_tree.specs.Tree.{threads_of, thread_name_of};
 ghost use Rattle.element_tree.specs.Names.{labels_of};
 ghost use Rattle.output_lines.specs.Lines.{header_text};
@@ -18,8 +18,13 @@ use output_lines::{ResultLines, header_line};
 use std::alloc::Global;
 use thread_machine::TraceItem;
 
-// How many items are printed together: a result line has less than 3 KiB, so that these and what is held back have less than 64.
-const AT_ONCE: usize = 14;
+// How many bytes the lines have at most that are formed in one text, where one line alone has no more: with what is held
+// back on the way to the sink these are less than 64 KiB.
+const TEXT_ROOM: usize = 16_384;
+
+// How many bytes a line has at most beside its label, its message, its failure and the thread's name: five numbers of up to
+// 20 digits, `false`, nine commas, the quotes around eight fields and the end of the line.
+const LINE_ROOM: usize = 160;
 
 /// Prints the header and a line for each sample of a thread's trace, in its order, with the interval in which the sample
 /// was counted. Where memory runs out a prefix of this is out; where the sink fails, too.
@@ -141,10 +146,44 @@ fn put_trace<K: Sink>(
     let Ok(name) = plan.thread_name(alloc, thread) else {
         return Err(PrintError::NoMemory);
     };
-    for items in trace.chunks(AT_ONCE) {
+    for items in trace.chunks(at_once(plan, &name, trace)) {
         put_items(alloc, pending, sink, plan, thread, &name, items)?;
     }
     Ok(())
+}
+
+// How many items of a trace are printed together: as many as have room where each has the longest line of all.
+fn at_once(plan: &Plan, name: &Text, trace: &[TraceItem]) -> usize
+    requires labels { All (IsLabelled (length (labels_of plan.now.elements))) trace.now }
+    ensures { 1 ≤ result }
+{
+    let mut longest: usize = 0;
+    for item in trace {
+        longest = longest.max(texts_length(plan, item));
+    }
+    // each quote in a text is written twice
+    let texts = longest.saturating_add(name.bytes().len()).saturating_mul(2);
+    (TEXT_ROOM / texts.saturating_add(LINE_ROOM)).max(1)
+}
+
+// How many bytes the label, the message and the failure of an item have, if it is a sample.
+fn texts_length(plan: &Plan, item: &TraceItem) -> usize
+    requires label { IsLabelled (length (labels_of plan.now.elements)) item.now }
+{
+    match item {
+        TraceItem::Sampled { sample, .. } => {
+            let label = plan.label_text(sample.label).bytes().len();
+            let message = sample.message.bytes().len();
+            label
+                .saturating_add(message)
+                .saturating_add(sample.failure.bytes().len())
+        }
+        TraceItem::Paused(_)
+        | TraceItem::Null { .. }
+        | TraceItem::Entered { .. }
+        | TraceItem::Left { .. }
+        | TraceItem::Ended(_) => 0,
+    }
 }
 
 // Puts the line of each sample of a few items of a trace.

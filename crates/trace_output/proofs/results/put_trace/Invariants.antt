@@ -1,4 +1,4 @@
-use Rattle.std.proofs.Common.{◌≡◌, ℕ, List, ◌++◌, length}
+use Rattle.std.proofs.Common.{◌≡◌, ◌≤◌, ℕ, List, ◌++◌, length}
 use Rattle.std.specs.Prelude.{All}
 use Rattle.std.specs.Slice.Iter.{chunks_rest, chunks_size}
 use Rattle.element_tree.specs.Names.{labels_of}
@@ -12,7 +12,7 @@ abbrev pub invariant-loop-items : goal.invariant-loop-items
 invariant-loop-items g l =
     (goal.iterator-loop-items g).can_next l.items-iterator
     × (goal.iterator-loop-items g).is_finite l.items-iterator
-    × (chunks_size l.items-iterator ≡ 14)
+    × (1 ≤ chunks_size l.items-iterator)
     × All (IsLabelled (length (labels_of l.plan.elements))) (chunks_rest l.items-iterator)
     × ((done : List ℕ) × IsPut done
     (way (g.K.Sink.written l.fn.sink) (g.K.Sink.faults l.fn.sink) l.fn.pending)
