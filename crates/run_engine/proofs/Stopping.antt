@@ -25,6 +25,7 @@ last_of before [] = before
 last_of before (item ∷ items) = last_of (Some item) items
 
 last_is : (before : Option TraceItem) (items : List TraceItem) (item : TraceItem) → last_of before (items ++ item ∷ []) ≡ Some item
+unfolding last_of
 last_is before [] item = refl
 last_is before (x ∷ items) item = last_is (Some x) items item
 
@@ -38,6 +39,7 @@ is_stopped_item (Some (Left lock)) = false
 is_stopped_item (Some (Ended end)) = is_stopped end
 
 ends_by : (trace : List TraceItem) (end : End) → EndsWith trace end → is_stopped_item (last_of None trace) ≡ is_stopped end
+unfolding is_stopped_item
 ends_by trace end e = ap (λ t. is_stopped_item (last_of None t)) e.last ∙ ap is_stopped_item (last_is None e.before (Ended end))
 
 -- the writer of a stopped thread saw stop
@@ -69,11 +71,10 @@ some_saw (j ∷ js) (trace ∷ traces) marked s = elim s [
 some_raised : (js : List Joined) (traces : List (List TraceItem)) → AllMarked js traces → 0 < total (λ (j : Joined). one_if j.raised) js → SomeEnds StopTest traces
 some_raised [] traces marked some = absurd (omega (arith, some))
 some_raised (j ∷ js) [] marked some = absurd marked
-some_raised (j ∷ js) (trace ∷ traces) marked some = by_mark j.raised refl where
-  by_mark : (b : Bool) → j.raised ≡ b → SomeEnds StopTest (trace ∷ traces)
-  by_mark true is = inl (test_ended trace marked.0.end marked.0.ends (sym marked.0.raised_is ∙ is))
-  by_mark false is =
-      inr (some_raised js traces marked.1 (let none : one_if j.raised ≡ 0 = ap one_if is in omega (arith, some, none)))
+some_raised (j ∷ js) (trace ∷ traces) marked some = by_mark j.raised refl (some_raised js traces marked.1) where
+  by_mark : (b : Bool) → j.raised ≡ b → (0 < total (λ (j : Joined). one_if j.raised) js → SomeEnds StopTest traces) → SomeEnds StopTest (trace ∷ traces)
+  by_mark true is later = inl (test_ended trace marked.0.end marked.0.ends (sym marked.0.raised_is ∙ is))
+  by_mark false is later = inr (later (let none : one_if j.raised ≡ 0 = ap one_if is in omega (arith, some, none)))
 
 -- a stopped thread's writer saw stop, so somebody raised it: a thread that ended the test, or the reporter
 pub stopped_for : (limit : ℕ) (r : ReporterView) (traces : List (List TraceItem)) → AllMarked r.joined traces → StopWasRaised r → r.raised ≡ any_over limit r.closed → StopHasCause limit traces r.closed

@@ -165,11 +165,11 @@ record_entry-interval-requires-clause-label g c =
 
 -- ---- the worker has ended
 
-pub leave_open-in-Ended-requires-clause-held : goal.leave_open-in-Ended-requires-clause-held
-leave_open-in-Ended-requires-clause-held g c = c.steps.invariant.holding.open_
+pub leave_open-requires-in-Ended-clause-held : goal.leave_open-requires-in-Ended-clause-held
+leave_open-requires-in-Ended-clause-held g c = c.steps.invariant.holding.open_
 
-pub leave_open-in-Ended-requires-clause-lock : goal.leave_open-in-Ended-requires-clause-lock
-leave_open-in-Ended-requires-clause-lock g c = c.steps.invariant.holding.known
+pub leave_open-requires-in-Ended-clause-lock : goal.leave_open-requires-in-Ended-clause-lock
+leave_open-requires-in-Ended-clause-lock g c = c.steps.invariant.holding.known
 
 pub returns-in-Ended-clause-rises : goal.returns-in-Ended-clause-rises
 returns-in-Ended-clause-rises g c =
@@ -232,7 +232,7 @@ returns-then-stop_seen-clause-rises g c =
     rises_stopped c.args.sections.now c.steps.held c.steps.section c.steps.worker c.stop.new.self c.steps.invariant.holding c.stop.ensures.stopped
 
 pub returns-then-stop_seen-clause-same : goal.returns-then-stop_seen-clause-same
-returns-then-stop_seen-clause-same g c = same_marked _ _ _ _ c.stop_seen.ensures.mark c.steps.invariant.writing.same
+returns-then-stop_seen-clause-same g c = same_marked (writes c.args.seat.now) (writes c.steps.seat) (writes c.stop_seen.new.seat) c.stop_seen.result c.stop_seen.ensures.mark c.steps.invariant.writing.same
 
 pub returns-then-stop_seen-clause-saw : goal.returns-then-stop_seen-clause-saw
 returns-then-stop_seen-clause-saw g c = seen _ _ _ c.stop_seen.ensures.mark c.if-stop_seen.true
