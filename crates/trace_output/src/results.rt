@@ -220,7 +220,13 @@ fn put_items<K: Sink>(
 }
 
 // The line of each sample of these items.
-fn lines_of(alloc: Global, plan: &Plan, thread: u16, name: &Text, items: &[TraceItem]) -> M<ResultLines>
+fn lines_of(
+    alloc: Global,
+    plan: &Plan,
+    thread: u16,
+    name: &Text,
+    items: &[TraceItem],
+) -> M<ResultLines>
     requires thread { thread < length (threads_of plan.now) }
     requires labels { All (IsLabelled (length (labels_of plan.now.elements))) items.now }
     requires name { name.now ≡ thread_name_of plan.now thread }

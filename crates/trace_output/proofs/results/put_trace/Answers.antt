@@ -1,4 +1,4 @@
-use Rattle.std.proofs.Common.{[], ◌++◌, length, subst, ◌∙◌, rules}
+use Rattle.std.proofs.Common.{◌≤◌, [], ◌++◌, length, subst, sym, rules}
 use Rattle.std.specs.Prelude.{All, IsErrOf}
 use Rattle.std.specs.Slice.Iter.{chunks_rest}
 use Rattle.element_tree.specs.Names.{labels_of}
@@ -35,7 +35,7 @@ loop-items-preserved g c =
     let labelled = IsLabelled (length (labels_of c.args.plan.now.elements)) in (
       search rules,
       tt,
-      steps.0 ∙ c.loop-items.invariant.2,
+      subst (λ n. 1 ≤ n) (sym steps.0) c.loop-items.invariant.2,
       (all_parts labelled items rest (subst (All labelled) steps.1.0 c.loop-items.invariant.3)).1,
       (
         so_far.0 ++ trace_text c.args.plan.now c.args.thread items,
