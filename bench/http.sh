@@ -5,7 +5,8 @@
 # and a hundred thousand requests: how many failed, how many files were open at most and when all had been made, and how many of
 # the connections that are in TIME-WAIT at the end each side closed first.
 # The aims: as many requests a second as ab and hey, at most 60 microseconds of processor time a request, and no fault.
-# Usage: bench/http.sh [REQUESTS [nginx | HOST PORT]]    (20,000 requests in each measure)
+# Usage: [PROGRAM=FILE] bench/http.sh [REQUESTS [nginx | HOST PORT]]    (20,000 requests in each measure; with 0 only the ten
+# thousand and the hundred thousand are made; the program is the one that ./jm runs where no other is named)
 set -eu
 cd "$(dirname "$0")/.."
 requests=${1:-20000}
@@ -40,11 +41,11 @@ else
     while ! [ -s "$folder/port" ]; do sleep 0.1; done
     port=$(cat "$folder/port")
 fi
-./jm check </dev/null >/dev/null 2>&1 || true
+[ -n "${PROGRAM:-}" ] || ./jm check </dev/null >/dev/null 2>&1 || true
 HOST=$host PORT=$port REQUESTS=$requests python3 - <<'PY'
 import json, os, re, shutil, subprocess, tempfile, time
 
-PROGRAM = "crates/jm_program/out/jm_program"
+PROGRAM = os.environ.get("PROGRAM") or "crates/jm_program/out/jm_program"
 HOST, PORT, REQUESTS = os.environ["HOST"], os.environ["PORT"], int(os.environ["REQUESTS"])
 URL = f"http://{HOST}:{PORT}/"
 
@@ -121,7 +122,7 @@ others = [tool for tool in (ab, hey) if shutil.which(tool.__name__)]
 for tool in (ab, hey):
     if tool not in others:
         print(f"not measured beside {tool.__name__}, which is not installed")
-for threads in (1, 8, 64):
+for threads in (1, 8, 64) if REQUESTS else ():
     for turn in range(3):
         line("run", threads, *run(threads, plan(threads, REQUESTS // threads))[:4])
         for tool in others:

@@ -3,9 +3,10 @@
 
 Usage: bench/peers.py [PROGRAM]    (crates/jm_program/out/jm_program where it is not given)
 Each peer serves one request of a plan of two samplers; the second asks a peer that answers, so the run is to go on. A line for
-each says the code, the message and the milliseconds of the first sample. Two peers do not answer, one of them not even to the
-dial; these take the 30 seconds that a call waits. The last line says how many differed from docs/use/HTTP.md, and then the
-status is 1: another code or message, a second sample that failed, another time, or another exit status than 0.
+each says the code, the message and the milliseconds of the first sample. Three peers fall silent: one in the middle of its
+answer, one before it, one before the dial; these take the 30 seconds that a call waits. The last line says how many differed
+from docs/use/HTTP.md, and then the status is 1: another code or message, a second sample that failed, another time, or another
+exit status than 0.
 """
 import collections
 import concurrent.futures

@@ -1,5 +1,0 @@
-//! Tests of the whole program against a service over sockets.
-#![tactic(auto)]
-
-#[cfg(test)]
-mod mirrored;
