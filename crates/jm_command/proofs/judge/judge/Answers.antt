@@ -1,11 +1,11 @@
-use Rattle.std.proofs.Common.{sym}
+use Rattle.std.proofs.Common.{sym, ◌∙◌}
 use Rattle.jm_command.proofs.judge.judge.Goals as goal
 
 pub returns-in-Ok-None : goal.returns-in-Ok-None
 returns-in-Ok-None g c = record {
   tree = _;
   is_plan = record { shape = c.in-Ok.ensures.exact; built = c.in-Ok-build.ensures.reading };
-  fit = sym c.in-Ok-None.ensures;
+  fit = sym c.in-Ok-None.ensures ∙ c.in-Ok-None.field-0-is;
 }
 
 pub returns-in-Ok-Some : goal.returns-in-Ok-Some
@@ -13,5 +13,5 @@ returns-in-Ok-Some g c = record {
   tree = _;
   plan = _;
   is_plan = record { shape = c.in-Ok.ensures.exact; built = c.in-Ok-build.ensures.reading };
-  unfit = sym c.in-Ok-Some.ensures;
+  unfit = sym c.in-Ok-Some.ensures ∙ c.in-Ok-Some.field-0-is;
 }
