@@ -32,10 +32,8 @@ pub struct SlowOutside<'a> {
 }
 
 impl<'a> SlowOutside<'a> {
-    // Holds a reply.
-    fn hold(&mut self) {
-        let is_first = self.is_first;
-        self.is_first = false;
+    // Holds a reply, which is the first or not.
+    fn hold(&self, is_first: bool) {
         match self.pace {
             Pace::Quick => {}
             Pace::Slow => wait(),
@@ -75,7 +73,8 @@ impl<'a> Outside for SlowOutside<'a> {
     }
 
     fn ask(&mut self, sampler: u16, request: &Request) -> M<Outcome> {
-        self.hold();
+        self.hold(self.is_first);
+        self.is_first = false;
         self.inner.ask(sampler, request)
     }
 }
