@@ -6,7 +6,6 @@ pub mod beginning;
 pub mod item;
 pub mod places;
 pub mod ramp_up;
-pub mod running;
 pub mod signal;
 pub mod transaction;
 
@@ -14,6 +13,5 @@ pub use beginning::set_first;
 pub use item::Item;
 pub use places::Places;
 pub use ramp_up::ramp_up_pause;
-pub use running::runs;
 pub use signal::{Signal, signal_of};
 pub use transaction::{Tally, gives_sample};
