@@ -146,37 +146,50 @@ fn put_trace<K: Sink>(
     let Ok(name) = plan.thread_name(alloc, thread) else {
         return Err(PrintError::NoMemory);
     };
-    for items in trace.chunks(at_once(plan, &name, trace)) {
+    let mut rest = trace;
+    'texts: while !rest.is_empty() {
+        let (items, after) = rest.split_at(fitting(plan, &name, rest));
         put_items(alloc, pending, sink, plan, thread, &name, items)?;
+        rest = after;
     }
     Ok(())
 }
 
-// How many items of a trace are printed together: as many as have room where each has the longest line of all.
-fn at_once(plan: &Plan, name: &Text, trace: &[TraceItem]) -> usize
-    requires labels { All (IsLabelled (length (labels_of plan.now.elements))) trace.now }
-    ensures { 1 ≤ result }
+// How many of the first items are printed together: as many as have room, and at least one.
+fn fitting(plan: &Plan, name: &Text, items: &[TraceItem]) -> usize
+    requires some { 0 < length items.now }
+    requires labels { All (IsLabelled (length (labels_of plan.now.elements))) items.now }
+    ensures some { 1 ≤ result }
+    ensures within { result ≤ length items.now }
 {
-    let mut longest: usize = 0;
-    for item in trace {
-        longest = longest.max(texts_length(plan, item));
+    let mut room = TEXT_ROOM;
+    let mut count: usize = 0;
+    for item in items {
+        let line = line_room(plan, name, item);
+        if line > room {
+            return count.max(1);
+        }
+        room -= line;
+        count += 1;
     }
-    // each quote in a text is written twice
-    let texts = longest.saturating_add(name.bytes().len()).saturating_mul(2);
-    (TEXT_ROOM / texts.saturating_add(LINE_ROOM)).max(1)
+    count
 }
 
-// How many bytes the label, the message and the failure of an item have, if it is a sample.
-fn texts_length(plan: &Plan, item: &TraceItem) -> usize
+// How many bytes the line of an item has at most: none, if it is no sample.
+fn line_room(plan: &Plan, name: &Text, item: &TraceItem) -> usize
     requires label { IsLabelled (length (labels_of plan.now.elements)) item.now }
 {
     match item {
         TraceItem::Sampled { sample, .. } => {
             let label = plan.label_text(sample.label).bytes().len();
             let message = sample.message.bytes().len();
-            label
+            let failure = sample.failure.bytes().len();
+            let texts = label
                 .saturating_add(message)
-                .saturating_add(sample.failure.bytes().len())
+                .saturating_add(failure)
+                .saturating_add(name.bytes().len());
+            // each quote in a text is written twice
+            texts.saturating_mul(2).saturating_add(LINE_ROOM)
         }
         TraceItem::Paused(_)
         | TraceItem::Null { .. }
