@@ -1,6 +1,6 @@
 -- The texts of a thread that has run.
 use Rattle.std.proofs.Common.{◌≡◌, ℕ, true, List, [], ◌∷◌, ◌++◌, Option, Some, refl, sym, ap, ap₂, ◌∙◌, subst, inl, inr}
-use Rattle.std.specs.Prelude.{All, codes}
+use Rattle.std.specs.Prelude.{All, codes, map}
 use Rattle.std.specs.List.{flat_map}
 use Rattle.std.specs.Option.{option_map_or}
 use Rattle.std.proofs.lemmas.List.{append-nil, map-append}
@@ -13,6 +13,7 @@ use Rattle.jm_base.specs.Outside.{Account}
 use Rattle.element_tree.specs.Tree.{Tree}
 use Rattle.jm_meaning.specs.declared.item.Item.{Item}
 use Rattle.jm_meaning.specs.declared.item.Item.TheVariants.{Ended}
+use Rattle.jm_meaning.specs.TraceShown.{shown}
 use Rattle.outside_world.specs.Scripted.{scripts_of}
 use Rattle.element_tree.specs.PlanWritten.{plan_text}
 use Rattle.output_lines.specs.Lines.{header_text, result_text, end_text}
@@ -20,7 +21,7 @@ use Rattle.output_lines.specs.Reports.{summary_text}
 use Rattle.thread_machine.specs.declared.trace.TraceItem.{TraceItem}
 use Rattle.thread_machine.specs.declared.trace.TraceItem.TheVariants.{Paused as TracedPause, Sampled as TracedSample, Null as TracedNull, Entered as TracedEntry, Left as TracedExit, Ended as TracedEnd}
 use Rattle.thread_machine.specs.Bare.{bare, bare_item, IsCountedIn}
-use Rattle.thread_machine.specs.Follows.{Follows, HasRun}
+use Rattle.thread_machine.specs.Follows.{Follows, WasCut, HasRun}
 use Rattle.command_words.specs.declared.command.Solo.{Solo}
 use Rattle.command_words.specs.declared.command.Command.TheVariants.{Check, Make, Solo as SoloCommand}
 use Rattle.command_words.specs.declared.command.Make.{Make as MakeOf}
@@ -29,7 +30,7 @@ use Rattle.trace_output.specs.Printing.{TextOut, TextFailed, TextCut}
 use Rattle.jm_command.specs.declared.status.Status.{Status}
 use Rattle.jm_command.specs.declared.status.Status.TheVariants.{Done, Usage, Refused, ReadFault, WriteFault, Memory}
 use Rattle.jm_command.specs.Parts.{sinks, TextSays, ReportSays, MadeSays, PlanSays}
-use Rattle.jm_command.specs.Printed.{options_of, default_solo, shown_of, item_text, results_of, counted, report_of, last_end, end_is_whole, IsShown, HasShown, MayPrint}
+use Rattle.jm_command.specs.Printed.{options_of, default_solo, shown_of, item_text, results_of, counted, report_of, last_end, end_is_whole, IsCut, IsShown, HasShown, MayPrint}
 
 last_end-append : (items : List Item) (end : End) → last_end (items ++ Ended end ∷ []) ≡ Some end
 last_end-append [] end = refl
@@ -41,13 +42,13 @@ bare_end trace prefix end is = ap (λ t. last_end (bare t)) is ∙ ap last_end (
 
 -- the items of a thread that was not cut are those of the plan's meaning
 whole_items : (plan : Tree) (s : Solo) (items : List Item) (end : End) → IsShown plan s items end → end_is_whole end ≡ true → items ≡ shown_of plan s
-whole_items plan s items Completed is h = is.whole
-whole_items plan s items StopThread is h = is.whole
-whole_items plan s items StopTest is h = is.whole
-whole_items plan s items Stopped is h = is.whole
-whole_items plan s items SampleLimit is h = is.whole
-whole_items plan s items RoundLimit is h = is.whole
-whole_items plan s items ValueLimit is h = is.whole
+whole_items plan s items Completed is h = is.meant
+whole_items plan s items StopThread is h = is.meant
+whole_items plan s items StopTest is h = is.meant
+whole_items plan s items Stopped is h = is.meant
+whole_items plan s items SampleLimit is h = is.meant
+whole_items plan s items RoundLimit is h = is.meant
+whole_items plan s items ValueLimit is h = is.meant
 whole_items plan s items NoMemory is h = absurd (cc)
 
 module _ (plan : Tree) (s : Solo) (start now : Account) (trace : List TraceItem) (scripted : start.value ≡ Some (scripts_of plan)) where
@@ -55,15 +56,27 @@ module _ (plan : Tree) (s : Solo) (start now : Account) (trace : List TraceItem)
   unfolding shown_of
   whole end f = sym (f.scripted (scripts_of plan) scripted).items
 
+  cut_items : WasCut start now plan s.thread (options_of s) trace → IsCut plan s (bare trace)
+  unfolding shown_of
+  cut_items f =
+      let c = f.scripted (scripts_of plan) scripted in
+      record {
+        given = map shown c.given;
+        more = map shown c.more;
+        prefix = ap (map shown) c.prefix ∙ map-append shown c.given c.more;
+        no_end = c.ends.no_end;
+        items_are = c.ends.items;
+      }
+
   pub shown_by : (end : End) → HasRun start now plan s.thread (options_of s) trace end → IsShown plan s (bare trace) end
-  shown_by Completed f = record { last = bare_end trace f.last.0 Completed f.last.1; whole = whole Completed f }
-  shown_by StopThread f = record { last = bare_end trace f.last.0 StopThread f.last.1; whole = whole StopThread f }
-  shown_by StopTest f = record { last = bare_end trace f.last.0 StopTest f.last.1; whole = whole StopTest f }
+  shown_by Completed f = record { last = bare_end trace f.last.0 Completed f.last.1; meant = whole Completed f }
+  shown_by StopThread f = record { last = bare_end trace f.last.0 StopThread f.last.1; meant = whole StopThread f }
+  shown_by StopTest f = record { last = bare_end trace f.last.0 StopTest f.last.1; meant = whole StopTest f }
   shown_by Stopped f = absurd f
-  shown_by SampleLimit f = record { last = bare_end trace f.last.0 SampleLimit f.last.1; whole = whole SampleLimit f }
-  shown_by RoundLimit f = record { last = bare_end trace f.last.0 RoundLimit f.last.1; whole = whole RoundLimit f }
-  shown_by ValueLimit f = record { last = bare_end trace f.last.0 ValueLimit f.last.1; whole = whole ValueLimit f }
-  shown_by NoMemory f = record { last = bare_end trace f.0 NoMemory f.1; whole = tt }
+  shown_by SampleLimit f = record { last = bare_end trace f.last.0 SampleLimit f.last.1; meant = whole SampleLimit f }
+  shown_by RoundLimit f = record { last = bare_end trace f.last.0 RoundLimit f.last.1; meant = whole RoundLimit f }
+  shown_by ValueLimit f = record { last = bare_end trace f.last.0 ValueLimit f.last.1; meant = whole ValueLimit f }
+  shown_by NoMemory f = record { last = bare_end trace f.last.0 NoMemory f.last.1; meant = cut_items f }
 
 -- ---- the lines of a thread of which each sample is counted in interval 0
 

@@ -1,5 +1,5 @@
 -- What the parts of the program say.
-use Rattle.std.specs.Prelude.{◌≡◌, ◌⊎◌, ℕ, ◌*◌, ◌<◌, ◌≤◌, Bool, true, List, length, Option, Some, None}
+use Rattle.std.specs.Prelude.{◌≡◌, ◌⊎◌, ℕ, ◌*◌, ◌<◌, ◌≤◌, Bool, true, false, List, length, Option, Some, None}
 use Rattle.std.specs.Io.KnownBytes.{Appends}
 use Rattle.jm_base.specs.FaultCounts.{Rose}
 use Rattle.edge_io.specs.Edges.{AppendsProperPrefix}
@@ -164,14 +164,14 @@ SaysUnfound command bytes before after old new faults now WriteFault =
     (refusal : Refusal) × IsRefused command bytes before after refusal × TextFailed (refusal_line refusal) old new faults now
 SaysUnfound command bytes before after old new faults now Memory = (new ≡ old) × (now ≡ faults)
 
--- the status after texts that are printed: done, or 7 where memory ran out before they were whole
+-- the status after texts that are printed: done where they are whole, else 7
 abbrev pub WholeSays : Bool → Status → Type 0
 WholeSays whole Done = whole ≡ true
 WholeSays whole Usage = ⊥
 WholeSays whole Refused = ⊥
 WholeSays whole ReadFault = ⊥
 WholeSays whole WriteFault = ⊥
-WholeSays whole Memory = Unit {0}
+WholeSays whole Memory = whole ≡ false
 
 -- a plan can be made for the size that `make` is given
 pub record HasSize (m : MakeOf) : Type 0 where

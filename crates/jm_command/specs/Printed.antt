@@ -1,5 +1,5 @@
 -- The texts of a command on a plan.
-use Rattle.std.specs.Prelude.{◌≡◌, codes, ℕ, Bool, true, false, List, [], ◌∷◌, ◌++◌, length, map, Option, Some, None}
+use Rattle.std.specs.Prelude.{◌≡◌, codes, ℕ, Bool, true, false, All, List, [], ◌∷◌, ◌++◌, length, map, Option, Some, None}
 use Rattle.std.specs.List.{flat_map}
 use Rattle.std.specs.Option.{option_map_or}
 use Rattle.jm_base.specs.declared.types.Entry.{Entry}
@@ -25,6 +25,7 @@ use Rattle.outside_world.specs.Scripted.{scripts_of}
 use Rattle.output_lines.specs.Lines.{header_text, result_text, end_text}
 use Rattle.output_lines.specs.Reports.{summary_text}
 use Rattle.thread_machine.specs.Stepped.{entry_of}
+use Rattle.thread_machine.specs.SectionOrder.{IsBareNoEnd, open_from, left_items}
 use Rattle.jm_command.specs.WovenTexts.{WeaveTexts}
 
 -- the seed, the properties and the sample budget of a run of one thread
@@ -87,21 +88,30 @@ counted plan items = record { interval = 0; rows = sum_of (length (labels_of pla
 abbrev pub report_of : Tree → ℕ → List Item → List ℕ
 report_of plan thread items = summary_text plan (counted plan items) ++ option_map_or (end_text plan thread) (last_end items) []
 
--- the items are those of the plan's meaning; of a thread that was cut short because memory ran out nothing is said
-abbrev pub IsWhole : Tree → Solo → List Item → End → Type 0
-IsWhole plan s items Completed = items ≡ shown_of plan s
-IsWhole plan s items StopThread = items ≡ shown_of plan s
-IsWhole plan s items StopTest = items ≡ shown_of plan s
-IsWhole plan s items Stopped = items ≡ shown_of plan s
-IsWhole plan s items SampleLimit = items ≡ shown_of plan s
-IsWhole plan s items RoundLimit = items ≡ shown_of plan s
-IsWhole plan s items ValueLimit = items ≡ shown_of plan s
-IsWhole plan s items NoMemory = Unit {0}
+-- These items are of a thread that was cut short because memory ran out: a prefix of the plan's meaning, without an end, then that
+-- the open section was left, then this end.
+pub record IsCut (plan : Tree) (s : Solo) (items : List Item) : Type 0 where
+  pub given : List Item
+  pub more : List Item
+  pub prefix : shown_of plan s ≡ given ++ more
+  pub no_end : All IsBareNoEnd given
+  pub items_are : items ≡ given ++ (left_items (open_from None given) ++ Ended NoMemory ∷ [])
+
+-- the items are those of the plan's meaning, or of a thread that was cut short a prefix of it
+abbrev pub IsMeant : Tree → Solo → List Item → End → Type 0
+IsMeant plan s items Completed = items ≡ shown_of plan s
+IsMeant plan s items StopThread = items ≡ shown_of plan s
+IsMeant plan s items StopTest = items ≡ shown_of plan s
+IsMeant plan s items Stopped = items ≡ shown_of plan s
+IsMeant plan s items SampleLimit = items ≡ shown_of plan s
+IsMeant plan s items RoundLimit = items ≡ shown_of plan s
+IsMeant plan s items ValueLimit = items ≡ shown_of plan s
+IsMeant plan s items NoMemory = IsCut plan s items
 
 -- what a thread with this end has shown
 pub record IsShown (plan : Tree) (s : Solo) (items : List Item) (end : End) : Type 0 where
   pub last : last_end items ≡ Some end
-  pub whole : IsWhole plan s items end
+  pub meant : IsMeant plan s items end
 
 -- a thread that ended so was not cut short because memory ran out
 abbrev pub end_is_whole : End → Bool

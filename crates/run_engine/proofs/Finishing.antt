@@ -39,18 +39,18 @@ module _ (start now : Account) (plan : Tree) (thread : ℕ) (options : Options) 
   ends_so SampleLimit h = ended SampleLimit h
   ends_so RoundLimit h = ended RoundLimit h
   ends_so ValueLimit h = ended ValueLimit h
-  ends_so NoMemory h = record { before = h.0; last = h.1 }
+  ends_so NoMemory h = record { before = h.last.0; last = h.last.1 }
 
-  module _ (nothing : start.told ≡ Some []) (same : SameOutside start now) where
+  module _ (nothing : start.told ≡ Some []) where
     follows_so : (end : End) → HasEnded start now plan thread options trace end → FollowsWhere plan thread options now.told trace
-    follows_so Completed h = let t = h.told nothing in (t.0, t.1, record { end = Completed; ends = ended Completed h; follows = t.2 })
-    follows_so StopThread h = let t = h.told nothing in (t.0, t.1, record { end = StopThread; ends = ended StopThread h; follows = t.2 })
-    follows_so StopTest h = let t = h.told nothing in (t.0, t.1, record { end = StopTest; ends = ended StopTest h; follows = t.2 })
-    follows_so Stopped h = let t = h.told nothing in (t.0, t.1, record { end = Stopped; ends = record { before = h.last.0; last = h.last.1 }; follows = t.2 })
-    follows_so SampleLimit h = let t = h.told nothing in (t.0, t.1, record { end = SampleLimit; ends = ended SampleLimit h; follows = t.2 })
-    follows_so RoundLimit h = let t = h.told nothing in (t.0, t.1, record { end = RoundLimit; ends = ended RoundLimit h; follows = t.2 })
-    follows_so ValueLimit h = let t = h.told nothing in (t.0, t.1, record { end = ValueLimit; ends = ended ValueLimit h; follows = t.2 })
-    follows_so NoMemory h = let t = same.tells [] nothing in (t.0, t.1, record { end = NoMemory; ends = record { before = h.0; last = h.1 }; follows = tt })
+    follows_so Completed h = let t = h.told nothing in (t.0, t.1, record { end = Completed; last = h.last; follows = t.2 })
+    follows_so StopThread h = let t = h.told nothing in (t.0, t.1, record { end = StopThread; last = h.last; follows = t.2 })
+    follows_so StopTest h = let t = h.told nothing in (t.0, t.1, record { end = StopTest; last = h.last; follows = t.2 })
+    follows_so Stopped h = let t = h.told nothing in (t.0, t.1, record { end = Stopped; last = h.last; follows = t.2 })
+    follows_so SampleLimit h = let t = h.told nothing in (t.0, t.1, record { end = SampleLimit; last = h.last; follows = t.2 })
+    follows_so RoundLimit h = let t = h.told nothing in (t.0, t.1, record { end = RoundLimit; last = h.last; follows = t.2 })
+    follows_so ValueLimit h = let t = h.told nothing in (t.0, t.1, record { end = ValueLimit; last = h.last; follows = t.2 })
+    follows_so NoMemory h = let t = h.told nothing in (t.0, t.1, record { end = NoMemory; last = h.last; follows = t.2 })
 
 module _ {O : Type 0} (account : O → Account) (r : Recorder) (plan : Tree) (options : Options) (identity : ℕ) (tells : Bool) (count : ℕ) where
   one_done : (i : ℕ) (before after : Job O) → IsFresh account r plan options identity tells count i before → JobRan account r before after → IsDone account r plan options identity tells count i after
@@ -68,7 +68,7 @@ module _ {O : Type 0} (account : O → Account) (r : Recorder) (plan : Tree) (op
         rises = h.rises;
         marked = h.marked;
         whole = record { end = runs.0; ends = ends_so (account before.out) (account after.out) plan i options after.worker.trace runs.0 runs.1; keeps = h.keeps };
-        follows = λ told. follows_so (account before.out) (account after.out) plan i options after.worker.trace (f.opened.told ∙ ap (λ (b : Bool). told_when b []) told) h.outside runs.0 runs.1;
+        follows = λ told. follows_so (account before.out) (account after.out) plan i options after.worker.trace (f.opened.told ∙ ap (λ (b : Bool). told_when b []) told) runs.0 runs.1;
       }
 
   pub all_done : (xs ys : List (Job O)) → AllFresh account r plan options identity tells count xs → AllRan account r xs ys → AllDone account r plan options identity tells count ys

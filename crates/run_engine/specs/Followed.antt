@@ -7,14 +7,14 @@ use Rattle.element_tree.specs.Tree.{Tree}
 use Rattle.jm_meaning.specs.Beginning.{Options}
 use Rattle.thread_machine.specs.declared.trace.TraceItem.{TraceItem}
 use Rattle.thread_machine.specs.declared.trace.TraceItem.TheVariants.{Ended as EndedItem}
-use Rattle.thread_machine.specs.Follows.{FollowsWhole, FollowsStopped}
+use Rattle.thread_machine.specs.Follows.{IsEndedBy, FollowsWhole, FollowsStopped, FollowsCut}
 
 -- the last item of a trace says how the thread ended
 pub record EndsWith (trace : List TraceItem) (end : End) : Type 0 where
   pub before : List TraceItem
   pub last : trace ≡ before ++ EndedItem end ∷ []
 
--- how a trace with this end follows what was told; of one that was cut, out of memory, nothing but its end is said
+-- how a trace with this end follows what was told
 abbrev pub FollowsTo : Tree → ℕ → Options → List Heard → List TraceItem → End → Type 0
 FollowsTo plan thread options told trace Completed = FollowsWhole plan thread options told trace
 FollowsTo plan thread options told trace StopThread = FollowsWhole plan thread options told trace
@@ -23,13 +23,13 @@ FollowsTo plan thread options told trace Stopped = FollowsStopped plan thread op
 FollowsTo plan thread options told trace SampleLimit = FollowsWhole plan thread options told trace
 FollowsTo plan thread options told trace RoundLimit = FollowsWhole plan thread options told trace
 FollowsTo plan thread options told trace ValueLimit = FollowsWhole plan thread options told trace
-FollowsTo plan thread options told trace NoMemory = Unit {0}
+FollowsTo plan thread options told trace NoMemory = FollowsCut plan thread options told trace
 
--- The trace is the plan's meaning over what the outside was told, up to the thread's end; of a thread that was stopped, a prefix
--- of it.
+-- The trace is the plan's meaning over what the outside was told, up to the thread's end; of a thread that was stopped or cut, out
+-- of memory, a prefix of it. Its last item is its only end.
 pub record FollowsTold (plan : Tree) (thread : ℕ) (options : Options) (told : List Heard) (trace : List TraceItem) : Type 0 where
   pub end : End
-  pub ends : EndsWith trace end
+  pub last : IsEndedBy trace end
   pub follows : FollowsTo plan thread options told trace end
 
 -- the outside told, and the trace follows it

@@ -3,7 +3,7 @@ use Rattle.std.proofs.Common.{◌≡◌, ℕ, zero, suc, ap₂, append_assoc, Bo
 use Rattle.std.specs.Prelude.{map, All, MatchOption, IfSome, IsSome}
 use Rattle.std.specs.Option.{option_map}
 use Rattle.std.proofs.lemmas.List.{append-nil, map-append}
-use Rattle.std.proofs.lemmas.List.Elements.{All-push}
+use Rattle.std.proofs.lemmas.List.Elements.{All-nil, All-cons, All-head, All-tail, All-push}
 use Rattle.jm_base.specs.declared.types.Entry.{Entry}
 use Rattle.jm_base.specs.declared.types.Sample.{Sample}
 use Rattle.jm_base.specs.declared.types.End.{End}
@@ -20,14 +20,14 @@ use Rattle.jm_meaning.specs.Meaning.{events}
 use Rattle.jm_meaning.specs.TraceShown.{shown}
 use Rattle.thread_machine.specs.declared.trace.TraceItem.{TraceItem}
 use Rattle.thread_machine.specs.declared.trace.TraceItem.TheVariants.{Paused as TracedPause, Sampled as TracedSample, Null as TracedNull, Entered as TracedEntered, Left as TracedLeft, Ended as TracedEnd}
-use Rattle.thread_machine.specs.Bare.{bare}
+use Rattle.thread_machine.specs.Bare.{bare, bare_item}
 use Rattle.thread_machine.specs.Standing.{Standing, rest, IsAtStart, owed_items, entering_items, owed_to, HeardForEvents, Stands}
-use Rattle.thread_machine.specs.SectionOrder.{open_from, left_items, left_traced, IsNoEnd}
+use Rattle.thread_machine.specs.SectionOrder.{open_from, left_items, left_traced, IsNoEnd, IsBareNoEnd}
 use Rattle.thread_machine.specs.declared.step.Step.{Step}
 use Rattle.thread_machine.specs.declared.step.Step.TheVariants.{Sampled as StepSampled, Null as StepNull, Enter as StepEnter, Leave as StepLeave, Ended as StepEnded}
 use Rattle.thread_machine.specs.SoFar.{StandsAfter, ShowsAPrefix}
-use Rattle.thread_machine.specs.Stepped.{trace_paused, events_paused, events_waited, HasPaused, Begins, Gives, Steps, GivesSample, GivesNone, EntersSection, LeavesSection, IsOver, Ends}
-use Rattle.thread_machine.specs.Follows.{FollowsWhole, Follows, HasRun, UsesAll, FollowsStopped, IsScriptedStop, WasStopped}
+use Rattle.thread_machine.specs.Stepped.{trace_paused, events_paused, events_waited, HasPaused, Begins, Gives, Steps, GivesSample, GivesNone, EntersSection, LeavesSection, IsOver, IsCut, Ends}
+use Rattle.thread_machine.specs.Follows.{FollowsWhole, Follows, HasRun, IsEndedBy, UsesAll, EndsAfter, FollowsStopped, FollowsCut, IsScriptedTo, IsScriptedStop, WasStopped, WasCut}
 
 -- From start to now the run has given what the items show, and is over.
 record Ran (start now : Account) (run : Run (Unit {0})) (items : List Item) : Type 0 where
@@ -53,10 +53,10 @@ module _ (start now : Account) (run : Run (Unit {0})) (items : List Item) (ran :
       let m' : MatchOption (Some v) (now.value ≡ None) (λ v. (w : Scripts) × (now.value ≡ Some w) × Replays script_form v ran.goes.heard w) = rw is at m in
       (m'.0, path-value script_form ran.goes.path v m'.0 m'.2)
 
-follows : (start now : Account) (plan : Tree) (thread : ℕ) (options : Options) (trace prefix : List TraceItem) (end : End) → trace ≡ prefix ++ TracedEnd end ∷ []
+follows : (start now : Account) (plan : Tree) (thread : ℕ) (options : Options) (trace : List TraceItem) (end : End) → IsEndedBy trace end
     → Ran start now (events plan thread options) (bare trace) → Follows start now plan thread options trace end
-follows start now plan thread options trace prefix end last ran = record {
-  last = (prefix, last);
+follows start now plan thread options trace end last ran = record {
+  last = last;
   told = λ nothing. (ran.goes.heard, told_all nothing, over_list);
   scripted = λ v is. record {
     items = ap (λ g. map shown g.events) (given_scripts start now _ _ ran v is).1 ∙ shown_all start now _ _ ran;
@@ -216,25 +216,7 @@ module _ (start now later : Account) (options : Options) (w new : Standing) (sta
             ∙ sym (owed_both new (bare new.trace) (ap (λ s. s.owed) p.new_is ∙ none) (ap (λ s. s.entering) p.new_is ∙ free) ∙ ap (λ s. bare s.trace) p.new_is ∙ bare-append w.trace (TracedPause w.pause ∷ []));
       }
 
-  ran_over : (end : End) → IsOver now later (rest w) w new end → Follows start later w.plan w.thread options new.trace end
-  ran_over end o = follows start later w.plan w.thread options new.trace w.trace end (ap (λ s. s.trace) o.new_is) (record {
-    all_events = stands.so_far ++ Ended end ∷ [];
-    goes = goes-append stands.goes o.goes;
-    shows = shown_one (Ended end) ∙ sym (ap (λ s. bare s.trace) o.new_is ∙ bare-append w.trace (TracedEnd end ∷ []));
-  })
-
-  -- the thread has ended
-  pub has_run : (end : End) → Ends now later (rest w) w new end → HasRun start later w.plan w.thread options new.trace end
-  has_run Completed o = ran_over Completed o
-  has_run StopThread o = ran_over StopThread o
-  has_run StopTest o = ran_over StopTest o
-  has_run Stopped o = o
-  has_run SampleLimit o = ran_over SampleLimit o
-  has_run RoundLimit o = ran_over RoundLimit o
-  has_run ValueLimit o = ran_over ValueLimit o
-  has_run NoMemory o = (w.trace ++ left_traced w.section, ap (λ s. s.trace) o.new_is ∙ sym (append_assoc w.trace (left_traced w.section) (TracedEnd NoMemory ∷ [])))
-
--- ---- a thread that is stopped
+-- ---- a thread that has ended, was stopped or cut
 
 bare-left : (o : Option ℕ) (end : End) → bare (left_traced o ++ TracedEnd end ∷ []) ≡ left_items o ++ EndedItem end ∷ []
 bare-left None end = refl
@@ -243,6 +225,17 @@ bare-left (Some lock) end = refl
 no_end_left : (xs : List TraceItem) (o : Option ℕ) → All IsNoEnd xs → All IsNoEnd (xs ++ left_traced o)
 no_end_left xs None all = subst (All IsNoEnd) (sym (append-nil xs)) all
 no_end_left xs (Some lock) all = All-push IsNoEnd xs (TracedLeft lock) all (tt {0})
+
+no_end_bare : (xs : List TraceItem) → All IsNoEnd xs → All IsBareNoEnd (bare xs)
+no_end_bare [] all = All-nil IsBareNoEnd
+no_end_bare (x ∷ xs) all = All-cons IsBareNoEnd (bare_item x) (bare xs) (one_bare x (All-head IsNoEnd x xs all)) (no_end_bare xs (All-tail IsNoEnd x xs all)) where
+  one_bare : (x : TraceItem) → IsNoEnd x → IsBareNoEnd (bare_item x)
+  one_bare (TracedPause ms) h = tt
+  one_bare (TracedSample sample interval) h = tt
+  one_bare (TracedNull sampler) h = tt
+  one_bare (TracedEntered lock place) h = tt
+  one_bare (TracedLeft lock) h = tt
+  one_bare (TracedEnd end) h = h
 
 -- all that was told is used by the events that were given
 uses_told : (start now : Account) (run : Run (Unit {0})) (given : List Event) (left : Run (Unit {0})) → HeardForEvents start run given left now → start.told ≡ Some []
@@ -260,23 +253,44 @@ prefix_of run told given left (inr h) =
     ap (λ l. (over_value list_form run l).events) (sym (append-nil told)) ∙ e
     ∙ sym (append_assoc h.0 (h.1 ∷ []) (over_value list_form left []).events) ∙ ap (λ l. l ++ (over_value list_form left []).events) (sym h.2)
 
-module _ (start now : Account) (options : Options) (w : Standing) (trace : List TraceItem) (none : w.owed ≡ None) (free : w.entering ≡ None) (held : open_from None (bare w.trace) ≡ w.section)
-    (no_end : All IsNoEnd w.trace) (is : trace ≡ w.trace ++ (left_traced w.section ++ TracedEnd Stopped ∷ [])) (stands : Stands start now options w) where
-  run : Run (Unit {0})
-  run = events w.plan w.thread options
+-- What the trace of a thread that goes on says of ends and of its open section.
+pub record HasNoEnd (w : Standing) : Type 0 where
+  pub no_end : All IsNoEnd w.trace
+  pub held : open_from None (bare w.trace) ≡ w.section
 
+-- The thread came to this end before its run did: its trace is that of a thread that stood, then that the open section was left.
+module _ (start now : Account) (options : Options) (w : Standing) (trace : List TraceItem) (end : End) (none : w.owed ≡ None) (free : w.entering ≡ None) (goes_on : HasNoEnd w)
+    (is : trace ≡ w.trace ++ (left_traced w.section ++ TracedEnd end ∷ [])) (stands : Stands start now options w) where
   so_shown : map shown stands.so_far ≡ bare w.trace
   so_shown = stands.shows ∙ owed_both w (bare w.trace) none free
 
-  stopped_items : bare trace ≡ map shown stands.so_far ++ (left_items (open_from None (map shown stands.so_far)) ++ EndedItem Stopped ∷ [])
-  stopped_items =
-      ap bare is ∙ bare-append w.trace (left_traced w.section ++ TracedEnd Stopped ∷ []) ∙ ap (λ xs. bare w.trace ++ xs) (bare-left w.section Stopped)
-      ∙ ap (λ o. bare w.trace ++ (left_items o ++ EndedItem Stopped ∷ [])) (sym held)
-      ∙ ap (λ xs. xs ++ (left_items (open_from None xs) ++ EndedItem Stopped ∷ [])) (sym so_shown)
+  items_are : bare trace ≡ map shown stands.so_far ++ (left_items (open_from None (map shown stands.so_far)) ++ EndedItem end ∷ [])
+  items_are =
+      ap bare is ∙ bare-append w.trace (left_traced w.section ++ TracedEnd end ∷ []) ∙ ap (λ xs. bare w.trace ++ xs) (bare-left w.section end)
+      ∙ ap (λ o. bare w.trace ++ (left_items o ++ EndedItem end ∷ [])) (sym goes_on.held)
+      ∙ ap (λ xs. xs ++ (left_items (open_from None xs) ++ EndedItem end ∷ [])) (sym so_shown)
 
-  last_is : (before : List TraceItem) × (trace ≡ before ++ TracedEnd Stopped ∷ []) × All IsNoEnd before
-  last_is = (w.trace ++ left_traced w.section, is ∙ sym (append_assoc w.trace (left_traced w.section) (TracedEnd Stopped ∷ [])), no_end_left w.trace w.section no_end)
+  ended_by : IsEndedBy trace end
+  ended_by = (w.trace ++ left_traced w.section, is ∙ sym (append_assoc w.trace (left_traced w.section) (TracedEnd end ∷ [])), no_end_left w.trace w.section goes_on.no_end)
 
+  ends_after : EndsAfter stands.so_far trace end
+  ends_after = record { no_end = subst (All IsBareNoEnd) (sym so_shown) (no_end_bare w.trace goes_on.no_end); items = items_are; last = ended_by }
+
+  -- the run has come to this place, on the way to its next event
+  module _ (left : Run (Unit {0})) (later : Account) (goes : Goes start (events w.plan w.thread options) stands.so_far left later) where
+    scripted_to : (v : Scripts) → start.value ≡ Some v → IsScriptedTo end w.plan w.thread options v trace
+    scripted_to v at =
+        let m : MatchOption start.value (later.value ≡ None) (λ v. (x : Scripts) × (later.value ≡ Some x) × Replays script_form v goes.heard x) = goes.hears.value in
+        let m' : MatchOption (Some v) (later.value ≡ None) (λ v. (x : Scripts) × (later.value ≡ Some x) × Replays script_form v goes.heard x) = rw at at m in
+        record {
+          given = stands.so_far;
+          more = (over_value script_form left m'.0).events;
+          prefix = ap (λ g. g.events) (path-value script_form goes.path v m'.0 m'.2);
+          ends = ends_after;
+        }
+
+module _ (start now : Account) (options : Options) (w : Standing) (trace : List TraceItem) (none : w.owed ≡ None) (free : w.entering ≡ None) (goes_on : HasNoEnd w)
+    (is : trace ≡ w.trace ++ (left_traced w.section ++ TracedEnd Stopped ∷ [])) (stands : Stands start now options w) where
   told_so : start.told ≡ Some [] → (told : List Heard) × (now.told ≡ Some told) × FollowsStopped w.plan w.thread options told trace
   told_so nothing =
       let u = uses_told start now (events w.plan w.thread options) stands.so_far (rest w) stands.heard nothing in (
@@ -288,24 +302,70 @@ module _ (start now : Account) (options : Options) (w : Standing) (trace : List 
           left = rest w;
           prefix = prefix_of (events w.plan w.thread options) u.0 stands.so_far (rest w) u.2;
           used = u.2;
-          items = stopped_items;
-          last = last_is;
+          ends = ends_after start now options w trace Stopped none free goes_on is stands;
         },
       )
 
-  scripted_so : (v : Scripts) → start.value ≡ Some v → IsScriptedStop w.plan w.thread options v trace
-  scripted_so v at =
-      let m : MatchOption start.value (now.value ≡ None) (λ v. (x : Scripts) × (now.value ≡ Some x) × Replays script_form v stands.goes.heard x) = stands.goes.hears.value in
-      let m' : MatchOption (Some v) (now.value ≡ None) (λ v. (x : Scripts) × (now.value ≡ Some x) × Replays script_form v stands.goes.heard x) = rw at at m in
-      record {
-        given = stands.so_far;
-        more = (over_value script_form (rest w) m'.0).events;
-        prefix = ap (λ g. g.events) (path-value script_form stands.goes.path v m'.0 m'.2);
-        items = stopped_items;
-      }
-
   pub was_stopped : WasStopped start now w.plan w.thread options trace
-  was_stopped = record { last = last_is; told = told_so; scripted = scripted_so }
+  was_stopped = record {
+    last = ended_by start now options w trace Stopped none free goes_on is stands;
+    told = told_so;
+    scripted = scripted_to start now options w trace Stopped none free goes_on is stands (rest w) now stands.goes;
+  }
+
+-- the events over the list that was heard begin with those that were given
+heard_prefix : {run left : Run (Unit {0})} {heard : List Heard} {given : List Event} → Path run heard given left → (over_value list_form run heard).events ≡ given ++ (over_value list_form left []).events
+unfolding over_value
+heard_prefix {run} {left} {heard} {given} path =
+    let e : (over_value list_form run (heard ++ [])).events ≡ given ++ (over_value list_form left []).events = ap (λ g. g.events) (path-value list_form path (heard ++ []) [] (list-replays heard [])) in
+    ap (λ l. (over_value list_form run l).events) (sym (append-nil heard)) ∙ e
+
+module _ (start now later : Account) (options : Options) (w new : Standing) (none : w.owed ≡ None) (free : w.entering ≡ None) (goes_on : HasNoEnd w) (cut : IsCut now later (rest w) w new) (stands : Stands start now options w) where
+  trace_cut : new.trace ≡ w.trace ++ (left_traced w.section ++ TracedEnd NoMemory ∷ [])
+  trace_cut = ap (λ s. s.trace) cut.new_is
+
+  gone : Goes start (events w.plan w.thread options) stands.so_far cut.left later
+  gone = subst (λ l. Goes start (events w.plan w.thread options) l cut.left later) (append-nil stands.so_far) (goes-append stands.goes cut.goes)
+
+  told_of : start.told ≡ Some [] → (told : List Heard) × (later.told ≡ Some told) × FollowsCut w.plan w.thread options told new.trace
+  told_of nothing = (
+    gone.heard,
+    gone.hears.told ∙ ap (option_map (λ t. t ++ gone.heard)) nothing,
+    record {
+      given = stands.so_far;
+      more = (over_value list_form cut.left []).events;
+      left = cut.left;
+      prefix = heard_prefix gone.path;
+      used = gone.path;
+      ends = ends_after start now options w new.trace NoMemory none free goes_on trace_cut stands;
+    },
+  )
+
+  pub was_cut : WasCut start later w.plan w.thread options new.trace
+  was_cut = record {
+    last = ended_by start now options w new.trace NoMemory none free goes_on trace_cut stands;
+    told = told_of;
+    scripted = scripted_to start now options w new.trace NoMemory none free goes_on trace_cut stands cut.left later gone;
+  }
+
+module _ (start now later : Account) (options : Options) (w new : Standing) (none : w.owed ≡ None) (free : w.entering ≡ None) (goes_on : HasNoEnd w) (stands : Stands start now options w) where
+  ran_over : (end : End) → IsOver now later (rest w) w new end → Follows start later w.plan w.thread options new.trace end
+  ran_over end o = follows start later w.plan w.thread options new.trace end (w.trace, ap (λ s. s.trace) o.new_is, goes_on.no_end) (record {
+    all_events = stands.so_far ++ Ended end ∷ [];
+    goes = goes-append stands.goes o.goes;
+    shows = shown_one start now later options w new stands none free (Ended end) ∙ sym (ap (λ s. bare s.trace) o.new_is ∙ bare-append w.trace (TracedEnd end ∷ []));
+  })
+
+  -- the thread has ended
+  pub has_run : (end : End) → Ends now later (rest w) w new end → HasRun start later w.plan w.thread options new.trace end
+  has_run Completed o = ran_over Completed o
+  has_run StopThread o = ran_over StopThread o
+  has_run StopTest o = ran_over StopTest o
+  has_run Stopped o = o
+  has_run SampleLimit o = ran_over SampleLimit o
+  has_run RoundLimit o = ran_over RoundLimit o
+  has_run ValueLimit o = ran_over ValueLimit o
+  has_run NoMemory cut = was_cut start now later options w new none free goes_on cut stands
 
 -- the sample that was owed is in the trace
 pub stands_noted : (start now : Account) (options : Options) (interval : ℕ) (w new : Standing) (sample : Sample) → w.owed ≡ Some sample
@@ -393,13 +453,13 @@ stands_begun start now later options w new none free h stands = elim h [
 ]
 
 -- a step, whatever it answers
-gives_behind : (start now later : Account) (options : Options) (w new : Standing) (step : Step) → w.owed ≡ None → w.entering ≡ None → Gives now later (rest w) w new step
+gives_behind : (start now later : Account) (options : Options) (w new : Standing) (step : Step) → w.owed ≡ None → w.entering ≡ None → HasNoEnd w → Gives now later (rest w) w new step
     → Stands start now options w → StandsAfter start later options w new step
-gives_behind start now later options w new (StepSampled entry) none free s stands = stands_sample start now later options w new stands none free entry s
-gives_behind start now later options w new StepNull none free s stands = stands_none start now later options w new stands none free s
-gives_behind start now later options w new (StepEnter lock) none free s stands = stands_enters start now later options w new stands none free lock s
-gives_behind start now later options w new (StepLeave lock) none free s stands = stands_left start now later options w new stands none free lock s
-gives_behind start now later options w new (StepEnded end) none free s stands = has_run start now later options w new stands none free end s
+gives_behind start now later options w new (StepSampled entry) none free on s stands = stands_sample start now later options w new stands none free entry s
+gives_behind start now later options w new StepNull none free on s stands = stands_none start now later options w new stands none free s
+gives_behind start now later options w new (StepEnter lock) none free on s stands = stands_enters start now later options w new stands none free lock s
+gives_behind start now later options w new (StepLeave lock) none free on s stands = stands_left start now later options w new stands none free lock s
+gives_behind start now later options w new (StepEnded end) none free on s stands = has_run start now later options w new none free on stands end s
 
 -- the answer speaks of the thread alone
 behind_same : (start later : Account) (options : Options) (w between new : Standing) (step : Step) → BegunOn w between → StandsAfter start later options between new step → StandsAfter start later options w new step
@@ -409,12 +469,12 @@ behind_same start later options w between new (StepEnter lock) on h = h
 behind_same start later options w between new (StepLeave lock) on h = h
 behind_same start later options w between new (StepEnded end) on h = rw (← on.plan, ← on.thread) h
 
-pub stands_after : (start now later : Account) (options : Options) (w new : Standing) (step : Step) → w.owed ≡ None → w.entering ≡ None → Steps now later w new step
+pub stands_after : (start now later : Account) (options : Options) (w new : Standing) (step : Step) → w.owed ≡ None → w.entering ≡ None → (s : Steps now later w new step) → HasNoEnd s.between
     → Stands start now options w → StandsAfter start later options w new step
-stands_after start now later options w new step none free s stands =
+stands_after start now later options w new step none free s goes_on stands =
     let on = begun_on now s.begun w s.between s.begins in
     behind_same start later options w s.between new step on
-    (gives_behind start s.begun later options s.between new step (on.owed ∙ none) (on.entering ∙ free) s.gives (stands_begun start now s.begun options w s.between none free s.begins stands))
+    (gives_behind start s.begun later options s.between new step (on.owed ∙ none) (on.entering ∙ free) goes_on s.gives (stands_begun start now s.begun options w s.between none free s.begins stands))
 
 -- a sample that is noted, where it is known that there is one
 pub stands_noted_some : (start now : Account) (options : Options) (interval : ℕ) (w new : Standing) → IsSome w.owed

@@ -23,8 +23,8 @@ use Rattle.thread_machine.specs.Recorded.{Recorded}
 use Rattle.thread_machine.specs.Inside.{standing_of, owed_count, held, IsOwedLabelled, IsLimit, MovesOn, GoesOn, HasSettled, IsSound}
 use Rattle.thread_machine.specs.Ran.{is_end, IsCutAfter, GoesOnAfter}
 use Rattle.thread_machine.proofs.Labels.{label_within}
-use Rattle.thread_machine.proofs.SectionLaws.{sections-append, left-ended}
-use Rattle.thread_machine.proofs.Ends.{begun_on}
+use Rattle.thread_machine.proofs.SectionLaws.{sections-append, open-bare, left-ended}
+use Rattle.thread_machine.proofs.Ends.{HasNoEnd, begun_on}
 
 -- what a trace says of labels, of sections and of the end, while the thread goes on
 pub record IsTraceOf (labels : ℕ) (items : List TraceItem) (section : Option ℕ) : Type 0 where
@@ -141,6 +141,16 @@ begun_trace a b old new h t = elim h [
   | inl p ↦ rw p.new_is (one_more (labels_in old.plan) old.trace old.section old.section (PausedItem old.pause) t (tt {0}) refl (tt {0}))
   | inr s ↦ rw s.standing t
 ]
+
+-- a going worker's trace has no end, and its open section is the one that the trace has open
+pub going_trace : (w : Runner) → IsSound w false → HasNoEnd (standing_of w false)
+going_trace w sound = record { no_end = sound.no_end refl; held = open-bare None w.section w.trace.items sound.sections }
+
+-- and so it is after the pause
+pub begun_going : (a b : Account) (w : Runner) (old between : Standing) → IsSound w false → standing_of w false ≡ old → Begins a b old between → HasNoEnd between
+begun_going a b w old between sound is begins =
+    let t = begun_trace a b (standing_of w false) between (subst (λ o. Begins a b o between) (sym is) begins) (trace_of w sound) in
+    record { no_end = t.no_end; held = open-bare None between.section between.trace t.sections }
 
 pub sound_behind : (a b : Account) (w new : Runner) → IsSound w false → w.owed ≡ None → (step : Step) → Steps a b (standing_of w false) (standing_of new (is_end step)) step
     → GoesOnAfter new step → IsSound new (is_end step)

@@ -3,7 +3,7 @@ use Rattle.std.specs.Prelude.{◌≡◌, ℕ, ◌+◌, ◌==◌, List, [], ◌�
 use Rattle.std.specs.List.{sum_by}
 use Rattle.jm_base.specs.declared.types.End.{End}
 use Rattle.jm_meaning.specs.declared.item.Item.{Item}
-use Rattle.jm_meaning.specs.declared.item.Item.TheVariants.{Entered as EnteredBare, Left as LeftBare}
+use Rattle.jm_meaning.specs.declared.item.Item.TheVariants.{Paused as PausedBare, Sampled as SampledBare, Null as NullBare, Entered as EnteredBare, Left as LeftBare, Ended as EndedBare}
 use Rattle.thread_machine.specs.declared.trace.TraceItem.{TraceItem}
 use Rattle.thread_machine.specs.declared.trace.TraceItem.TheVariants.{Paused, Sampled, Null, Entered, Left, Ended}
 
@@ -42,6 +42,15 @@ IsNoEnd (Null sampler) = Unit {0}
 IsNoEnd (Entered lock place) = Unit {0}
 IsNoEnd (Left lock) = Unit {0}
 IsNoEnd (Ended end) = ⊥
+
+-- the same of a bare trace
+abbrev pub IsBareNoEnd : Item → Type 0
+IsBareNoEnd (PausedBare ms) = Unit {0}
+IsBareNoEnd (SampledBare sample) = Unit {0}
+IsBareNoEnd (NullBare sampler) = Unit {0}
+IsBareNoEnd (EnteredBare lock) = Unit {0}
+IsBareNoEnd (LeftBare lock) = Unit {0}
+IsBareNoEnd (EndedBare end) = ⊥
 
 -- how many sections a trace has
 abbrev pub one_if_section : TraceItem → ℕ

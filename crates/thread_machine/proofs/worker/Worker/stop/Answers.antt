@@ -2,8 +2,7 @@ use Rattle.std.proofs.Common.{◌≡◌, ◌≤◌, ◌++◌, ◌∷◌, [], Non
 use Rattle.jm_base.specs.declared.types.End.TheVariants.{Stopped}
 use Rattle.thread_machine.specs.Inside.{standing_of, IsSound}
 use Rattle.thread_machine.proofs.Ends.{was_stopped}
-use Rattle.thread_machine.proofs.SectionLaws.{open-bare}
-use Rattle.thread_machine.proofs.Sound.{sound_off, trace_of}
+use Rattle.thread_machine.proofs.Sound.{going_trace, sound_off, trace_of}
 use Rattle.thread_machine.proofs.worker.Worker.stop.Goals as goal
 
 pub cut-requires : goal.cut-requires
@@ -30,7 +29,6 @@ returns-clause-follows c =
     let going : c.self.inside.ended ≡ false = ap (λ s. s.ended) c.self.view_is ∙ c.requires.going in
     let owed = ap (λ s. s.owed) c.self.view_is ∙ c.requires.owed in
     let entering = ap (λ s. s.entering) c.self.view_is ∙ c.requires.entering in
-    let sound : IsSound c.self.inside.runner false = rw going at c.self.invariant in
     rw (← c.self.view_is, going)
     (λ start now options stands. was_stopped start now options (standing_of c.self.inside.runner false) c.cut.new.self.trace.items owed entering
-    (open-bare None c.self.inside.runner.section c.self.inside.runner.trace.items sound.sections) (sound.no_end refl) c.cut.ensures.items stands)
+    (going_trace c.self.inside.runner (rw going at c.self.invariant)) c.cut.ensures.items stands)
