@@ -16,7 +16,7 @@ use Rattle.element_tree.specs.Tree.{Tree, threads_of}
 use Rattle.interval_tables.specs.declared.report.Report.{Report}
 use Rattle.outside_world.specs.Tickers.{Ticks, with_period}
 use Rattle.thread_machine.specs.declared.trace.TraceItem.{TraceItem}
-use Rattle.reporter_loop.specs.Ticked.{HasTickedWhere}
+use Rattle.reporter_loop.specs.Ticked.{HasTickedWhere, TickedSoFar}
 use Rattle.run_engine.specs.Served.{AreServed}
 use Rattle.run_engine.specs.Stops.{StopHasCause}
 use Rattle.command_words.specs.CommandGrammar.{Word, Given, is_word, given_for, value_of}
@@ -33,7 +33,7 @@ use Rattle.jm_command.specs.declared.status.Status.{Status}
 use Rattle.jm_command.specs.declared.status.Status.TheVariants.{Done, Usage, Refused, ReadFault, WriteFault, Memory}
 use Rattle.jm_command.specs.Command.{Edges, edges, Accepts, Says, SaysUnplanned, NoRise, status_for, number_of}
 use Rattle.jm_command.specs.Parts.{sinks, TextsSay}
-use Rattle.jm_command.specs.Started.{Around, before_last, IsHistory, run_results, run_reports, run_tail, all_whole, RunPrints, RunStarts, StartSays, sinks_of}
+use Rattle.jm_command.specs.Started.{Around, before_last, IsHistory, run_results, run_reports, run_tail, all_whole, RunPrints, HasTickedSoFar, IsLeftAlone, RunStarts, StartSays, sinks_of}
 use Rattle.jm_command.proofs.ProgramLaws.{samples_fit, accepts_beside, nothing_at_start, cut_at_start}
 use Rattle.jm_command.proofs.ExactLaws.{exactly, plan_status, refuses_status}
 
@@ -72,7 +72,7 @@ module _ (r : RunOf) (plan : Tree) (ticks : Option Ticks) (after : Around) (trac
     | inl f ↦ inr (inl (record {
       traces = traces;
       total = total;
-      ran = record { reports = reports; history = history; reports_out = subst (λ b. Appends old b (run_reports plan reports)) (sym f.nothing.reports) out };
+      ran = record { reports = reports; history = history; reports_out = subst (λ b. Appends old b (run_reports plan reports)) (sym f.nothing.reports) out; ticked = ticked };
       prefix = f.some;
       rose = f.rose;
       report_calm = f.nothing.report_faults ∙ calm;
@@ -81,7 +81,7 @@ module _ (r : RunOf) (plan : Tree) (ticks : Option Ticks) (after : Around) (trac
       traces = traces;
       total = total;
       between = between;
-      ran = record { reports = reports; history = history; reports_out = out };
+      ran = record { reports = reports; history = history; reports_out = out; ticked = ticked };
       results_out = f.results_out;
       prefix = f.some;
       rose = subst (λ n. Rose n told'') calm f.rose;
@@ -92,7 +92,7 @@ module _ (r : RunOf) (plan : Tree) (ticks : Option Ticks) (after : Around) (trac
     | inl c ↦ inr (inl (record {
       traces = traces;
       total = total;
-      ran = record { reports = reports; history = history; reports_out = subst (λ b. Appends old b (run_reports plan reports)) (sym c.nothing.reports) out };
+      ran = record { reports = reports; history = history; reports_out = subst (λ b. Appends old b (run_reports plan reports)) (sym c.nothing.reports) out; ticked = ticked };
       part = c.part;
       result_calm = c.calm;
       report_calm = c.nothing.report_faults ∙ calm;
@@ -101,7 +101,7 @@ module _ (r : RunOf) (plan : Tree) (ticks : Option Ticks) (after : Around) (trac
       traces = traces;
       total = total;
       between = between;
-      ran = record { reports = reports; history = history; reports_out = out };
+      ran = record { reports = reports; history = history; reports_out = out; ticked = ticked };
       results_out = c.results_out;
       part = c.part;
       result_calm = c.result_calm;
@@ -115,6 +115,11 @@ pub ticked_reports : (closed : List Report) (last : Report) (n ms : ℕ) (before
 ticked_reports closed last n ms before between after count set ticked =
     let many : n ≡ length (closed ++ last ∷ []) - 1 = omega (arith, count, length-append closed (last ∷ [])) in
     subst (λ k. HasTickedWhere k (option_map (with_period ms) before) after) many (subst (λ t. HasTickedWhere n t after) set ticked)
+
+-- the ticker was set, and was asked no more than it could be
+pub ticked_so_far : (r : RunOf) (before between : Option Ticks) (after : Around) → between ≡ option_map (with_period r.every) before
+    → (n : ℕ) × (n ≤ 16777216) × TickedSoFar n between after.ticks → HasTickedSoFar r before after
+ticked_so_far r before between after set ticked = subst (λ t. (n : ℕ) × (n ≤ 16777216) × TickedSoFar n t after.ticks) set ticked
 
 -- what was stopped before the last report
 pub stopped_before : (limit : ℕ) (traces : List (List TraceItem)) (closed : List Report) (last : Report) → StopHasCause limit traces closed → StopHasCause limit traces (before_last (closed ++ last ∷ []))
@@ -137,19 +142,19 @@ run_says r ticks after old new plan accepts calm WriteFault s = inr (record { pl
 run_says r ticks after old new plan accepts calm Memory s = inr (record { plan = plan; accepts = accepts; read_calm = calm; prints = s })
 
 -- what is said where there is no plan
-pub unplanned_start : (r : RunOf) (ticks : Option Ticks) (after : Around) (old new : Edges) (status : Status) → SaysUnplanned (Run r) old new status → RunStarts r ticks after old new status
-unplanned_start r ticks after old new Done s = absurd s
-unplanned_start r ticks after old new Usage s = absurd s
-unplanned_start r ticks after old new Refused s = s
-unplanned_start r ticks after old new ReadFault s = s
-unplanned_start r ticks after old new WriteFault s = inl s
-unplanned_start r ticks after old new Memory s = inl s
+pub unplanned_start : (r : RunOf) (ticks : Option Ticks) (after : Around) (old new : Edges) → IsLeftAlone ticks after → (status : Status) → SaysUnplanned (Run r) old new status → RunStarts r ticks after old new status
+unplanned_start r ticks after old new alone Done s = absurd s
+unplanned_start r ticks after old new alone Usage s = absurd s
+unplanned_start r ticks after old new alone Refused s = (s, alone)
+unplanned_start r ticks after old new alone ReadFault s = (s, alone)
+unplanned_start r ticks after old new alone WriteFault s = inl (s, alone)
+unplanned_start r ticks after old new alone Memory s = inl (s, alone)
 
 -- the same of a command that is this run
-pub run_unplanned : (command : Command) (r : RunOf) → command ≡ Run r → (ticks : Option Ticks) (after : Around) (old new : Edges) (status : Status) → SaysUnplanned command old new status
+pub run_unplanned : (command : Command) (r : RunOf) → command ≡ Run r → (ticks : Option Ticks) (after : Around) (old new : Edges) → IsLeftAlone ticks after → (status : Status) → SaysUnplanned command old new status
     → RunStarts r ticks after old new status
-run_unplanned command r is ticks after old new status s =
-    unplanned_start r ticks after old new status (subst (λ c. SaysUnplanned c old new status) is s)
+run_unplanned command r is ticks after old new alone status s =
+    unplanned_start r ticks after old new alone status (subst (λ c. SaysUnplanned c old new status) is s)
 
 -- all threads of a plan that is accepted can have the samples
 pub run_fits : (command : Command) (r : RunOf) (old new : Edges) (plan : Tree) → command ≡ Run r → Accepts command old new plan → length (threads_of plan) * r.samples ≤ 4194304
@@ -171,13 +176,13 @@ run_printed left left' read read' results results' written written' old between 
     (subst (λ o. RunPrints r plan ticks after (sinks results written o told') (sinks results' written' new told'') status) calm.1 s))
 
 -- memory ran out before anything was read or printed
-pub cut_start : (words : Option Command) (ticks : Option Ticks) (after : Around) (e : Edges) → StartSays words ticks after e e Memory
-cut_start None ticks after e = cut_at_start None e
-cut_start (Some Check) ticks after e = cut_at_start (Some Check) e
-cut_start (Some (Make m)) ticks after e = cut_at_start (Some (Make m)) e
-cut_start (Some (Solo o)) ticks after e = cut_at_start (Some (Solo o)) e
-cut_start (Some (Weave w)) ticks after e = cut_at_start (Some (Weave w)) e
-cut_start (Some (Run r)) ticks after e = inl (nothing_at_start e)
+pub cut_start : (words : Option Command) (ticks : Option Ticks) (after : Around) (e : Edges) → IsLeftAlone ticks after → StartSays words ticks after e e Memory
+cut_start None ticks after e alone = (cut_at_start None e, alone)
+cut_start (Some Check) ticks after e alone = (cut_at_start (Some Check) e, alone)
+cut_start (Some (Make m)) ticks after e alone = (cut_at_start (Some (Make m)) e, alone)
+cut_start (Some (Solo o)) ticks after e alone = (cut_at_start (Some (Solo o)) e, alone)
+cut_start (Some (Weave w)) ticks after e alone = (cut_at_start (Some (Weave w)) e, alone)
+cut_start (Some (Run r)) ticks after e alone = inl (nothing_at_start e, alone)
 
 -- no outside was opened
 pub none_served : (opened closed : List ℕ) → opened ≡ [] → (n : ℕ) × AreServed n opened closed closed
@@ -228,24 +233,24 @@ not_run : (words : List Word) (r : RunOf) → names_run words ≡ false → comm
 not_run words r other is = let both : true ≡ false = sym (run_is_named words r is) ∙ other in cc
 
 -- what a plain command says is said of a start
-pub plain_start : (words : List Word) (ticks : Option Ticks) (after : Around) (old new : Edges) → names_run words ≡ false → (c : Option Command) → command_of words ≡ c
+pub plain_start : (words : List Word) (ticks : Option Ticks) (after : Around) (old new : Edges) → IsLeftAlone ticks after → names_run words ≡ false → (c : Option Command) → command_of words ≡ c
     → (status : Status) → Says c old new status → StartSays c ticks after old new status
-plain_start words ticks after old new other None is status s = s
-plain_start words ticks after old new other (Some Check) is status s = s
-plain_start words ticks after old new other (Some (Make m)) is status s = s
-plain_start words ticks after old new other (Some (Solo o)) is status s = s
-plain_start words ticks after old new other (Some (Weave w)) is status s = s
-plain_start words ticks after old new other (Some (Run r)) is status s = absurd (not_run words r other is)
+plain_start words ticks after old new alone other None is status s = (s, alone)
+plain_start words ticks after old new alone other (Some Check) is status s = (s, alone)
+plain_start words ticks after old new alone other (Some (Make m)) is status s = (s, alone)
+plain_start words ticks after old new alone other (Some (Solo o)) is status s = (s, alone)
+plain_start words ticks after old new alone other (Some (Weave w)) is status s = (s, alone)
+plain_start words ticks after old new alone other (Some (Run r)) is status s = absurd (not_run words r other is)
 
 -- with no fault the words and the bytes alone decide the status
 module _ (old new : Edges) (bytes : List ℕ) (told : old.left ≡ Some bytes) (calm : NoRise old new) (ticks : Option Ticks) (after : Around) where
   pub run_exactly : (r : RunOf) (status : Status) → RunStarts r ticks after old new status → (number_of status ≡ status_for (Some (Run r)) bytes) ⊎ (number_of status ≡ 7)
   run_exactly r Done s = inl (sym (plan_status old new bytes told calm (Run r) s.plan s.accepts))
   run_exactly r Usage s = absurd s
-  run_exactly r Refused s = inl (sym (refuses_status old new bytes told calm (Run r) s.refusal s.refuses))
-  run_exactly r ReadFault s = absurd (calm.source s.rose)
+  run_exactly r Refused s = inl (sym (refuses_status old new bytes told calm (Run r) s.0.refusal s.0.refuses))
+  run_exactly r ReadFault s = absurd (calm.source s.0.rose)
   run_exactly r WriteFault s = elim s [
-    | inl f ↦ absurd (calm.reports f.2.rose)
+    | inl f ↦ absurd (calm.reports f.0.2.rose)
     | inr f ↦ elim f.prints [
       | inl p ↦ absurd (calm.reports p.rose)
       | inr q ↦ elim q [ inl p ↦ absurd (calm.results p.rose) | inr p ↦ absurd (calm.reports p.rose) ]
@@ -254,9 +259,9 @@ module _ (old new : Edges) (bytes : List ℕ) (told : old.left ≡ Some bytes) (
   run_exactly r Memory s = inr refl
 
   pub start_exactly : (c : Option Command) (status : Status) → StartSays c ticks after old new status → (number_of status ≡ status_for c bytes) ⊎ (number_of status ≡ 7)
-  start_exactly None status s = exactly old new bytes told calm None status s
-  start_exactly (Some Check) status s = exactly old new bytes told calm (Some Check) status s
-  start_exactly (Some (Make m)) status s = exactly old new bytes told calm (Some (Make m)) status s
-  start_exactly (Some (Solo o)) status s = exactly old new bytes told calm (Some (Solo o)) status s
-  start_exactly (Some (Weave w)) status s = exactly old new bytes told calm (Some (Weave w)) status s
+  start_exactly None status s = exactly old new bytes told calm None status s.0
+  start_exactly (Some Check) status s = exactly old new bytes told calm (Some Check) status s.0
+  start_exactly (Some (Make m)) status s = exactly old new bytes told calm (Some (Make m)) status s.0
+  start_exactly (Some (Solo o)) status s = exactly old new bytes told calm (Some (Solo o)) status s.0
+  start_exactly (Some (Weave w)) status s = exactly old new bytes told calm (Some (Weave w)) status s.0
   start_exactly (Some (Run r)) status s = run_exactly r status s

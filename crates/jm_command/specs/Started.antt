@@ -1,5 +1,5 @@
 -- What a run with threads comes to.
-use Rattle.std.specs.Prelude.{◌≡◌, ◌⊎◌, ℕ, ◌-◌, Bool, true, List, ◌++◌, length, take, Option, Some, None, option_map}
+use Rattle.std.specs.Prelude.{◌≡◌, ◌⊎◌, ℕ, ◌-◌, ◌≤◌, Bool, true, List, [], ◌++◌, length, take, Option, Some, None, option_map}
 use Rattle.std.specs.Option.{option_map_or}
 use Rattle.std.specs.List.{list_all, range_with_len}
 use Rattle.std.specs.Io.KnownBytes.{Appends}
@@ -19,7 +19,7 @@ use Rattle.output_lines.specs.Reports.{report_text, summary_text}
 use Rattle.thread_machine.specs.declared.trace.TraceItem.{TraceItem}
 use Rattle.trace_output.specs.Texts.{traces_text, end_of, ends_text}
 use Rattle.reporter_loop.specs.ReportsWritten.{texts_of, WritesPrefix}
-use Rattle.reporter_loop.specs.Ticked.{HasTickedWhere}
+use Rattle.reporter_loop.specs.Ticked.{HasTickedWhere, TickedSoFar}
 use Rattle.run_engine.specs.Followed.{AllFollow}
 use Rattle.run_engine.specs.Joins.{AllEnd}
 use Rattle.run_engine.specs.Keeps.{all_entries}
@@ -65,6 +65,14 @@ pub record Around : Type 0 where
 abbrev pub around : Bool → List ℕ → (ℕ → Option (List Heard)) → Option Ticks → Around
 around tells opened told ticks = record { tells = tells; opened = opened; told = told; ticks = ticks }
 
+-- no outside was opened, and the ticker was left alone
+abbrev pub IsLeftAlone : Option Ticks → Around → Type 0
+IsLeftAlone ticks after = (after.opened ≡ []) × (after.ticks ≡ ticks)
+
+-- the ticker was set to the period that was asked for, and then gave that many true answers
+abbrev pub HasTickedInAll : RunOf → ℕ → Option Ticks → Around → Type 0
+HasTickedInAll r trues ticks after = HasTickedWhere trues (option_map (with_period r.every) ticks) after.ticks
+
 -- the reports before the last
 abbrev pub before_last : List Report → List Report
 before_last reports = take (length reports - 1) reports
@@ -92,11 +100,12 @@ all_whole traces = list_all is_whole_trace traces
 
 -- ---- printing while the threads run, and after them
 
--- the threads have run: what they did, and their reports in the sink up to here
-pub record HasRun (r : RunOf) (plan : Tree) (after : Around) (traces : List (List TraceItem)) (total : Report) (old between : Option (List ℕ)) : Type 0 where
+-- the threads have run: what they did, and their reports in the sink up to here, one for each true answer of the ticker and the last
+pub record HasRun (r : RunOf) (plan : Tree) (ticks : Option Ticks) (after : Around) (traces : List (List TraceItem)) (total : Report) (old between : Option (List ℕ)) : Type 0 where
   pub reports : List Report
   pub history : IsHistory r plan after traces reports total
   pub reports_out : Appends old between (run_reports plan reports)
+  pub ticked : HasTickedInAll r (length reports - 1) ticks after
 
 -- All is printed, of one history: the results hold the header and the result lines; the reports hold the reports, the summary and
 -- the end lines. The ticker was set to the period that was asked for, and gave as many true answers as there are reports before
@@ -109,32 +118,37 @@ pub record AllPrinted (r : RunOf) (plan : Tree) (ticks : Option Ticks) (after : 
   pub whole : all_whole traces ≡ true
   pub results_out : Appends old.results new.results (run_results plan traces)
   pub reports_out : Appends old.reports new.reports (run_reports plan reports ++ run_tail plan total traces)
-  pub ticked : HasTickedWhere (length reports - 1) (option_map (with_period r.every) ticks) after.ticks
+  pub ticked : HasTickedInAll r (length reports - 1) ticks after
   pub result_calm : new.result_faults ≡ old.result_faults
   pub report_calm : new.report_faults ≡ old.report_faults
 
+-- the ticker was set to the period that was asked for, and gave at most 16,777,216 true answers
+abbrev pub HasTickedSoFar : RunOf → Option Ticks → Around → Type 0
+HasTickedSoFar r ticks after = (n : ℕ) × (n ≤ 16777216) × TickedSoFar n (option_map (with_period r.every) ticks) after.ticks
+
 -- A sink has failed while the threads ran: the reports hold a prefix of the lines of reports that are numbered from 0, and the
 -- results nothing.
-pub record RunFailed (plan : Tree) (old new : Sinks) : Type 0 where
+pub record RunFailed (r : RunOf) (plan : Tree) (ticks : Option Ticks) (after : Around) (old new : Sinks) : Type 0 where
   pub begun : WritesPrefix (report_text plan) old.reports new.reports
+  pub ticked : HasTickedSoFar r ticks after
   pub rose : Rose old.report_faults new.report_faults
   pub nothing : NoResults old new
 
 -- A sink has failed after them: a prefix of the results is out, and the summary was not begun; or the results and a prefix of the
 -- summary and the end lines are out.
-pub record RunResultsFailed (r : RunOf) (plan : Tree) (after : Around) (old new : Sinks) : Type 0 where
+pub record RunResultsFailed (r : RunOf) (plan : Tree) (ticks : Option Ticks) (after : Around) (old new : Sinks) : Type 0 where
   pub traces : List (List TraceItem)
   pub total : Report
-  pub ran : HasRun r plan after traces total old.reports new.reports
+  pub ran : HasRun r plan ticks after traces total old.reports new.reports
   pub prefix : AppendsProperPrefix old.results new.results (run_results plan traces)
   pub rose : Rose old.result_faults new.result_faults
   pub report_calm : new.report_faults ≡ old.report_faults
 
-pub record TailFailed (r : RunOf) (plan : Tree) (after : Around) (old new : Sinks) : Type 0 where
+pub record TailFailed (r : RunOf) (plan : Tree) (ticks : Option Ticks) (after : Around) (old new : Sinks) : Type 0 where
   pub traces : List (List TraceItem)
   pub total : Report
   pub between : Option (List ℕ)
-  pub ran : HasRun r plan after traces total old.reports between
+  pub ran : HasRun r plan ticks after traces total old.reports between
   pub results_out : Appends old.results new.results (run_results plan traces)
   pub prefix : AppendsProperPrefix between new.reports (run_tail plan total traces)
   pub rose : Rose old.report_faults new.report_faults
@@ -142,24 +156,25 @@ pub record TailFailed (r : RunOf) (plan : Tree) (after : Around) (old new : Sink
 
 -- Memory ran out, and no sink has failed: the same, where a prefix may be all. All is printed where a thread was cut short and
 -- memory sufficed after it.
-pub record RunCut (plan : Tree) (old new : Sinks) : Type 0 where
+pub record RunCut (r : RunOf) (plan : Tree) (ticks : Option Ticks) (after : Around) (old new : Sinks) : Type 0 where
   pub begun : WritesPrefix (report_text plan) old.reports new.reports
+  pub ticked : HasTickedSoFar r ticks after
   pub report_calm : new.report_faults ≡ old.report_faults
   pub nothing : NoResults old new
 
-pub record RunResultsCut (r : RunOf) (plan : Tree) (after : Around) (old new : Sinks) : Type 0 where
+pub record RunResultsCut (r : RunOf) (plan : Tree) (ticks : Option Ticks) (after : Around) (old new : Sinks) : Type 0 where
   pub traces : List (List TraceItem)
   pub total : Report
-  pub ran : HasRun r plan after traces total old.reports new.reports
+  pub ran : HasRun r plan ticks after traces total old.reports new.reports
   pub part : AppendsPart old.results new.results (run_results plan traces)
   pub result_calm : new.result_faults ≡ old.result_faults
   pub report_calm : new.report_faults ≡ old.report_faults
 
-pub record TailCut (r : RunOf) (plan : Tree) (after : Around) (old new : Sinks) : Type 0 where
+pub record TailCut (r : RunOf) (plan : Tree) (ticks : Option Ticks) (after : Around) (old new : Sinks) : Type 0 where
   pub traces : List (List TraceItem)
   pub total : Report
   pub between : Option (List ℕ)
-  pub ran : HasRun r plan after traces total old.reports between
+  pub ran : HasRun r plan ticks after traces total old.reports between
   pub results_out : Appends old.results new.results (run_results plan traces)
   pub part : AppendsPart between new.reports (run_tail plan total traces)
   pub result_calm : new.result_faults ≡ old.result_faults
@@ -171,8 +186,8 @@ RunPrints r plan ticks after old new statuses.Done = AllPrinted r plan ticks aft
 RunPrints r plan ticks after old new statuses.Usage = ⊥
 RunPrints r plan ticks after old new statuses.Refused = ⊥
 RunPrints r plan ticks after old new statuses.ReadFault = ⊥
-RunPrints r plan ticks after old new statuses.WriteFault = RunFailed plan old new ⊎ (RunResultsFailed r plan after old new ⊎ TailFailed r plan after old new)
-RunPrints r plan ticks after old new statuses.Memory = RunCut plan old new ⊎ (RunResultsCut r plan after old new ⊎ TailCut r plan after old new)
+RunPrints r plan ticks after old new statuses.WriteFault = RunFailed r plan ticks after old new ⊎ (RunResultsFailed r plan ticks after old new ⊎ TailFailed r plan ticks after old new)
+RunPrints r plan ticks after old new statuses.Memory = RunCut r plan ticks after old new ⊎ (RunResultsCut r plan ticks after old new ⊎ TailCut r plan ticks after old new)
 
 -- ---- the statuses of a start
 
@@ -188,22 +203,24 @@ pub record RunSays (r : RunOf) (ticks : Option Ticks) (after : Around) (old new 
 
 -- What a status says of a run.
 -- 0: all is printed. 3, 4: as of a plain command. 5: a line of a refusal is not out whole, or what is printed of the run.
--- 7: nothing is printed, or a prefix of what is printed of the run.
+-- 7: nothing is printed, or a prefix of what is printed of the run. Where the threads were not started the world and the ticker
+-- were left alone.
 abbrev pub RunStarts : RunOf → Option Ticks → Around → Edges → Edges → Status → Type 0
 RunStarts r ticks after old new statuses.Done = RunSays r ticks after old new statuses.Done
 RunStarts r ticks after old new statuses.Usage = ⊥
-RunStarts r ticks after old new statuses.Refused = IsRefusal (Run r) old new
-RunStarts r ticks after old new statuses.ReadFault = IsUnread (Run r) old new
-RunStarts r ticks after old new statuses.WriteFault = RefusalUnwritten (Run r) old new ⊎ RunSays r ticks after old new statuses.WriteFault
-RunStarts r ticks after old new statuses.Memory = NothingPrinted old new ⊎ RunSays r ticks after old new statuses.Memory
+RunStarts r ticks after old new statuses.Refused = IsRefusal (Run r) old new × IsLeftAlone ticks after
+RunStarts r ticks after old new statuses.ReadFault = IsUnread (Run r) old new × IsLeftAlone ticks after
+RunStarts r ticks after old new statuses.WriteFault = (RefusalUnwritten (Run r) old new × IsLeftAlone ticks after) ⊎ RunSays r ticks after old new statuses.WriteFault
+RunStarts r ticks after old new statuses.Memory = (NothingPrinted old new × IsLeftAlone ticks after) ⊎ RunSays r ticks after old new statuses.Memory
 
--- What a status says of a start whose words are this command, or none: of a plain command what it says there.
+-- What a status says of a start whose words are this command, or none: of a plain command what it says there, and then the world and
+-- the ticker were left alone.
 abbrev pub StartSays : Option Command → Option Ticks → Around → Edges → Edges → Status → Type 0
-StartSays None ticks after old new status = Says None old new status
-StartSays (Some Check) ticks after old new status = Says (Some Check) old new status
-StartSays (Some (Make m)) ticks after old new status = Says (Some (Make m)) old new status
-StartSays (Some (Solo s)) ticks after old new status = Says (Some (Solo s)) old new status
-StartSays (Some (Weave w)) ticks after old new status = Says (Some (Weave w)) old new status
+StartSays None ticks after old new status = Says None old new status × IsLeftAlone ticks after
+StartSays (Some Check) ticks after old new status = Says (Some Check) old new status × IsLeftAlone ticks after
+StartSays (Some (Make m)) ticks after old new status = Says (Some (Make m)) old new status × IsLeftAlone ticks after
+StartSays (Some (Solo s)) ticks after old new status = Says (Some (Solo s)) old new status × IsLeftAlone ticks after
+StartSays (Some (Weave w)) ticks after old new status = Says (Some (Weave w)) old new status × IsLeftAlone ticks after
 StartSays (Some (Run r)) ticks after old new status = RunStarts r ticks after old new status
 
 -- What the exit status of a start says, by its number. With no fault and no pattern too large the words and the bytes alone

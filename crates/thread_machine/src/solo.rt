@@ -1,6 +1,6 @@
 // One thread of a plan from its start to its end, where no one counts its samples.
 
-ghost use Rattle.std.specs.Prelude.{◌≡◌, ◌<◌, ◌≤◌, ◌+◌, ◌^◌, [], All, length, replicate, slice_index, slice_set, IfOk, false, None};
+ghost use Rattle.std.specs.Prelude.{◌≡◌, ◌<◌, ◌≤◌, ◌+◌, ◌^◌, [], All, length, replicate, slice_index, slice_set, IfOk, OnErr, false, None};
 ghost use Rattle.element_tree.specs.Tree.{threads_of};
 ghost use Rattle.element_tree.specs.Names.{labels_of, locks_of};
 ghost use Rattle.jm_base.specs.Outside.{Account};
@@ -28,7 +28,7 @@ pub struct FinishedThread {
 
 /// Runs a thread of the plan over an outside that has told nothing, from its start to its end. Every sample is counted in
 /// interval 0, and the sections of each lock are numbered from 0. `seed` is that of the run's random words, and `budget` is
-/// how many units the thread's samplers, transactions and sections may use.
+/// how many units the thread's samplers, transactions and sections may use. It refuses only before the thread's first step.
 pub fn run_alone<O: Outside>(
     alloc: Global,
     plan: &Plan,
@@ -45,6 +45,9 @@ pub fn run_alone<O: Outside>(
     ensures intervals { IfOk result (λ solo. All (IsCountedIn 0) solo.trace.items) }
     ensures count { IfOk result (λ solo. samples_in solo.trace.items + sections_in solo.trace.items ≤ budget) }
     ensures places { IfOk result (λ solo. PlacedAfter [] solo.trace.items) }
+
+    // Out of memory before the first step, the outside was asked nothing.
+    ensures unasked { OnErr result (O.account outside.new ≡ O.account outside.old) }
 {
     let mut places = Vec::from_elem(alloc, 0u64, usize::from(plan.locks()))?;
     let mut worker = Worker::new(alloc, plan, thread, seed, props, budget)?;

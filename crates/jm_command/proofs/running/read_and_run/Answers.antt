@@ -15,4 +15,4 @@ returns-in-Ok-clause-says g c =
 
 pub returns-in-Err-clause-says : goal.returns-in-Err-clause-says
 returns-in-Err-clause-says g c =
-    run_unplanned c.args.command.now c.args.run.now c.requires.is _ _ _ _ c.in-Err.status (c.in-Err.ensures.unplanned _ _)
+    run_unplanned c.args.command.now c.args.run.now c.requires.is _ _ _ _ (c.requires.opened, refl) c.in-Err.status (c.in-Err.ensures.unplanned _ _)
