@@ -16,7 +16,7 @@ use Rattle.element_tree.specs.Tree.{Tree, threads_of}
 use Rattle.interval_tables.specs.declared.report.Report.{Report}
 use Rattle.outside_world.specs.Tickers.{Ticks, with_period}
 use Rattle.thread_machine.specs.declared.trace.TraceItem.{TraceItem}
-use Rattle.reporter_loop.specs.Ticked.{HasTickedWhere, TickedSoFar}
+use Rattle.reporter_loop.specs.Ticked.{HasTickedWhere}
 use Rattle.run_engine.specs.Served.{AreServed}
 use Rattle.run_engine.specs.Stops.{StopHasCause}
 use Rattle.command_words.specs.CommandGrammar.{Word, Given, is_word, given_for, value_of}
@@ -33,7 +33,7 @@ use Rattle.jm_command.specs.declared.status.Status.{Status}
 use Rattle.jm_command.specs.declared.status.Status.TheVariants.{Done, Usage, Refused, ReadFault, WriteFault, Memory}
 use Rattle.jm_command.specs.Command.{Edges, edges, Accepts, Says, SaysUnplanned, NoRise, status_for, number_of}
 use Rattle.jm_command.specs.Parts.{sinks, TextsSay}
-use Rattle.jm_command.specs.Started.{Around, before_last, IsHistory, run_results, run_reports, run_tail, all_whole, RunPrints, HasTickedSoFar, IsLeftAlone, RunStarts, StartSays, sinks_of}
+use Rattle.jm_command.specs.Started.{Around, before_last, IsHistory, run_results, run_reports, run_tail, all_whole, RunPrints, IsLeftAlone, RunStarts, StartSays, sinks_of}
 use Rattle.jm_command.proofs.ProgramLaws.{samples_fit, accepts_beside, nothing_at_start, cut_at_start}
 use Rattle.jm_command.proofs.ExactLaws.{exactly, plan_status, refuses_status}
 
@@ -115,11 +115,6 @@ pub ticked_reports : (closed : List Report) (last : Report) (n ms : ℕ) (before
 ticked_reports closed last n ms before between after count set ticked =
     let many : n ≡ length (closed ++ last ∷ []) - 1 = omega (arith, count, length-append closed (last ∷ [])) in
     subst (λ k. HasTickedWhere k (option_map (with_period ms) before) after) many (subst (λ t. HasTickedWhere n t after) set ticked)
-
--- the ticker was set, and was asked no more than it could be
-pub ticked_so_far : (r : RunOf) (before between : Option Ticks) (after : Around) → between ≡ option_map (with_period r.every) before
-    → (n : ℕ) × (n ≤ 16777216) × TickedSoFar n between after.ticks → HasTickedSoFar r before after
-ticked_so_far r before between after set ticked = subst (λ t. (n : ℕ) × (n ≤ 16777216) × TickedSoFar n t after.ticks) set ticked
 
 -- what was stopped before the last report
 pub stopped_before : (limit : ℕ) (traces : List (List TraceItem)) (closed : List Report) (last : Report) → StopHasCause limit traces closed → StopHasCause limit traces (before_last (closed ++ last ∷ []))

@@ -1,3 +1,4 @@
+use Rattle.std.proofs.Common.{refl}
 use Rattle.std.specs.Prelude.{None}
 use Rattle.jm_command.proofs.StartLaws.{run_fits, run_printed, run_unplanned}
 use Rattle.jm_command.proofs.running.read_and_run.Goals as goal

@@ -14,7 +14,7 @@ returns-then-not-names_run-clause-served g c = none_served _ _ c.requires.opened
 
 pub returns-in-Ok-None-clause-says : goal.returns-in-Ok-None-clause-says
 returns-in-Ok-None-clause-says g c =
-    rw (← c.in-Ok-None.ensures, c.in-Ok-None.field-0-is) (usage_said _ _ _ _ _ _ _ _ _ c.say.result c.say.ensures, c.requires.opened, refl)
+    rw (← c.in-Ok-None.ensures, c.in-Ok-None.field-0-is) (usage_said _ _ _ _ _ _ _ _ _ c.say.result c.say.ensures, (c.requires.opened, refl))
 
 pub returns-in-Err-clause-says : goal.returns-in-Err-clause-says
 returns-in-Err-clause-says g c = cut_start (command_of (map string_bytes c.args.words.now.items)) _ _ _ (c.requires.opened, refl)
