@@ -66,7 +66,14 @@ piece-stops old mid new before EndEarly r is_open kept stops =
     (open-comes old new before (receives-no-more old mid new before r stops.0) is_open, stops.1, stops.2 ∙ kept)
 piece-stops old mid new before StreamFault r is_open kept stops =
     (open-comes old new before (receives-no-more old mid new before r stops.0) is_open, subst (λ n. Rose n new.faults) kept stops.1)
-piece-stops old mid new before NoMemory r is_open kept stops = stops ∙ kept
+piece-stops old mid new before NoMemory r is_open kept stops = (
+  record {
+    got = before ++ stops.0;
+    received = receives-more old mid new before stops.0 r stops.1;
+    no_further = record { before = before; last = stops.0; joined = refl; unsettled = is_open };
+  },
+  stops.2 ∙ kept,
+)
 
 -- a refusal by the bytes is one of two
 IsRefusal : Answer → Type 0
@@ -102,7 +109,7 @@ stops-kept old new BadHead stops other = stops.1
 stops-kept old new TooLong stops other = stops.1
 stops-kept old new EndEarly stops other = stops.2
 stops-kept old new StreamFault stops other = absurd (other refl)
-stops-kept old new NoMemory stops other = stops
+stops-kept old new NoMemory stops other = stops.1
 
 -- the request stays what was received while its answer is sent
 pub requests-kept : (old mid new : Standing) (request : List ℕ) → Requests old mid request → Keeps mid.given new.given → Keeps mid.left new.left

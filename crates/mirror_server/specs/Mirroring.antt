@@ -32,6 +32,12 @@ pub record Comes (old new : Standing) (answer : Answer) : Type 0 where
   pub no_further : ReadsNoFurther got
   pub comes : Asks got answer
 
+-- Bytes were received, and no piece after one that settled what they come to.
+pub record ReceivesOn (old new : Standing) : Type 0 where
+  pub got : List ℕ
+  pub received : Receives old new got
+  pub no_further : ReadsNoFurther got
+
 -- the bytes received come to this request
 abbrev pub Requests : Standing → Standing → List ℕ → Type 0
 Requests old new request = (rest : List ℕ) × Comes old new (Whole request rest)
@@ -52,13 +58,13 @@ pub record TakesPiece (old new : Standing) (before got : List ℕ) : Type 0 wher
   pub joined : got ≡ before ++ piece
   pub received : Receives old new piece
 
--- why no piece was received
+-- why no piece was received, or out of memory none was added to the others
 abbrev pub StopsPiece : Standing → Standing → MirrorError → Type 0
 StopsPiece old new BadHead = ⊥
 StopsPiece old new TooLong = ⊥
 StopsPiece old new EndEarly = Receives old new [] × IsAtEnd new.left × (new.faults ≡ old.faults)
 StopsPiece old new StreamFault = Receives old new [] × Rose old.faults new.faults
-StopsPiece old new NoMemory = new.faults ≡ old.faults
+StopsPiece old new NoMemory = (piece : List ℕ) × Receives old new piece × (new.faults ≡ old.faults)
 
 -- why no request was received
 abbrev pub Stops : Standing → Standing → MirrorError → Type 0
@@ -66,4 +72,4 @@ Stops old new BadHead = Comes old new (Refused BadHead) × (new.faults ≡ old.f
 Stops old new TooLong = Comes old new (Refused TooLong) × (new.faults ≡ old.faults)
 Stops old new EndEarly = Comes old new Open × IsAtEnd new.left × (new.faults ≡ old.faults)
 Stops old new StreamFault = Comes old new Open × Rose old.faults new.faults
-Stops old new NoMemory = new.faults ≡ old.faults
+Stops old new NoMemory = ReceivesOn old new × (new.faults ≡ old.faults)

@@ -5,7 +5,7 @@ ghost use Rattle.std.specs.Io.KnownBytes.{IsAtEnd, Keeps};
 ghost use Rattle.jm_base.specs.FaultCounts.{Rose};
 ghost use Rattle.http_sampler.specs.Streams.{Standing};
 ghost use Rattle.mirror_server.specs.RequestGrammar.{Open, Refused, request_limit};
-ghost use Rattle.mirror_server.specs.Mirroring.{answer_text, Comes, Requests, Mirrors, Fails, TakesPiece, StopsPiece, Stops};
+ghost use Rattle.mirror_server.specs.Mirroring.{answer_text, Comes, ReceivesOn, Requests, Mirrors, Fails, TakesPiece, StopsPiece, Stops};
 
 use crate::error::MirrorError;
 use crate::look::{Progress, Seen, look};
@@ -123,6 +123,11 @@ pub fn serve_one<S: Stream>(alloc: Global, stream: &mut S) -> Result<u32, Mirror
     // A call failed: before the request was whole, or with a part of the answer to it not sent.
     ensures cause { IsErrOf result MirrorError.StreamFault → Rose (S.faults stream.old) (S.faults stream.new) }
     ensures fails { IsErrOf result MirrorError.StreamFault → Fails
+        (record { sent = S.sent stream.old; given = S.given stream.old; left = S.left stream.old; faults = S.faults stream.old })
+        (record { sent = S.sent stream.new; given = S.given stream.new; left = S.left stream.new; faults = S.faults stream.new }) }
+
+    // Out of memory no piece was received after one that settled what the bytes come to.
+    ensures memory { IsErrOf result MirrorError.NoMemory → ReceivesOn
         (record { sent = S.sent stream.old; given = S.given stream.old; left = S.left stream.old; faults = S.faults stream.old })
         (record { sent = S.sent stream.new; given = S.given stream.new; left = S.left stream.new; faults = S.faults stream.new }) }
 
