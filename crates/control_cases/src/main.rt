@@ -21,38 +21,52 @@ mod show;
 mod threads;
 
 use settings::Settings;
+use show::print_lines;
 use std::alloc::Global;
 
-/// What a case gave, or nothing where the line is a setting.
-fn given(
+/// Writes what a case gave, and nothing where the line is a setting.
+fn run(
     alloc: Global,
     settings: &mut Settings,
     word: &str,
     rest: &str,
-) -> anyhow::Result<Option<String>> {
-    let text = match word {
-        "run" => scenes::turns(alloc, settings, rest)?,
-        "script" => outsides::answers(alloc, settings, rest)?,
-        "solo" => threads::solo(alloc, settings, rest)?,
-        "worker" => threads::worker(alloc, settings, rest)?,
-        "moves" => threads::moves(alloc, settings, rest)?,
-        _ => {
-            settings.put(alloc, word, rest)?;
-            return Ok(None);
-        }
-    };
-    Ok(Some(text))
+    out: &mut String,
+) -> anyhow::Result<()> {
+    match word {
+        "run" => scenes::turns(alloc, settings, rest, out),
+        "script" => outsides::answers(alloc, settings, rest, out),
+        "solo" | "worker" | "moves" => threads::run(alloc, settings, word, rest, out),
+        _ => settings.put(alloc, word, rest),
+    }
+}
+
+/// Prints a line, and below it what it gave.
+fn answer(
+    rt: &impl Print,
+    alloc: Global,
+    settings: &mut Settings,
+    line: &str,
+) -> anyhow::Result<()> {
+    let (word, rest) = line.split_once(' ').unwrap_or((line, ""));
+    let mut given = String::new(alloc);
+    run(alloc, settings, word, rest, &mut given)?;
+    println!(rt; "{line}")?;
+    print_lines(rt, alloc, given.as_str())
+}
+
+/// Goes through the lines of the input.
+fn answer_all(
+    rt: &(impl Input + Print),
+    alloc: Global,
+    settings: &mut Settings,
+) -> anyhow::Result<()> {
+    for line in rt.lines(alloc) {
+        answer(rt, alloc, settings, line?.as_str())?;
+    }
+    Ok(())
 }
 
 fn main(rt: HostRuntime) -> anyhow::Result<()> {
     let mut settings = Settings::new(rt.alloc());
-    for line in rt.lines(rt.alloc()) {
-        let line = line?;
-        println!(rt; "{line}")?;
-        let (word, rest) = line.split_once(' ').unwrap_or((line.as_str(), ""));
-        if let Some(text) = given(rt.alloc(), &mut settings, word, rest)? {
-            println!(rt; "{text}")?;
-        }
-    }
-    Ok(())
+    answer_all(&rt, rt.alloc(), &mut settings)
 }

@@ -2,7 +2,7 @@
 
 use crate::scenes::plan_of;
 use crate::settings::Settings;
-use crate::show::{Lines, heard, outcome};
+use crate::show::{Came, write_heard};
 use jm_base::{M, NoMemory, Outcome, Outside, Request, Text};
 use outside_world::ScriptOutside;
 use std::alloc::Global;
@@ -75,14 +75,10 @@ fn request_of(alloc: Global, call: &str, text: &str) -> M<Request> {
     Ok(Request::Script(text))
 }
 
-fn ask(
-    alloc: Global,
-    outside: &mut ScriptOutside,
-    sampler: u16,
-    request: &Request,
-) -> anyhow::Result<String> {
-    let came = outside.ask(sampler, request)?;
-    outcome(alloc, &came)
+fn ask(outside: &mut ScriptOutside, sampler: u16, request: &Request, out: &mut String) -> M<()> {
+    let outcome = outside.ask(sampler, request)?;
+    write!(out, "= {}\n", Came(&outcome))?;
+    Ok(())
 }
 
 fn ask_text(
@@ -90,49 +86,68 @@ fn ask_text(
     outside: &mut ScriptOutside,
     call: &str,
     rest: &str,
-) -> anyhow::Result<String> {
+    out: &mut String,
+) -> anyhow::Result<()> {
     let (sampler, text) = rest.split_once(' ').unwrap_or((rest, ""));
     let sampler = sampler.parse::<u16>()?;
     let request = request_of(alloc, call, text)?;
-    ask(alloc, outside, sampler, &request)
+    ask(outside, sampler, &request, out)?;
+    Ok(())
 }
 
 // What a call gives: `now`, `pause MS`, `ask SAMPLER TEXT` or `ask-http SAMPLER TEXT`.
-fn answer(alloc: Global, outside: &mut ScriptOutside, call: &str) -> anyhow::Result<String> {
+fn write_answer(
+    alloc: Global,
+    outside: &mut ScriptOutside,
+    call: &str,
+    out: &mut String,
+) -> anyhow::Result<()> {
     let (word, rest) = call.split_once(' ').unwrap_or((call, ""));
     if word == "now" {
         let clock = outside.now()?;
-        return Ok(format!(in alloc; "= {clock}")?);
-    }
-    if word == "pause" {
+        write!(out, "= {clock}\n")?;
+    } else if word == "pause" {
         outside.pause(rest.parse::<u32>()?)?;
-        return Ok("= paused".to_string(alloc)?);
-    }
-    let came = ask_text(alloc, outside, word, rest)?;
-    Ok(format!(in alloc; "= {came}")?)
-}
-
-fn tell(alloc: Global, outside: &ScriptOutside, lines: &mut Lines) -> anyhow::Result<()> {
-    let Some(told) = outside.told(alloc)? else {
-        return lines.add(alloc, "tells nothing".to_string(alloc)?);
-    };
-    for one in &told {
-        let line = heard(alloc, one)?;
-        lines.add(alloc, line)?;
+        out.push_str("= paused\n")?;
+    } else {
+        ask_text(alloc, outside, word, rest, out)?;
     }
     Ok(())
 }
 
+fn tell(alloc: Global, outside: &ScriptOutside, out: &mut String) -> M<()> {
+    let Some(told) = outside.told(alloc)? else {
+        out.push_str("tells nothing\n")?;
+        return Ok(());
+    };
+    for heard in &told {
+        write_heard(heard, out)?;
+    }
+    Ok(())
+}
+
+fn write_answers(
+    alloc: Global,
+    outside: &mut ScriptOutside,
+    calls: &str,
+    out: &mut String,
+) -> anyhow::Result<()> {
+    for call in calls.split(", ") {
+        write_answer(alloc, outside, call, out)?;
+    }
+    tell(alloc, outside, out)?;
+    Ok(())
+}
+
 /// What a case `script` prints: the answers to its calls, and what the outside tells of them.
-pub fn answers(alloc: Global, settings: &Settings, rest: &str) -> anyhow::Result<String> {
+pub fn answers(
+    alloc: Global,
+    settings: &Settings,
+    rest: &str,
+    out: &mut String,
+) -> anyhow::Result<()> {
     let plan = plan_of(alloc, settings.text("plan"))?;
     let (keep, calls) = rest.split_once(' ').unwrap_or((rest, ""));
     let mut outside = ScriptOutside::new(alloc, &plan, keep == "told")?;
-    let mut lines = Lines::new(alloc);
-    for call in calls.split(", ") {
-        let line = answer(alloc, &mut outside, call)?;
-        lines.add(alloc, line)?;
-    }
-    tell(alloc, &outside, &mut lines)?;
-    lines.into_text(alloc)
+    write_answers(alloc, &mut outside, calls, out)
 }

@@ -8,7 +8,7 @@ use anyhow::bail;
 use element_tree::{BuildError, Plan, RegexPatterns, Turn, build};
 use jm_base::Text;
 use plan_json::{RawElement, TreeError, read_tree};
-use std::alloc::Global;
+use std::alloc::{AllocError, Global};
 use template_text::{Template, parse_template};
 use var_functions::{FnState, Props, UserState, Vars, expand};
 
@@ -39,48 +39,42 @@ pub fn props_of(alloc: Global, text: &str) -> anyhow::Result<Props> {
     Ok(props)
 }
 
-fn copied(alloc: Global, text: &str) -> anyhow::Result<String> {
-    Ok(text.to_string(alloc)?)
-}
-
-// A child: `timer`, a sampler that is disabled, `off`, or a sampler of this name.
-fn child(alloc: Global, word: &str) -> anyhow::Result<String> {
+// Writes a child: `timer`, a sampler that is disabled, `off`, or a sampler of this name.
+fn write_child(word: &str, out: &mut String) -> Result<(), AllocError> {
     match word {
-        "timer" => copied(alloc, r#"{"type":"ConstantTimer","props":{"delay":"5"}}"#),
-        "off" => copied(
-            alloc,
-            r#"{"type":"Script","enabled":false,"props":{"replies":[{}]}}"#,
-        ),
-        _ => Ok(format!(in alloc;
+        "timer" => out.push_str(r#"{"type":"ConstantTimer","props":{"delay":"5"}}"#),
+        "off" => out.push_str(r#"{"type":"Script","enabled":false,"props":{"replies":[{}]}}"#),
+        _ => write!(
+            out,
             "{{\"type\":\"Script\",\"name\":\"{word}\",\"props\":{{\"replies\":[{{}}]}}}}"
-        )?),
+        ),
     }
 }
 
-fn children(alloc: Global, words: &str) -> anyhow::Result<String> {
-    let mut text = String::new(alloc);
+fn write_children(words: &str, out: &mut String) -> Result<(), AllocError> {
+    let mut is_first = true;
     for word in words.split(' ') {
-        if word.is_empty() {
-            continue;
+        if !word.is_empty() {
+            if !is_first {
+                out.push_str(",")?;
+            }
+            write_child(word, out)?;
+            is_first = false;
         }
-        if !text.is_empty() {
-            text.push_str(",")?;
-        }
-        let one = child(alloc, word)?;
-        text.push_str(one.as_str())?;
     }
-    Ok(text)
+    Ok(())
 }
 
 // The plan of one controller, which is element 2 and named L.
 fn plan_with(alloc: Global, kind: &str, members: &str, words: &str) -> anyhow::Result<Plan> {
-    let children = children(alloc, words)?;
-    let controller = format!(in alloc;
-        "{{\"type\":\"{kind}\",\"name\":\"L\",\"props\":{{{members}}},\"children\":[{children}]}}"
+    let mut text = String::new(alloc);
+    text.push_str(r#"{"type":"TestPlan","children":[{"type":"ThreadGroup","children":["#)?;
+    write!(
+        text,
+        "{{\"type\":\"{kind}\",\"name\":\"L\",\"props\":{{{members}}},\"children\":["
     )?;
-    let text = format!(in alloc;
-        "{{\"type\":\"TestPlan\",\"children\":[{{\"type\":\"ThreadGroup\",\"children\":[{controller}]}}]}}"
-    )?;
+    write_children(words, &mut text)?;
+    text.push_str("]}]}]}")?;
     plan_of(alloc, text.as_str())
 }
 
@@ -166,32 +160,21 @@ fn expanded(alloc: Global, text: &str, state: &mut UserState) -> anyhow::Result<
     Ok(text)
 }
 
-// The place of a child, with what a template stands for then.
-fn child_text(
+// Writes the place of a child, with what a template stands for then.
+fn write_place(
     alloc: Global,
     shown: &str,
     place: u16,
     state: &mut UserState,
-) -> anyhow::Result<String> {
+    out: &mut String,
+) -> anyhow::Result<()> {
     if shown.is_empty() {
-        return Ok(format!(in alloc; " {place}")?);
+        write!(out, " {place}")?;
+    } else {
+        let value = expanded(alloc, shown, state)?;
+        write!(out, " {place}({})", plain(&value))?;
     }
-    let value = expanded(alloc, shown, state)?;
-    Ok(format!(in alloc; " {place}({})", plain(&value))?)
-}
-
-// A turn in words. The template of the setting `shown` is expanded after each child.
-fn turn_text(
-    alloc: Global,
-    settings: &Settings,
-    turn: Turn,
-    state: &mut UserState,
-) -> anyhow::Result<String> {
-    match turn {
-        Turn::Child(place) => child_text(alloc, settings.text("shown"), place, state),
-        Turn::Round => copied(alloc, " round"),
-        Turn::Over => copied(alloc, " over"),
-    }
+    Ok(())
 }
 
 // Begins a pass.
@@ -213,7 +196,7 @@ fn next_turn(alloc: Global, scene: &mut Scene, round: u64) -> anyhow::Result<Tur
     }
 }
 
-// Adds a turn in words. After a child the variables of the setting `after` are set.
+// Writes a turn. After a child the template of the setting `shown` is expanded, and the variables of the setting `after` are set.
 fn take_turn(
     alloc: Global,
     settings: &Settings,
@@ -221,10 +204,13 @@ fn take_turn(
     state: &mut UserState,
     out: &mut String,
 ) -> anyhow::Result<()> {
-    let text = turn_text(alloc, settings, turn, state)?;
-    out.push_str(text.as_str())?;
-    if let Turn::Child(_) = turn {
-        put_all(alloc, settings.text("after"), &mut state.vars)?;
+    match turn {
+        Turn::Child(place) => {
+            write_place(alloc, settings.text("shown"), place, state, out)?;
+            put_all(alloc, settings.text("after"), &mut state.vars)?;
+        }
+        Turn::Round => out.push_str(" round")?,
+        Turn::Over => out.push_str(" over")?,
     }
     Ok(())
 }
@@ -248,33 +234,46 @@ fn pass(
     Ok(())
 }
 
-// What the template of the setting `then` stands for after the passes, and the random word that is drawn then.
-fn rest_text(alloc: Global, settings: &Settings, state: &mut UserState) -> anyhow::Result<String> {
+// Writes what the template of the setting `then` stands for after the passes, and the random word that is drawn then.
+fn write_rest(
+    alloc: Global,
+    settings: &Settings,
+    state: &mut UserState,
+    out: &mut String,
+) -> anyhow::Result<()> {
     let then = settings.text("then");
     let word = state.fns.draw();
-    if then.is_empty() {
-        return Ok(format!(in alloc; ", next word {word}")?);
+    if !then.is_empty() {
+        let value = expanded(alloc, then, state)?;
+        write!(out, ", then '{}'", plain(&value))?;
     }
-    let value = expanded(alloc, then, state)?;
-    Ok(format!(in alloc; ", then '{}', next word {word}", plain(&value))?)
+    write!(out, ", next word {word}\n")?;
+    Ok(())
 }
 
-// The turns of each pass, or why there are no more, and what comes then.
-fn passes(alloc: Global, settings: &Settings, scene: &mut Scene) -> anyhow::Result<String> {
-    let mut out = String::from_str(alloc, "=")?;
+// Writes the turns of each pass, or why there are no more, and what comes then.
+fn write_passes(
+    alloc: Global,
+    settings: &Settings,
+    scene: &mut Scene,
+    out: &mut String,
+) -> anyhow::Result<()> {
+    out.push_str("=")?;
     for _ in 0..settings.number("passes", 1)? {
-        if let Err(error) = pass(alloc, settings, scene, &mut out) {
-            let text = format!(in alloc; " refused: {error}")?;
-            out.push_str(text.as_str())?;
+        if let Err(error) = pass(alloc, settings, scene, out) {
+            write!(out, " refused: {error}")?;
         }
     }
-    let text = rest_text(alloc, settings, &mut scene.state)?;
-    out.push_str(text.as_str())?;
-    Ok(out)
+    write_rest(alloc, settings, &mut scene.state, out)
 }
 
 /// What a case `run` prints: the turns of each pass, or why there are no more, and what comes then.
-pub fn turns(alloc: Global, settings: &Settings, rest: &str) -> anyhow::Result<String> {
+pub fn turns(
+    alloc: Global,
+    settings: &Settings,
+    rest: &str,
+    out: &mut String,
+) -> anyhow::Result<()> {
     let mut scene = scene_of(alloc, settings, rest)?;
-    passes(alloc, settings, &mut scene)
+    write_passes(alloc, settings, &mut scene, out)
 }

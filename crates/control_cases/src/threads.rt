@@ -7,13 +7,13 @@ ghost use Rattle.control_machine.specs.Left.{StandsIn};
 use crate::outsides::Scarce;
 use crate::scenes::{plan_of, props_of};
 use crate::settings::{Settings, number_in};
-use crate::show::{Lines, trace};
+use crate::show::write_trace;
 use anyhow::bail;
 use control_machine::{Leave, Machine, Move};
 use element_tree::Plan;
 use jm_base::{M, Sample, Text};
 use outside_world::ScriptOutside;
-use std::alloc::Global;
+use std::alloc::{AllocError, Global};
 use thread_machine::{FinishedThread, Step, Worker, run_alone};
 use var_functions::{FnState, Props, UserState, VarError, Vars};
 
@@ -73,32 +73,34 @@ fn ran(
     Ok(solo)
 }
 
-// The lines of a trace, and of its end.
-fn solo_text(alloc: Global, solo: &FinishedThread) -> anyhow::Result<String> {
-    let mut lines = Lines::new(alloc);
-    trace(alloc, &solo.trace, &mut lines)?;
-    lines.add(alloc, format!(in alloc; "= {:?}", solo.end)?)?;
-    lines.into_text(alloc)
+// Writes the lines of a trace, and of its end.
+fn write_solo(solo: &FinishedThread, out: &mut String) -> Result<(), AllocError> {
+    write_trace(&solo.trace, out)?;
+    write!(out, "= {:?}\n", solo.end)
 }
 
-/// What a case `solo` prints: the whole trace, and how the thread ended.
-pub fn solo(alloc: Global, settings: &Settings, rest: &str) -> anyhow::Result<String> {
-    let plan = plan_of(alloc, settings.text("plan"))?;
-    let props = props_of(alloc, settings.text("properties"))?;
-    let numbers = numbers_of(&plan, rest)?;
-    let solo = ran(alloc, &plan, &props, numbers)?;
-    solo_text(alloc, &solo)
+// What a case `solo` prints: the whole trace, and how the thread ended.
+fn solo(
+    alloc: Global,
+    plan: &Plan,
+    props: &Props,
+    rest: &str,
+    out: &mut String,
+) -> anyhow::Result<()> {
+    let numbers = numbers_of(plan, rest)?;
+    let solo = ran(alloc, plan, props, numbers)?;
+    write_solo(&solo, out)?;
+    Ok(())
 }
 
 // Steps until the thread has ended, or stops it after that many steps. It counts each sample in the interval of its elapsed
 // time, and each section at place 40.
 fn steps(
-    alloc: Global,
     worker: &mut Worker<'_>,
     most: u32,
     outside: &mut ScriptOutside,
-    lines: &mut Lines,
-) -> anyhow::Result<()>
+    out: &mut String,
+) -> Result<(), AllocError>
     requires owed { worker.old.owed ≡ None }
     requires entering { worker.old.entering ≡ None }
     requires going { worker.old.ended ≡ false }
@@ -107,23 +109,21 @@ fn steps(
     'steps: loop {
         if left == 0 {
             worker.stop();
-            return lines.add(alloc, "stopped".to_string(alloc)?);
+            return out.push_str("stopped\n");
         }
         left -= 1;
         match worker.step(outside) {
             Step::Sampled(entry) => {
                 worker.noted(u64::from(entry.elapsed));
-                lines.add(alloc, format!(in alloc; "step: {entry:?}")?)?;
+                write!(out, "step: {entry:?}\n")?;
             }
-            Step::Null => lines.add(alloc, "step: null".to_string(alloc)?)?,
+            Step::Null => out.push_str("step: null\n")?,
             Step::Enter(lock) => {
                 worker.entered(40);
-                lines.add(alloc, format!(in alloc; "step: enter {lock}")?)?;
+                write!(out, "step: enter {lock}\n")?;
             }
-            Step::Leave(lock) => lines.add(alloc, format!(in alloc; "step: leave {lock}")?)?,
-            Step::Ended(end) => {
-                return lines.add(alloc, format!(in alloc; "step: ended {end:?}")?);
-            }
+            Step::Leave(lock) => write!(out, "step: leave {lock}\n")?,
+            Step::Ended(end) => return write!(out, "step: ended {end:?}\n"),
         }
     }
 }
@@ -136,7 +136,7 @@ fn worked(
     props: &Props,
     numbers: Numbers,
     outside: &mut ScriptOutside,
-    lines: &mut Lines,
+    out: &mut String,
 ) -> anyhow::Result<usize>
     requires { numbers.thread < length (threads_of plan.now) }
 {
@@ -148,8 +148,8 @@ fn worked(
         props,
         numbers.budget,
     )?;
-    steps(alloc, &mut worker, numbers.steps, outside, lines)?;
-    trace(alloc, worker.trace(), lines)?;
+    steps(&mut worker, numbers.steps, outside, out)?;
+    write_trace(worker.trace(), out)?;
     Ok(worker.into_trace().len())
 }
 
@@ -161,34 +161,21 @@ fn told(alloc: Global, outside: &ScriptOutside) -> M<usize> {
     })
 }
 
-// The lines of a case `worker`.
-fn worker_lines(
+// What a case `worker` prints: each step, the trace as it is read, how many items it has when it is taken, and how many
+// calls the outside was told of.
+fn worker(
     alloc: Global,
     plan: &Plan,
     props: &Props,
-    numbers: Numbers,
-    lines: &mut Lines,
-) -> anyhow::Result<()>
-    requires { numbers.thread < length (threads_of plan.now) }
-{
+    rest: &str,
+    out: &mut String,
+) -> anyhow::Result<()> {
+    let numbers = numbers_of(plan, rest)?;
     let mut outside = ScriptOutside::new(alloc, plan, true)?;
-    let items = worked(alloc, plan, props, numbers, &mut outside, lines)?;
+    let items = worked(alloc, plan, props, numbers, &mut outside, out)?;
     let told = told(alloc, &outside)?;
-    lines.add(
-        alloc,
-        format!(in alloc; "= {items} items, {told} calls told")?,
-    )
-}
-
-/// What a case `worker` prints: each step, the trace as it is read, how many items it has when it is taken, and how many
-/// calls the outside was told of.
-pub fn worker(alloc: Global, settings: &Settings, rest: &str) -> anyhow::Result<String> {
-    let plan = plan_of(alloc, settings.text("plan"))?;
-    let props = props_of(alloc, settings.text("properties"))?;
-    let numbers = numbers_of(&plan, rest)?;
-    let mut lines = Lines::new(alloc);
-    worker_lines(alloc, &plan, &props, numbers, &mut lines)?;
-    lines.into_text(alloc)
+    write!(out, "= {items} items, {told} calls told\n")?;
+    Ok(())
 }
 
 fn good_sample(alloc: Global) -> M<Sample> {
@@ -281,22 +268,37 @@ fn four_moves(alloc: Global, plan: &Plan, props: &Props, how: Leave) -> anyhow::
     Ok([first, second, third, fourth])
 }
 
-// A line for each move.
-fn moves_text(alloc: Global, moves: [Move; 4]) -> anyhow::Result<String> {
-    let mut lines = Lines::new(alloc);
-    for one in moves {
-        lines.add(alloc, format!(in alloc; "= {one:?}")?)?;
-    }
-    lines.into_text(alloc)
-}
-
-/// What a case `moves` prints: a line for each move.
-pub fn moves(alloc: Global, settings: &Settings, rest: &str) -> anyhow::Result<String> {
+// What a case `moves` prints: a line for each move.
+fn moves(
+    alloc: Global,
+    plan: &Plan,
+    props: &Props,
+    rest: &str,
+    out: &mut String,
+) -> anyhow::Result<()> {
     let how = leave_of(rest)?;
-    let plan = plan_of(alloc, settings.text("plan"))?;
-    let props = props_of(alloc, settings.text("properties"))?;
     if plan.threads() == 0 {
         bail!("no thread");
     }
-    moves_text(alloc, four_moves(alloc, &plan, &props, how)?)
+    for one in four_moves(alloc, plan, props, how)? {
+        write!(out, "= {one:?}\n")?;
+    }
+    Ok(())
+}
+
+/// What a case `solo`, `worker` or `moves` prints, on the plan and the properties of the settings.
+pub fn run(
+    alloc: Global,
+    settings: &Settings,
+    word: &str,
+    rest: &str,
+    out: &mut String,
+) -> anyhow::Result<()> {
+    let plan = plan_of(alloc, settings.text("plan"))?;
+    let props = props_of(alloc, settings.text("properties"))?;
+    match word {
+        "solo" => solo(alloc, &plan, &props, rest, out),
+        "worker" => worker(alloc, &plan, &props, rest, out),
+        _ => moves(alloc, &plan, &props, rest, out),
+    }
 }

@@ -4,7 +4,7 @@ use crate::calls;
 use crate::exchanges::exchanged;
 use crate::mirrors::{mirrored, mirrored_in, mirrored_with_faults};
 use crate::requests::requested;
-use crate::shown::{fed_shown, finish_shown};
+use crate::shown::{write_fed, write_finish};
 use crate::ways::{all_ways, prefixes, read_through, sized};
 use crate::words::{at, bytes_of, fields_of};
 use std::alloc::Global;
@@ -16,30 +16,43 @@ pub struct Cases {
 }
 
 /// A response in the pieces of a line.
-fn in_pieces(alloc: Global, head_only: bool, pieces: &[&str]) -> anyhow::Result<String> {
+fn in_pieces(
+    alloc: Global,
+    head_only: bool,
+    pieces: &[&str],
+    out: &mut String,
+) -> anyhow::Result<()> {
     let mut reader = calls::reader(alloc, head_only)?;
-    let mut out = String::new(alloc);
     for piece in pieces {
         let piece = bytes_of(alloc, piece)?;
-        out.push_str(fed_shown(alloc, calls::feed(&mut reader, &piece))?.as_str())?;
-        out.push_str("\t")?;
+        write_fed(calls::feed(&mut reader, &piece), out)?;
     }
-    out.push_str(finish_shown(alloc, calls::finish(reader))?.as_str())?;
-    Ok(out)
+    write_finish(calls::finish(reader), out)?;
+    Ok(())
 }
 
 /// A request that is mirrored.
-fn mirror_case(alloc: Global, fields: &[&str]) -> anyhow::Result<String> {
+fn mirror_case(alloc: Global, fields: &[&str], out: &mut String) -> anyhow::Result<()> {
     if at(fields, 0) == "mirror" {
         let text = bytes_of(alloc, at(fields, 1))?;
-        return mirrored(alloc, &text);
+        return mirrored(alloc, &text, out);
     }
     let size = at(fields, 1).parse::<usize>()?;
     let text = bytes_of(alloc, at(fields, 2))?;
     if at(fields, 0) == "mirror-faults" {
-        return mirrored_with_faults(alloc, &text, size);
+        return mirrored_with_faults(alloc, &text, size, out);
     }
-    mirrored_in(alloc, &text, size)
+    mirrored_in(alloc, &text, size, out)
+}
+
+/// A whole response, or each proper prefix of one.
+fn response_case(alloc: Global, fields: &[&str], out: &mut String) -> anyhow::Result<()> {
+    let head_only = at(fields, 1).contains('h');
+    let text = bytes_of(alloc, at(fields, 2))?;
+    if at(fields, 0) == "prefixes" {
+        return prefixes(alloc, head_only, &text, out);
+    }
+    all_ways(alloc, head_only, &text, out)
 }
 
 impl Cases {
@@ -49,7 +62,7 @@ impl Cases {
     }
 
     /// A response in pieces of a size.
-    fn in_sizes(&self, alloc: Global, fields: &[&str]) -> anyhow::Result<String> {
+    fn in_sizes(&self, alloc: Global, fields: &[&str], out: &mut String) -> anyhow::Result<()> {
         let head_only = at(fields, 1).contains('h');
         let size = at(fields, 2).parse::<usize>()?;
         let text = bytes_of(alloc, at(fields, 3))?;
@@ -57,30 +70,38 @@ impl Cases {
             read_through(alloc, head_only, &text, size)?;
         }
         let came = sized(alloc, head_only, &text, size)?;
-        Ok(format!(in alloc; "{} {}", came.answer, came.place)?)
+        write!(out, "{} {}", came.answer, came.place)?;
+        Ok(())
     }
 
-    /// What is printed for a line, if anything.
-    pub fn run(&mut self, alloc: Global, line: &str) -> anyhow::Result<String> {
-        let fields = fields_of(alloc, line)?;
-        let head_only = at(&fields, 1).contains('h');
-        match at(&fields, 0) {
-            "repeat" => self.repeat = at(&fields, 1).parse::<u32>()?,
-            "response" => {
-                let text = bytes_of(alloc, at(&fields, 2))?;
-                return all_ways(alloc, head_only, &text);
+    /// Writes what is printed for the fields of a line, if anything.
+    fn run_fields(
+        &mut self,
+        alloc: Global,
+        fields: &[&str],
+        out: &mut String,
+    ) -> anyhow::Result<()> {
+        match at(fields, 0) {
+            "repeat" => {
+                self.repeat = at(fields, 1).parse::<u32>()?;
+                Ok(())
             }
-            "prefixes" => {
-                let text = bytes_of(alloc, at(&fields, 2))?;
-                return prefixes(alloc, head_only, &text);
+            "response" | "prefixes" => response_case(alloc, fields, out),
+            "sized" => self.in_sizes(alloc, fields, out),
+            "pieces" => {
+                let pieces = fields.get(2..).unwrap_or(&[]);
+                in_pieces(alloc, at(fields, 1).contains('h'), pieces, out)
             }
-            "sized" => return self.in_sizes(alloc, &fields),
-            "pieces" => return in_pieces(alloc, head_only, fields.get(2..).unwrap_or(&[])),
-            "request" => return requested(alloc, &fields, self.repeat),
-            "exchange" => return exchanged(alloc, &fields),
-            "mirror" | "mirror-sized" | "mirror-faults" => return mirror_case(alloc, &fields),
-            _ => {}
+            "request" => requested(alloc, fields, self.repeat, out),
+            "exchange" => exchanged(alloc, fields, out),
+            "mirror" | "mirror-sized" | "mirror-faults" => mirror_case(alloc, fields, out),
+            _ => Ok(()),
         }
-        Ok(String::new(alloc))
+    }
+
+    /// Writes what is printed for a line, if anything.
+    pub fn run(&mut self, alloc: Global, line: &str, out: &mut String) -> anyhow::Result<()> {
+        let fields = fields_of(alloc, line)?;
+        self.run_fields(alloc, &fields, out)
     }
 }

@@ -5,7 +5,7 @@ use crate::shown::{request_shown, target_error_name};
 use crate::words::{at, text_of};
 use http_text::{HttpSettings, NamedText, Target, TargetError};
 use jm_base::{Items, Method};
-use std::alloc::Global;
+use std::alloc::{AllocError, Global};
 
 /// The method of a name.
 fn method_of(name: &str) -> anyhow::Result<Method> {
@@ -47,27 +47,32 @@ pub fn settings_of(alloc: Global, fields: &[&str]) -> anyhow::Result<HttpSetting
     })
 }
 
-/// What comes of settings.
-fn asked_shown(alloc: Global, asked: Result<Target, TargetError>) -> anyhow::Result<String> {
+/// Writes what comes of settings.
+fn write_asked(asked: Result<Target, TargetError>, out: &mut String) -> Result<(), AllocError> {
     match asked {
-        Ok(target) => {
-            let bytes = request_shown(alloc, target.bytes.bytes())?;
-            Ok(format!(in alloc;
-                "{}\t{}\t{bytes}",
-                target.host.bytes().escape_ascii(),
-                target.port
-            )?)
-        }
-        Err(error) => Ok(String::from_str(alloc, target_error_name(error))?),
+        Ok(target) => write!(
+            out,
+            "{}\t{}\t{}",
+            target.host.bytes().escape_ascii(),
+            target.port,
+            request_shown(target.bytes.bytes())
+        ),
+        Err(error) => out.push_str(target_error_name(error)),
     }
 }
 
 /// What comes of settings that are asked for this many times.
-pub fn requested(alloc: Global, fields: &[&str], times: u32) -> anyhow::Result<String> {
+pub fn requested(
+    alloc: Global,
+    fields: &[&str],
+    times: u32,
+    out: &mut String,
+) -> anyhow::Result<()> {
     let settings = settings_of(alloc, fields)?;
     let mut asked = Err(TargetError::NoMemory);
     for _ in 0..times {
         asked = calls::request(alloc, &settings);
     }
-    asked_shown(alloc, asked)
+    write_asked(asked, out)?;
+    Ok(())
 }

@@ -2,7 +2,8 @@
 
 use http_text::{Fed, TargetError, WireError};
 use jm_base::{Reply, Wire};
-use std::alloc::Global;
+use std::alloc::AllocError;
+use std::fmt;
 
 /// The longest part of a reply that is shown whole.
 const MOST_OF_A_PART: usize = 60;
@@ -11,25 +12,48 @@ const MOST_OF_A_PART: usize = 60;
 const MOST_OF_A_REQUEST: usize = 1_000;
 
 /// Bytes with escapes for those that do not print; many by their number and the first of them.
-fn shown(alloc: Global, bytes: &[u8], most: usize) -> anyhow::Result<String> {
-    if bytes.len() > most {
-        let first = bytes.get(..8).unwrap_or(bytes);
-        return Ok(format!(in alloc; "{} bytes: {}..", bytes.len(), first.escape_ascii())?);
+#[derive(Clone, Copy)]
+pub struct Shown<'b> {
+    bytes: &'b [u8],
+    most: usize,
+}
+
+impl fmt::Display for Shown<'_> {
+    fn fmt<W: fmt::Write>(&self, f: &mut fmt::Formatter<W>) -> fmt::Result {
+        let bytes = self.bytes;
+        if bytes.len() > self.most {
+            let first = bytes.get(..8).unwrap_or(bytes);
+            return write!(f, "{} bytes: {}..", bytes.len(), first.escape_ascii());
+        }
+        write!(f, "{}", bytes.escape_ascii())
     }
-    Ok(format!(in alloc; "{}", bytes.escape_ascii())?)
 }
 
 /// The bytes of a request.
-pub fn request_shown(alloc: Global, bytes: &[u8]) -> anyhow::Result<String> {
-    shown(alloc, bytes, MOST_OF_A_REQUEST)
+pub fn request_shown(bytes: &[u8]) -> Shown<'_> {
+    Shown {
+        bytes,
+        most: MOST_OF_A_REQUEST,
+    }
 }
 
-/// The parts of a reply.
-pub fn reply_shown(alloc: Global, reply: &Reply) -> anyhow::Result<String> {
-    let message = shown(alloc, reply.message.bytes(), MOST_OF_A_PART)?;
-    let headers = shown(alloc, reply.headers.bytes(), MOST_OF_A_PART)?;
-    let body = shown(alloc, reply.body.bytes(), MOST_OF_A_PART)?;
-    Ok(format!(in alloc; "{}\t{message}\t{headers}\t{body}", reply.code)?)
+fn part_shown(bytes: &[u8]) -> Shown<'_> {
+    Shown {
+        bytes,
+        most: MOST_OF_A_PART,
+    }
+}
+
+/// Writes the parts of a reply.
+pub fn write_reply(reply: &Reply, out: &mut String) -> Result<(), AllocError> {
+    write!(
+        out,
+        "{}\t{}\t{}\t{}",
+        reply.code,
+        part_shown(reply.message.bytes()),
+        part_shown(reply.headers.bytes()),
+        part_shown(reply.body.bytes())
+    )
 }
 
 /// The name of a reader's error.
@@ -51,19 +75,19 @@ pub fn target_error_name(error: TargetError) -> &'static str {
     }
 }
 
-/// What a piece is.
-pub fn fed_shown(alloc: Global, fed: Result<Fed, WireError>) -> anyhow::Result<String> {
+/// Writes what a piece is.
+pub fn write_fed(fed: Result<Fed, WireError>, out: &mut String) -> Result<(), AllocError> {
     match fed {
-        Ok(Fed::More) => Ok(String::from_str(alloc, "more")?),
-        Ok(Fed::Done { used }) => Ok(format!(in alloc; "done {used}")?),
-        Err(error) => Ok(String::from_str(alloc, error_name(error))?),
+        Ok(Fed::More) => out.push_str("more\t"),
+        Ok(Fed::Done { used }) => write!(out, "done {used}\t"),
+        Err(error) => write!(out, "{}\t", error_name(error)),
     }
 }
 
-/// How a reader finishes.
-pub fn finish_shown(alloc: Global, finish: Result<Reply, WireError>) -> anyhow::Result<String> {
+/// Writes how a reader finishes.
+pub fn write_finish(finish: Result<Reply, WireError>, out: &mut String) -> Result<(), AllocError> {
     match finish {
-        Ok(reply) => reply_shown(alloc, &reply),
-        Err(error) => Ok(String::from_str(alloc, error_name(error))?),
+        Ok(reply) => write_reply(&reply, out),
+        Err(error) => out.push_str(error_name(error)),
     }
 }

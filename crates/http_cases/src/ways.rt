@@ -1,10 +1,10 @@
 // The ways to cut a response into pieces, and what comes of each.
 
 use crate::calls;
-use crate::shown::{error_name, finish_shown};
+use crate::shown::{error_name, write_finish};
 use http_text::{Fed, ResponseReader, WireError};
-use jm_base::Reply;
-use std::alloc::Global;
+use jm_base::{M, Reply};
+use std::alloc::{AllocError, Global};
 
 /// What came of a response, and after how many bytes.
 #[derive(Drop)]
@@ -18,13 +18,15 @@ pub struct Came {
 }
 
 /// A whole response. A further piece has to be used for nothing.
-fn done(alloc: Global, mut reader: ResponseReader, place: usize) -> anyhow::Result<Came> {
+fn done(alloc: Global, mut reader: ResponseReader, place: usize) -> M<Came> {
     let further = calls::feed(&mut reader, b"HTTP/1.1");
-    let mut answer = finish_shown(alloc, calls::finish(reader))?;
-    answer.push_str("\tdone")?;
-    if further != Ok(Fed::Done { used: 0 }) {
-        answer.push_str(", and then something else")?;
-    }
+    let mut answer = String::new(alloc);
+    write_finish(calls::finish(reader), &mut answer)?;
+    answer.push_str(if further == Ok(Fed::Done { used: 0 }) {
+        "\tdone"
+    } else {
+        "\tdone, and then something else"
+    })?;
     Ok(Came {
         answer,
         place,
@@ -41,30 +43,22 @@ fn finishes_with(finish: Result<Reply, WireError>, error: WireError) -> bool {
 }
 
 /// A refusal. Each later call has to give the same.
-fn refused(
-    alloc: Global,
-    mut reader: ResponseReader,
-    error: WireError,
-    place: usize,
-) -> anyhow::Result<Came> {
-    let mut answer = String::from_str(alloc, error_name(error))?;
+fn refused(alloc: Global, mut reader: ResponseReader, error: WireError, place: usize) -> M<Came> {
     let further = calls::feed(&mut reader, b"\r\n\r\n");
-    if further != Err(error) || !finishes_with(calls::finish(reader), error) {
-        answer.push_str(", and then something else")?;
-    }
+    let rest = if further == Err(error) && finishes_with(calls::finish(reader), error) {
+        ""
+    } else {
+        ", and then something else"
+    };
     Ok(Came {
-        answer,
+        answer: format!(in alloc; "{}{rest}", error_name(error))?,
         place,
         refused: true,
     })
 }
 
 /// What comes of a response in these pieces, and then the end of input.
-pub fn read_pieces<'p>(
-    alloc: Global,
-    head_only: bool,
-    pieces: &[&'p [u8]],
-) -> anyhow::Result<Came> {
+pub fn read_pieces<'p>(alloc: Global, head_only: bool, pieces: &[&'p [u8]]) -> M<Came> {
     let mut reader = calls::reader(alloc, head_only)?;
     let mut place = 0usize;
     for piece in pieces {
@@ -76,7 +70,8 @@ pub fn read_pieces<'p>(
             Err(error) => return refused(alloc, reader, error, place.saturating_add(piece.len())),
         }
     }
-    let mut answer = finish_shown(alloc, calls::finish(reader))?;
+    let mut answer = String::new(alloc);
+    write_finish(calls::finish(reader), &mut answer)?;
     answer.push_str("\tat the end")?;
     Ok(Came {
         answer,
@@ -86,7 +81,7 @@ pub fn read_pieces<'p>(
 }
 
 /// What comes of a response in pieces of a size.
-pub fn sized(alloc: Global, head_only: bool, text: &[u8], size: usize) -> anyhow::Result<Came> {
+pub fn sized(alloc: Global, head_only: bool, text: &[u8], size: usize) -> M<Came> {
     let mut pieces = Vec::new(alloc);
     for piece in text.chunks(size.max(1)) {
         pieces.push(piece)?;
@@ -95,23 +90,25 @@ pub fn sized(alloc: Global, head_only: bool, text: &[u8], size: usize) -> anyhow
 }
 
 /// Whether each proper prefix of a response is one that ends early.
-pub fn prefixes(alloc: Global, head_only: bool, text: &[u8]) -> anyhow::Result<String> {
-    for cut in 0..text.len() {
-        let way = read_pieces(alloc, head_only, &[text.get(..cut).unwrap_or(text)])?;
-        if way.answer.as_str() != "EndEarly\tat the end" {
-            return Ok(format!(in alloc; "after {cut} bytes it is {}", way.answer)?);
-        }
-    }
-    Ok(format!(in alloc; "EndEarly after each of {} prefixes", text.len())?)
-}
-
-/// Reads a response in pieces of a size, and lets go what came of it.
-pub fn read_through(
+pub fn prefixes(
     alloc: Global,
     head_only: bool,
     text: &[u8],
-    size: usize,
+    out: &mut String,
 ) -> anyhow::Result<()> {
+    for cut in 0..text.len() {
+        let way = read_pieces(alloc, head_only, &[text.get(..cut).unwrap_or(text)])?;
+        if way.answer.as_str() != "EndEarly\tat the end" {
+            write!(out, "after {cut} bytes it is {}", way.answer)?;
+            return Ok(());
+        }
+    }
+    write!(out, "EndEarly after each of {} prefixes", text.len())?;
+    Ok(())
+}
+
+/// Reads a response in pieces of a size, and lets go what came of it.
+pub fn read_through(alloc: Global, head_only: bool, text: &[u8], size: usize) -> M<()> {
     let mut reader = calls::reader(alloc, head_only)?;
     for piece in text.chunks(size.max(1)) {
         if calls::feed(&mut reader, piece) != Ok(Fed::More) {
@@ -138,33 +135,49 @@ fn agrees(way: &Came, bytewise: &Came, cut: usize, length: usize) -> bool {
     way.place == bytewise.place
 }
 
+/// Whether a way gave something else than reading byte by byte; then both are written.
+fn writes_difference(
+    how: &str,
+    way: &Came,
+    bytewise: &Came,
+    cut: usize,
+    length: usize,
+    out: &mut String,
+) -> Result<bool, AllocError> {
+    if agrees(way, bytewise, cut, length) {
+        return Ok(false);
+    }
+    write!(
+        out,
+        "{how} {cut} it is {} {}, and byte by byte {} {}",
+        way.answer, way.place, bytewise.answer, bytewise.place
+    )?;
+    Ok(true)
+}
+
 /// What comes of a response that is read byte by byte, whole, and cut in two at every place; and whether all ways agree.
-pub fn all_ways(alloc: Global, head_only: bool, text: &[u8]) -> anyhow::Result<String> {
+pub fn all_ways(
+    alloc: Global,
+    head_only: bool,
+    text: &[u8],
+    out: &mut String,
+) -> anyhow::Result<()> {
     let bytewise = sized(alloc, head_only, text, 1)?;
     let mut ways = 1usize;
     for cut in 0..text.len() + 1 {
         let first = text.get(..cut).unwrap_or(text);
         let second = text.get(cut..).unwrap_or(&[]);
         let way = read_pieces(alloc, head_only, &[first, second])?;
-        if !agrees(&way, &bytewise, cut, text.len()) {
-            return Ok(format!(in alloc;
-                "cut at {cut} it is {} {}, and byte by byte {} {}",
-                way.answer, way.place, bytewise.answer, bytewise.place
-            )?);
+        if writes_difference("cut at", &way, &bytewise, cut, text.len(), out)? {
+            return Ok(());
         }
         ways = ways.saturating_add(1);
     }
     let whole = read_pieces(alloc, head_only, &[text])?;
-    if !agrees(&whole, &bytewise, 0, text.len()) {
-        return Ok(format!(in alloc;
-            "whole it is {} {}, and byte by byte {} {}",
-            whole.answer, whole.place, bytewise.answer, bytewise.place
-        )?);
+    if writes_difference("whole, cut at", &whole, &bytewise, 0, text.len(), out)? {
+        return Ok(());
     }
-    Ok(format!(in alloc;
-        "{} {}\t{} ways",
-        bytewise.answer,
-        bytewise.place,
-        ways.saturating_add(1)
-    )?)
+    ways = ways.saturating_add(1);
+    write!(out, "{} {}\t{ways} ways", bytewise.answer, bytewise.place)?;
+    Ok(())
 }

@@ -78,13 +78,13 @@ impl Write for Scripted {
 }
 
 /// A source over a reader of these turns, which gives `r` alone.
-pub fn reader_case(alloc: Global, given: &str) -> M<String> {
+pub fn reader_case(alloc: Global, given: &str, out: &mut String) -> M<()> {
     let mut source = FromRead::new(Scripted::of(alloc, given)?);
-    read_steps(alloc, &mut source, given)
+    read_steps(alloc, &mut source, given, out)
 }
 
 /// A sink over a writer of these turns.
-pub fn writer_case(alloc: Global, given: &str) -> M<String> {
+pub fn writer_case(alloc: Global, given: &str, out: &mut String) -> M<()> {
     let mut sink = IntoWrite::new(Scripted::of(alloc, given)?);
-    write_steps(alloc, &mut sink, given)
+    write_steps(alloc, &mut sink, given, out)
 }

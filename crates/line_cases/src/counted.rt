@@ -7,8 +7,8 @@ ghost use Rattle.line_cases.specs.Counted.{IsCount};
 use crate::words::{numbers, parted, small};
 use anyhow::bail;
 use interval_tables::Report;
-use jm_base::{Entry, M};
-use std::alloc::Global;
+use jm_base::Entry;
+use std::alloc::{AllocError, Global};
 
 // The sample of a word: `ok:LABEL:ELAPSED:BYTES`, or `failed` in the place of `ok`.
 fn sample(alloc: Global, word: &str) -> anyhow::Result<Entry> {
@@ -74,33 +74,29 @@ pub fn report_in(alloc: Global, labels: u16, given: &str) -> anyhow::Result<Repo
     report_of(alloc, labels, &samples)
 }
 
-// What is counted over all labels, and each row.
-fn shown(alloc: Global, report: &Report) -> M<String>
+// Writes what is counted over all labels, and each row.
+fn write_report(report: &Report, out: &mut String) -> Result<(), AllocError>
     requires { IsInBounds report.now.rows }
 {
-    let mut out = sums_text(alloc, report)?;
+    write!(
+        out,
+        "= interval {}: {} samples, {} failed\n",
+        report.interval,
+        report.count(),
+        report.errors()
+    )?;
     for row in report.rows.as_slice() {
-        let line = format!(in alloc; "= {row:?}\n")?;
-        out.push_str(line.as_str())?;
+        write!(out, "= {row:?}\n")?;
     }
-    Ok(out)
-}
-
-fn sums_text(alloc: Global, report: &Report) -> M<String>
-    requires { IsInBounds report.now.rows }
-{
-    let interval = report.interval;
-    let count = report.count();
-    let errors = report.errors();
-    Ok(format!(in alloc; "= interval {interval}: {count} samples, {errors} failed\n")?)
+    Ok(())
 }
 
 /// The rows of samples: how many labels there are, and the samples.
-pub fn rows_case(alloc: Global, given: &str) -> anyhow::Result<String> {
+pub fn rows_case(alloc: Global, given: &str, out: &mut String) -> anyhow::Result<()> {
     let (labels, rest) = parted(given, ' ');
     let report = report_in(alloc, small(labels), rest)?;
-    let text = shown(alloc, &report)?;
-    Ok(text)
+    write_report(&report, out)?;
+    Ok(())
 }
 
 // Two reports as one. What the call promises is left out here but for the bounds.
@@ -112,13 +108,13 @@ fn merge(first: &mut Report, second: &Report, labels: u16)
 }
 
 /// Two reports as one: how many labels there are, the samples of the first, `and`, and those of the second.
-pub fn merge_case(alloc: Global, given: &str) -> anyhow::Result<String> {
+pub fn merge_case(alloc: Global, given: &str, out: &mut String) -> anyhow::Result<()> {
     let (labels, rest) = parted(given, ' ');
     let (first, second) = rest.split_once("and").unwrap_or((rest, ""));
     let labels = small(labels);
     let mut report = report_in(alloc, labels, first)?;
     let other = report_in(alloc, labels, second)?;
     merge(&mut report, &other, labels);
-    let text = shown(alloc, &report)?;
-    Ok(text)
+    write_report(&report, out)?;
+    Ok(())
 }

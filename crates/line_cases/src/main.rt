@@ -8,6 +8,7 @@ mod counted;
 mod edges;
 mod made;
 mod printed;
+mod schedules;
 mod words;
 
 use anyhow::bail;
@@ -18,59 +19,73 @@ use std::alloc::Global;
 use words::{parted, plain};
 
 // A text, its copy and its bytes.
-fn text_case(alloc: Global, given: &str) -> M<String> {
+fn text_case(alloc: Global, given: &str, out: &mut String) -> M<()> {
     let text = Text::new(alloc, given.as_bytes())?;
     let copy = text.copy(alloc)?;
     let bytes = copy.into_vec();
-    let (text, copy) = (plain(text.bytes()), plain(&bytes));
-    Ok(format!(in alloc; "= {text}\n= {copy}\n")?)
+    write!(out, "= {}\n= {}\n", plain(text.bytes()), plain(&bytes))?;
+    Ok(())
 }
 
-// What a case gives that fails for nothing but memory, where it is one.
-fn given_alone(alloc: Global, call: &str, given: &str) -> Option<M<String>> {
+// Writes what a case gives that fails for nothing but memory.
+fn answer_alone(alloc: Global, call: &str, given: &str, out: &mut String) -> anyhow::Result<()> {
+    let wrote = match call {
+        "text" => text_case(alloc, given, out),
+        "header" => printed::header_case(alloc, out),
+        "source" => edges::source_case(alloc, given, out),
+        "sink" => edges::sink_case(alloc, given, out),
+        "reader" => adapters::reader_case(alloc, given, out),
+        "writer" => adapters::writer_case(alloc, given, out),
+        _ => bail!("no call {call}"),
+    };
+    Ok(wrote?)
+}
+
+// Writes what a case gives.
+fn answer(
+    alloc: Global,
+    plan: &Plan,
+    call: &str,
+    given: &str,
+    out: &mut String,
+) -> anyhow::Result<()> {
     match call {
-        "text" => Some(text_case(alloc, given)),
-        "header" => Some(printed::header_case(alloc)),
-        "source" => Some(edges::source_case(alloc, given)),
-        "sink" => Some(edges::sink_case(alloc, given)),
-        "reader" => Some(adapters::reader_case(alloc, given)),
-        "writer" => Some(adapters::writer_case(alloc, given)),
-        _ => None,
+        "rows" => counted::rows_case(alloc, given, out),
+        "merge" => counted::merge_case(alloc, given, out),
+        "schedule" => schedules::schedule_case(alloc, given, out),
+        "result" => printed::result_case(alloc, plan, given, out),
+        "times" => printed::times_case(alloc, plan, given, out),
+        "end" => printed::end_case(alloc, plan, given, out),
+        "report" => printed::report_case(alloc, plan, given, out),
+        "write" => Ok(made::write_case(alloc, plan, out)?),
+        "make" => made::make_case(alloc, given, out),
+        "size" => made::size_case(alloc, given, out),
+        _ => answer_alone(alloc, call, given, out),
     }
 }
 
-// What a case gives.
-fn answer(alloc: Global, plan: &Plan, call: &str, given: &str) -> anyhow::Result<String> {
+// Prints a line, and below it what it gave. A line `plan` sets the plan.
+fn line_case(rt: &impl Print, alloc: Global, plan: &mut Plan, line: &str) -> anyhow::Result<()> {
+    let (call, given) = parted(line, ' ');
+    let mut text = String::new(alloc);
     match call {
-        "rows" => counted::rows_case(alloc, given),
-        "merge" => counted::merge_case(alloc, given),
-        "result" => printed::result_case(alloc, plan, given),
-        "times" => printed::times_case(alloc, plan, given),
-        "end" => printed::end_case(alloc, plan, given),
-        "report" => printed::report_case(alloc, plan, given),
-        "write" => Ok(made::write_case(alloc, plan)?),
-        "make" => made::make_case(alloc, given),
-        "size" => made::size_case(alloc, given),
-        _ => match given_alone(alloc, call, given) {
-            Some(text) => Ok(text?),
-            None => bail!("no call {call}"),
-        },
+        "#" => {}
+        "plan" => *plan = made::read_plan(alloc, given)?,
+        _ => answer(alloc, plan, call, given, &mut text)?,
     }
+    print!(rt; "{line}\n{text}")?;
+    Ok(())
+}
+
+// Goes through the lines of the input.
+fn answer_all(rt: &(impl Input + Print), alloc: Global, plan: &mut Plan) -> anyhow::Result<()> {
+    for line in rt.lines(alloc) {
+        line_case(rt, alloc, plan, line?.as_str())?;
+    }
+    Ok(())
 }
 
 fn main(rt: HostRuntime) -> anyhow::Result<()> {
-    let alloc: Global = rt.alloc();
-    let mut plan = make_plan(alloc, 1)?;
-    for line in rt.lines(alloc) {
-        let line = line?;
-        println!(rt; "{line}")?;
-        let (call, given) = parted(line.as_str(), ' ');
-        if call == "plan" {
-            plan = made::read_plan(alloc, given)?;
-        } else if call != "#" {
-            let text = answer(alloc, &plan, call, given)?;
-            print!(rt; "{text}")?;
-        }
-    }
-    Ok(())
+    let mut plan = make_plan(rt.alloc(), 1)?;
+    answer_all(&rt, rt.alloc(), &mut plan)
 }

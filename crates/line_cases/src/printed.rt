@@ -6,7 +6,7 @@ ghost use Rattle.element_tree.specs.Tree.{threads_of, thread_name_of};
 ghost use Rattle.line_cases.specs.Counted.{IsCount};
 
 use crate::counted::report_in;
-use crate::words::{long, parted, small, text_of, whole};
+use crate::words::{long, parted, plain, small, whole};
 use anyhow::bail;
 use element_tree::Plan;
 use interval_tables::Report;
@@ -21,9 +21,10 @@ fn header(alloc: Global) -> M<Vec<u8>> {
 }
 
 /// The header.
-pub fn header_case(alloc: Global) -> M<String> {
+pub fn header_case(alloc: Global, out: &mut String) -> M<()> {
     let line = header(alloc)?;
-    text_of(alloc, &line)
+    out.push_str(plain(&line))?;
+    Ok(())
 }
 
 // The sample of the fields of a result line.
@@ -92,12 +93,17 @@ fn put_line(alloc: Global, out: &mut Vec<u8>, plan: &Plan, line: &Line) -> M<()>
 }
 
 /// The line of a sample.
-pub fn result_case(alloc: Global, plan: &Plan, given: &str) -> anyhow::Result<String> {
+pub fn result_case(
+    alloc: Global,
+    plan: &Plan,
+    given: &str,
+    out: &mut String,
+) -> anyhow::Result<()> {
     let line = line_in(alloc, plan, given)?;
-    let mut out = Vec::new(alloc);
-    put_line(alloc, &mut out, plan, &line)?;
-    let text = text_of(alloc, &out)?;
-    Ok(text)
+    let mut text = Vec::new(alloc);
+    put_line(alloc, &mut text, plan, &line)?;
+    out.push_str(plain(&text))?;
+    Ok(())
 }
 
 // The same line 64 times in one text, as lines are printed.
@@ -131,11 +137,12 @@ fn write_often(alloc: Global, plan: &Plan, line: &Line, texts: u32) -> M<u64>
 
 /// The same line that many times, as far as that is whole texts of 64 lines, so that a script can time it: how many bytes
 /// they have together.
-pub fn times_case(alloc: Global, plan: &Plan, given: &str) -> anyhow::Result<String> {
+pub fn times_case(alloc: Global, plan: &Plan, given: &str, out: &mut String) -> anyhow::Result<()> {
     let (count, rest) = parted(given, ' ');
     let line = line_in(alloc, plan, rest)?;
     let bytes = write_often(alloc, plan, &line, whole(count) / 64)?;
-    Ok(format!(in alloc; "= {bytes} bytes\n")?)
+    write!(out, "= {bytes} bytes\n")?;
+    Ok(())
 }
 
 fn end_of(name: &str) -> anyhow::Result<End> {
@@ -161,7 +168,7 @@ fn end(alloc: Global, plan: &Plan, thread: u16, end: End) -> M<Vec<u8>>
 }
 
 /// The line that says how a thread ended: the thread, and the end.
-pub fn end_case(alloc: Global, plan: &Plan, given: &str) -> anyhow::Result<String> {
+pub fn end_case(alloc: Global, plan: &Plan, given: &str, out: &mut String) -> anyhow::Result<()> {
     let (thread, name) = parted(given, ' ');
     let thread = small(thread);
     let how = end_of(name)?;
@@ -169,8 +176,8 @@ pub fn end_case(alloc: Global, plan: &Plan, given: &str) -> anyhow::Result<Strin
         bail!("no such thread");
     }
     let line = end(alloc, plan, thread, how)?;
-    let text = text_of(alloc, &line)?;
-    Ok(text)
+    out.push_str(plain(&line))?;
+    Ok(())
 }
 
 // The lines of a report, and after them those of the same as a summary.
@@ -186,11 +193,16 @@ fn lines_of(alloc: Global, plan: &Plan, report: &Report) -> M<Vec<u8>>
 }
 
 /// The report of the samples of an interval, and the summary of them: the interval, and the samples.
-pub fn report_case(alloc: Global, plan: &Plan, given: &str) -> anyhow::Result<String> {
+pub fn report_case(
+    alloc: Global,
+    plan: &Plan,
+    given: &str,
+    out: &mut String,
+) -> anyhow::Result<()> {
     let (interval, rest) = parted(given, ' ');
     let mut report = report_in(alloc, plan.labels(), rest)?;
     report.interval = long(interval);
     let lines = lines_of(alloc, plan, &report)?;
-    let text = text_of(alloc, &lines)?;
-    Ok(text)
+    out.push_str(plain(&lines))?;
+    Ok(())
 }

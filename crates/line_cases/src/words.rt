@@ -32,11 +32,6 @@ pub fn plain(bytes: &[u8]) -> &str {
     }
 }
 
-/// A text of these bytes.
-pub fn text_of(alloc: Global, bytes: &[u8]) -> M<String> {
-    Ok(plain(bytes).to_string(alloc)?)
-}
-
 /// The numbers between marks, of which an empty text has none.
 pub fn numbers(alloc: Global, text: &str, mark: char) -> M<Vec<u32>> {
     let mut all = Vec::new(alloc);

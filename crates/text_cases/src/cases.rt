@@ -56,96 +56,127 @@ impl Cases {
         Ok((Vec::unescape_bytes(alloc, name)?, self.text(alloc, value)?))
     }
 
-    /// Sets what each new thread begins with, begins one, or adds to the long text. A line that is empty or begins with `#`
-    /// is for a reader alone.
-    fn set(&mut self, alloc: Global, word: &str, rest: &str) -> anyhow::Result<()> {
+    /// One more variable of each new thread.
+    fn give(&mut self, alloc: Global, rest: &str) -> anyhow::Result<()> {
+        let pair = self.pair(alloc, rest)?;
+        self.beginning.given.push(pair)?;
+        Ok(())
+    }
+
+    /// Begins a thread.
+    fn begin(&mut self, alloc: Global) -> anyhow::Result<()> {
+        self.state = self.beginning.state(alloc)?;
+        Ok(())
+    }
+
+    /// Sets a number of each new thread.
+    fn number(&mut self, word: &str, rest: &str) -> anyhow::Result<()> {
+        let number = rest.parse::<u64>()?;
         match word {
-            "add" => self.add(alloc, rest)?,
-            "given" => {
-                let pair = self.pair(alloc, rest)?;
-                self.beginning.given.push(pair)?;
-            }
-            "forget" => self.beginning.given.clear(),
-            "thread" => self.beginning.thread = rest.parse::<u16>()?,
-            "stream" => self.beginning.stream = rest.parse::<u64>()?,
-            "seed" => self.beginning.seed = rest.parse::<u64>()?,
-            "begin" => self.state = self.beginning.state(alloc)?,
-            "#" | "" => {}
-            _ => anyhow::bail!("no case begins with {word}"),
+            "thread" => self.beginning.thread = u16::try_from(number)?,
+            "stream" => self.beginning.stream = number,
+            _ => self.beginning.seed = number,
         }
         Ok(())
     }
 
+    /// Whether a line is a setting, which sets what each new thread begins with, begins one, or adds to the long text. A line
+    /// that is empty or begins with `#` is for a reader alone.
+    fn sets(&mut self, alloc: Global, word: &str, rest: &str) -> anyhow::Result<bool> {
+        let set = match word {
+            "add" => self.add(alloc, rest),
+            "given" => self.give(alloc, rest),
+            "forget" => {
+                self.beginning.given.clear();
+                Ok(())
+            }
+            "thread" | "stream" | "seed" => self.number(word, rest),
+            "begin" => self.begin(alloc),
+            "#" | "" => Ok(()),
+            _ => return Ok(false),
+        };
+        set?;
+        Ok(true)
+    }
+
     /// Reads the properties of new threads.
-    fn properties(&mut self, alloc: Global, rest: &str) -> anyhow::Result<String> {
-        let text = self.text(alloc, rest)?;
-        match properties(alloc, &text)? {
+    fn read(&mut self, alloc: Global, text: &[u8], out: &mut String) -> anyhow::Result<()> {
+        match properties(alloc, text)? {
             Ok(props) => {
                 self.beginning.props = props;
-                Ok(format!(in alloc; " => read")?)
+                out.push_str(" => read")?;
             }
-            Err(error) => Ok(format!(in alloc; " => {error}")?),
+            Err(error) => write!(out, " => {error}")?,
         }
+        Ok(())
     }
 
     /// Sets a variable of the thread.
-    fn put(&mut self, alloc: Global, rest: &str) -> anyhow::Result<String> {
+    fn put(&mut self, alloc: Global, rest: &str, out: &mut String) -> anyhow::Result<()> {
         let (name, value) = self.pair(alloc, rest)?;
         match put(alloc, &mut self.state.vars, &name, &value) {
-            Ok(()) => Ok(format!(in alloc; " => set")?),
-            Err(error) => Ok(format!(in alloc; " => {error}")?),
+            Ok(()) => out.push_str(" => set")?,
+            Err(error) => write!(out, " => {error}")?,
         }
-    }
-
-    /// Takes a variable of the thread out.
-    fn remove(&mut self, alloc: Global, rest: &str) -> anyhow::Result<String> {
-        let name = self.text(alloc, rest)?;
-        self.state.vars.remove(&name);
-        Ok(String::new(alloc))
-    }
-
-    /// What a text expands to in the thread.
-    fn expand(&mut self, alloc: Global, rest: &str) -> anyhow::Result<String> {
-        let text = self.text(alloc, rest)?;
-        expansions::answer(alloc, &text, &mut self.state)
+        Ok(())
     }
 
     /// Expands a text in the thread that many times, so that a script can time it.
-    fn times(&mut self, alloc: Global, rest: &str) -> anyhow::Result<String> {
+    fn times(&mut self, alloc: Global, rest: &str, out: &mut String) -> anyhow::Result<()> {
         let (count, text) = parts(rest);
         let text = self.text(alloc, text)?;
-        expansions::often(alloc, &text, &mut self.state, count.parse::<u32>()?)
+        expansions::often(alloc, &text, &mut self.state, count.parse::<u32>()?, out)
     }
 
-    /// What is printed after a line.
-    pub fn run(&mut self, alloc: Global, line: &str) -> anyhow::Result<String> {
+    /// The texts that a path selects.
+    fn select(&mut self, alloc: Global, rest: &str, out: &mut String) -> anyhow::Result<()> {
+        let (path, body) = parts(rest);
+        let path = self.text(alloc, path)?;
+        paths::selection(alloc, &path, body, out)
+    }
+
+    /// A case that is given one text.
+    fn run_on(
+        &mut self,
+        alloc: Global,
+        word: &str,
+        text: &[u8],
+        out: &mut String,
+    ) -> anyhow::Result<()> {
+        match word {
+            "template" => templates::answer(alloc, text, out),
+            "condition" => conditions::answer(alloc, text, out),
+            "path" => paths::answer(alloc, text, out),
+            "schedule" => schedules::answer(alloc, text, out),
+            "properties" => self.read(alloc, text, out),
+            "expand" => {
+                self.begin(alloc)?;
+                expansions::answer(alloc, text, &mut self.state, out)
+            }
+            "then" => expansions::answer(alloc, text, &mut self.state, out),
+            "get" => value(&self.state.vars, text, out),
+            "remove" => {
+                self.state.vars.remove(text);
+                Ok(())
+            }
+            _ => anyhow::bail!("no case begins with {word}"),
+        }
+    }
+
+    /// Writes what is printed after a line.
+    pub fn run(&mut self, alloc: Global, line: &str, out: &mut String) -> anyhow::Result<()> {
         let (word, rest) = parts(line);
         match word {
-            "template" => templates::answer(alloc, &self.text(alloc, rest)?),
-            "condition" => conditions::answer(alloc, &self.text(alloc, rest)?),
-            "path" => paths::answer(alloc, &self.text(alloc, rest)?),
-            "select" => {
-                let (path, body) = parts(rest);
-                paths::selection(alloc, &self.text(alloc, path)?, body)
-            }
-            "schedule" => schedules::answer(alloc, &self.text(alloc, rest)?),
-            "properties" => self.properties(alloc, rest),
-            "expand" => {
-                self.state = self.beginning.state(alloc)?;
-                self.expand(alloc, rest)
-            }
-            "then" => self.expand(alloc, rest),
-            "times" => self.times(alloc, rest),
-            "put" => self.put(alloc, rest),
-            "get" => {
-                let name = self.text(alloc, rest)?;
-                value(alloc, &self.state.vars, &name)
-            }
-            "remove" => self.remove(alloc, rest),
-            "draw" => words(alloc, rest.parse::<u32>()?, &mut self.state.fns),
+            "select" => self.select(alloc, rest, out),
+            "times" => self.times(alloc, rest, out),
+            "put" => self.put(alloc, rest, out),
+            "draw" => words(rest.parse::<u32>()?, &mut self.state.fns, out),
             _ => {
-                self.set(alloc, word, rest)?;
-                Ok(String::new(alloc))
+                if self.sets(alloc, word, rest)? {
+                    return Ok(());
+                }
+                let text = self.text(alloc, rest)?;
+                self.run_on(alloc, word, &text, out)
             }
         }
     }

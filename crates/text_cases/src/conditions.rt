@@ -1,8 +1,8 @@
 // What a text is worth as a condition.
 
-use crate::texts::shown;
+use crate::texts::Shown;
 use cond_expr::{Cond, CondError, CondValue, eval, parse_cond};
-use std::alloc::Global;
+use std::alloc::{AllocError, Global};
 
 // The reading alone. What it promises is left out here, so that no proof above carries it along.
 fn read(alloc: Global, text: &[u8]) -> anyhow::Result<Result<Cond, CondError>> {
@@ -13,27 +13,27 @@ fn read(alloc: Global, text: &[u8]) -> anyhow::Result<Result<Cond, CondError>> {
 }
 
 /// A value, and which kind it is of.
-fn value_text(alloc: Global, value: &CondValue) -> anyhow::Result<String> {
+fn write_value(value: &CondValue, out: &mut String) -> Result<(), AllocError> {
     match value {
-        CondValue::Number(number) => Ok(format!(in alloc; "number {number}")?),
-        CondValue::Text(text) => {
-            let text = shown(alloc, text.bytes())?;
-            Ok(format!(in alloc; "text '{text}'")?)
-        }
-        CondValue::Truth(truth) => Ok(format!(in alloc; "truth {truth}")?),
+        CondValue::Number(number) => write!(out, " => number {number}"),
+        CondValue::Text(text) => write!(out, " => text '{}'", Shown(text.bytes())),
+        CondValue::Truth(truth) => write!(out, " => truth {truth}"),
+    }
+}
+
+/// The value of a condition, or why it has none.
+fn write_worth(alloc: Global, cond: &Cond, out: &mut String) -> Result<(), AllocError> {
+    match eval(alloc, cond) {
+        Ok(value) => write_value(&value, out),
+        Err(error) => write!(out, " => no value: {error}"),
     }
 }
 
 /// The value of a condition, or why it is not read or has no value.
-pub fn answer(alloc: Global, text: &[u8]) -> anyhow::Result<String> {
+pub fn answer(alloc: Global, text: &[u8], out: &mut String) -> anyhow::Result<()> {
     match read(alloc, text)? {
-        Ok(cond) => match eval(alloc, &cond) {
-            Ok(value) => {
-                let value = value_text(alloc, &value)?;
-                Ok(format!(in alloc; " => {value}")?)
-            }
-            Err(error) => Ok(format!(in alloc; " => no value: {error}")?),
-        },
-        Err(error) => Ok(format!(in alloc; " => not read: {error}")?),
+        Ok(cond) => write_worth(alloc, &cond, out)?,
+        Err(error) => write!(out, " => not read: {error}")?,
     }
+    Ok(())
 }

@@ -1,9 +1,10 @@
 // What templates expand to, over the variables, properties and numbers of a thread.
 
-use crate::texts::shown;
+use crate::templates::read;
+use crate::texts::Shown;
 use jm_base::{M, NoMemory, Outcome, Outside, Request, Text};
-use std::alloc::Global;
-use template_text::{Template, parse_template};
+use std::alloc::{AllocError, Global};
+use template_text::Template;
 use var_functions::{FnState, Props, PropsError, UserState, VarError, Vars, expand};
 
 /// An outside with a clock alone, which is at 1,000 first and goes on by 7 at each reading. It keeps its readings.
@@ -95,14 +96,6 @@ pub fn properties(alloc: Global, text: &[u8]) -> anyhow::Result<Result<Props, Pr
     Ok(Props::read(alloc, text))
 }
 
-fn template_of(alloc: Global, text: &[u8]) -> anyhow::Result<Template> {
-    if text.len() > 65536 {
-        anyhow::bail!("the template has more than 65,536 bytes");
-    }
-    let template = parse_template(alloc, text)?;
-    Ok(template)
-}
-
 // The expansion alone. What it promises is left out here, so that no proof above carries it along.
 fn expanded(
     alloc: Global,
@@ -113,24 +106,35 @@ fn expanded(
     expand(alloc, template, state, clock)
 }
 
+fn write_text(text: Result<Text, VarError>, out: &mut String) -> Result<(), AllocError> {
+    match text {
+        Ok(text) => write!(out, " => '{}'", Shown(text.bytes())),
+        Err(error) => write!(out, " => {error}"),
+    }
+}
+
+fn write_readings(readings: &[u64], out: &mut String) -> Result<(), AllocError> {
+    if !readings.is_empty() {
+        out.push_str(", clock read at")?;
+    }
+    for reading in readings {
+        write!(out, " {reading}")?;
+    }
+    Ok(())
+}
+
 /// What a text expands to, and the readings of the clock.
-pub fn answer(alloc: Global, text: &[u8], state: &mut UserState) -> anyhow::Result<String> {
-    let template = template_of(alloc, text)?;
+pub fn answer(
+    alloc: Global,
+    text: &[u8],
+    state: &mut UserState,
+    out: &mut String,
+) -> anyhow::Result<()> {
+    let template = read(alloc, text)?;
     let mut clock = Clock::new(alloc);
-    let mut answer = match expanded(alloc, &template, state, &mut clock) {
-        Ok(text) => {
-            let text = shown(alloc, text.bytes())?;
-            format!(in alloc; " => '{text}'")?
-        }
-        Err(error) => format!(in alloc; " => {error}")?,
-    };
-    if !clock.readings.is_empty() {
-        answer.push_str(", clock read at")?;
-    }
-    for reading in &clock.readings {
-        answer.push_str(format!(in alloc; " {reading}")?.as_str())?;
-    }
-    Ok(answer)
+    write_text(expanded(alloc, &template, state, &mut clock), out)?;
+    write_readings(&clock.readings, out)?;
+    Ok(())
 }
 
 // Expands the template that many times and gives the bytes of all texts.
@@ -155,29 +159,28 @@ pub fn often(
     text: &[u8],
     state: &mut UserState,
     count: u32,
-) -> anyhow::Result<String> {
-    let template = template_of(alloc, text)?;
+    out: &mut String,
+) -> anyhow::Result<()> {
+    let template = read(alloc, text)?;
     let bytes = expand_often(alloc, &template, state, count)?;
-    Ok(format!(in alloc; " => {bytes} bytes")?)
+    write!(out, " => {bytes} bytes")?;
+    Ok(())
 }
 
 /// The value of a variable.
-pub fn value(alloc: Global, vars: &Vars, name: &[u8]) -> anyhow::Result<String> {
+pub fn value(vars: &Vars, name: &[u8], out: &mut String) -> anyhow::Result<()> {
     match vars.get(name) {
-        Some(value) => {
-            let value = shown(alloc, value.bytes())?;
-            Ok(format!(in alloc; " => '{value}'")?)
-        }
-        None => Ok(format!(in alloc; " => not defined")?),
+        Some(value) => write!(out, " => '{}'", Shown(value.bytes()))?,
+        None => out.push_str(" => not defined")?,
     }
+    Ok(())
 }
 
 /// The next random words, as many as the count says.
-pub fn words(alloc: Global, count: u32, fns: &mut FnState) -> anyhow::Result<String> {
-    let mut words = format!(in alloc; " =>")?;
+pub fn words(count: u32, fns: &mut FnState, out: &mut String) -> anyhow::Result<()> {
+    out.push_str(" =>")?;
     for _ in 0..count {
-        let word = fns.draw();
-        words.push_str(format!(in alloc; " {word}")?.as_str())?;
+        write!(out, " {}", fns.draw())?;
     }
-    Ok(words)
+    Ok(())
 }

@@ -14,13 +14,25 @@ mod templates;
 mod texts;
 
 use cases::Cases;
+use std::alloc::Global;
+
+/// Prints a line, and what it gave after it.
+fn answer(rt: &impl Print, alloc: Global, cases: &mut Cases, line: &str) -> anyhow::Result<()> {
+    let mut given = String::new(alloc);
+    cases.run(alloc, line, &mut given)?;
+    println!(rt; "{line}{given}")?;
+    Ok(())
+}
+
+/// Goes through the lines of the input.
+fn answer_all(rt: &(impl Input + Print), alloc: Global, cases: &mut Cases) -> anyhow::Result<()> {
+    for line in rt.lines(alloc) {
+        answer(rt, alloc, cases, line?.as_str())?;
+    }
+    Ok(())
+}
 
 fn main(rt: HostRuntime) -> anyhow::Result<()> {
     let mut cases = Cases::new(rt.alloc())?;
-    for line in rt.lines(rt.alloc()) {
-        let line = line?;
-        let answer = cases.run(rt.alloc(), line.as_str())?;
-        println!(rt; "{line}{answer}")?;
-    }
-    Ok(())
+    answer_all(&rt, rt.alloc(), &mut cases)
 }

@@ -1,9 +1,10 @@
 // The steps of a JSON path, and the texts that it selects.
 
-use crate::texts::shown;
+use crate::texts::Shown;
+use jm_base::Text;
 use json_path::{JsonPath, PathError, Step, parse_path, select};
 use serde_json::Value;
-use std::alloc::Global;
+use std::alloc::{AllocError, Global};
 
 // The reading alone. What it promises is left out here, so that no proof above carries it along.
 fn read(alloc: Global, text: &[u8]) -> anyhow::Result<Result<JsonPath, PathError>> {
@@ -14,40 +15,46 @@ fn read(alloc: Global, text: &[u8]) -> anyhow::Result<Result<JsonPath, PathError
 }
 
 /// One step.
-fn step_text(alloc: Global, step: &Step) -> anyhow::Result<String> {
+fn write_step(step: &Step, out: &mut String) -> Result<(), AllocError> {
     match step {
-        Step::Name(name) => {
-            let name = shown(alloc, name.bytes())?;
-            Ok(format!(in alloc; " name '{name}'")?)
-        }
-        Step::Index(place) => Ok(format!(in alloc; " place {place}")?),
-        Step::All => Ok(format!(in alloc; " all")?),
+        Step::Name(name) => write!(out, " name '{}'", Shown(name.bytes())),
+        Step::Index(place) => write!(out, " place {place}"),
+        Step::All => out.push_str(" all"),
     }
+}
+
+fn write_steps(path: &JsonPath, out: &mut String) -> Result<(), AllocError> {
+    out.push_str(" => steps")?;
+    for step in path.steps() {
+        write_step(step, out)?;
+    }
+    Ok(())
 }
 
 /// The steps of a path, or why it is not read.
-pub fn answer(alloc: Global, text: &[u8]) -> anyhow::Result<String> {
-    let path = match read(alloc, text)? {
-        Ok(path) => path,
-        Err(error) => return Ok(format!(in alloc; " => {error}")?),
-    };
-    let mut steps = format!(in alloc; " => steps")?;
-    for step in path.steps() {
-        steps.push_str(step_text(alloc, step)?.as_str())?;
+pub fn answer(alloc: Global, text: &[u8], out: &mut String) -> anyhow::Result<()> {
+    match read(alloc, text)? {
+        Ok(path) => write_steps(&path, out)?,
+        Err(error) => write!(out, " => {error}")?,
     }
-    Ok(steps)
+    Ok(())
+}
+
+fn write_texts(texts: &[Text], out: &mut String) -> Result<(), AllocError> {
+    out.push_str(" => values")?;
+    for text in texts {
+        write!(out, " '{}'", Shown(text.bytes()))?;
+    }
+    Ok(())
 }
 
 /// The texts that a path selects from a JSON value.
-pub fn selection(alloc: Global, text: &[u8], body: &str) -> anyhow::Result<String> {
+pub fn selection(alloc: Global, text: &[u8], body: &str, out: &mut String) -> anyhow::Result<()> {
     let path = read(alloc, text)??;
     let Ok(value) = Value::from_str(alloc, body) else {
         anyhow::bail!("the value is not JSON");
     };
-    let mut texts = format!(in alloc; " => values")?;
-    for text in &select(alloc, &path, &value)? {
-        let text = shown(alloc, text.bytes())?;
-        texts.push_str(format!(in alloc; " '{text}'")?.as_str())?;
-    }
-    Ok(texts)
+    let texts = select(alloc, &path, &value)?;
+    write_texts(&texts, out)?;
+    Ok(())
 }

@@ -1,7 +1,7 @@
 // The tokens of a schedule.
 
 use schedule_text::{Schedule, ScheduleError, Token, parse_schedule};
-use std::alloc::Global;
+use std::alloc::{AllocError, Global};
 
 // The reading alone. What it promises is left out here, so that no proof above carries it along.
 fn read(alloc: Global, text: &[u8]) -> anyhow::Result<Result<Schedule, ScheduleError>> {
@@ -12,26 +12,29 @@ fn read(alloc: Global, text: &[u8]) -> anyhow::Result<Result<Schedule, ScheduleE
 }
 
 /// One token.
-fn token_text(alloc: Global, token: Token) -> anyhow::Result<String> {
+fn write_token(token: Token, out: &mut String) -> Result<(), AllocError> {
     match token {
-        Token::Turn(thread) => Ok(format!(in alloc; " turn {thread}")?),
-        Token::Turns(thread) => Ok(format!(in alloc; " turns {thread}")?),
-        Token::Reporter => Ok(format!(in alloc; " reporter")?),
-        Token::Reporters => Ok(format!(in alloc; " reporters")?),
+        Token::Turn(thread) => write!(out, " turn {thread}"),
+        Token::Turns(thread) => write!(out, " turns {thread}"),
+        Token::Reporter => out.push_str(" reporter"),
+        Token::Reporters => out.push_str(" reporters"),
     }
 }
 
-/// The tokens of a schedule, the first 40 of them one by one, or why it is not read.
-pub fn answer(alloc: Global, text: &[u8]) -> anyhow::Result<String> {
-    let schedule = match read(alloc, text)? {
-        Ok(schedule) => schedule,
-        Err(error) => return Ok(format!(in alloc; " => {error}")?),
-    };
-    let tokens = schedule.tokens();
-    let count = tokens.len();
-    let mut texts = format!(in alloc; " => {count} tokens:")?;
+/// How many tokens there are, and the first 40 of them one by one.
+fn write_tokens(tokens: &[Token], out: &mut String) -> Result<(), AllocError> {
+    write!(out, " => {} tokens:", tokens.len())?;
     for token in tokens.iter().take(40) {
-        texts.push_str(token_text(alloc, *token)?.as_str())?;
+        write_token(*token, out)?;
     }
-    Ok(texts)
+    Ok(())
+}
+
+/// The tokens of a schedule, the first 40 of them one by one, or why it is not read.
+pub fn answer(alloc: Global, text: &[u8], out: &mut String) -> anyhow::Result<()> {
+    match read(alloc, text)? {
+        Ok(schedule) => write_tokens(schedule.tokens(), out)?,
+        Err(error) => write!(out, " => {error}")?,
+    }
+    Ok(())
 }

@@ -1,11 +1,11 @@
 // How a text is read as a template, and how that is spelled.
 
-use crate::texts::shown;
-use std::alloc::Global;
+use crate::texts::Shown;
+use std::alloc::{AllocError, Global};
 use template_text::{Piece, Template, parse_template, spell};
 
-// The reading alone. What it promises is left out here, so that no proof above carries it along.
-fn read(alloc: Global, text: &[u8]) -> anyhow::Result<Template> {
+/// The reading alone. What it promises is left out here, so that no proof above carries it along.
+pub fn read(alloc: Global, text: &[u8]) -> anyhow::Result<Template> {
     if text.len() > 65536 {
         anyhow::bail!("the template has more than 65,536 bytes");
     }
@@ -14,21 +14,14 @@ fn read(alloc: Global, text: &[u8]) -> anyhow::Result<Template> {
 
 /// Writes the pieces of a template: plain text as `'text'`, a variable as `<name>`, a call as `(name:argument|argument|)`.
 #[cycle(pieces)]
-fn write_pieces(alloc: Global, template: &Template, out: &mut String) -> anyhow::Result<()> {
+fn write_pieces(template: &Template, out: &mut String) -> Result<(), AllocError> {
     for piece in &template.pieces {
         match piece {
-            Piece::Text(text) => {
-                let plain = shown(alloc, text.bytes())?;
-                out.push_str(format!(in alloc; "'{plain}'")?.as_str())?;
-            }
-            Piece::Var(name) => {
-                let variable = shown(alloc, name.bytes())?;
-                out.push_str(format!(in alloc; "<{variable}>")?.as_str())?;
-            }
+            Piece::Text(text) => write!(out, "'{}'", Shown(text.bytes()))?,
+            Piece::Var(name) => write!(out, "<{}>", Shown(name.bytes()))?,
             Piece::Call { name, args } => {
-                let function = shown(alloc, name.bytes())?;
-                out.push_str(format!(in alloc; "({function}:")?.as_str())?;
-                write_arguments(alloc, args, out)?;
+                write!(out, "({}:", Shown(name.bytes()))?;
+                write_arguments(args, out)?;
                 out.push_str(")")?;
             }
         }
@@ -38,20 +31,20 @@ fn write_pieces(alloc: Global, template: &Template, out: &mut String) -> anyhow:
 
 /// Writes the pieces of each argument, and `|` after it.
 #[cycle(pieces)]
-fn write_arguments(alloc: Global, args: &[Template], out: &mut String) -> anyhow::Result<()> {
+fn write_arguments(args: &[Template], out: &mut String) -> Result<(), AllocError> {
     for argument in args {
-        write_pieces(alloc, argument, out)?;
+        write_pieces(argument, out)?;
         out.push_str("|")?;
     }
     Ok(())
 }
 
 /// The pieces of a text and their spelling.
-pub fn answer(alloc: Global, text: &[u8]) -> anyhow::Result<String> {
+pub fn answer(alloc: Global, text: &[u8], out: &mut String) -> anyhow::Result<()> {
     let template = read(alloc, text)?;
-    let mut pieces = String::new(alloc);
-    write_pieces(alloc, &template, &mut pieces)?;
+    out.push_str(" => ")?;
+    write_pieces(&template, out)?;
     let spelling = spell(alloc, &template)?;
-    let spelling = shown(alloc, spelling.bytes())?;
-    Ok(format!(in alloc; " => {pieces} spelled '{spelling}'")?)
+    write!(out, " spelled '{}'", Shown(spelling.bytes()))?;
+    Ok(())
 }
