@@ -159,6 +159,9 @@ impl<D: Dialer + Drop, C: Clock + Drop> Outside for HttpOutside<D, C> {
 
         // The answer to another request is the script's.
         ensures script { IfOk result (AsksScript sampler request.now self.old.script self.new.script) }
+
+        // Out of memory the script stands as before, whichever the request.
+        ensures unscripted { OnErr result (TellsNothing self.old.script self.new.script) }
         ensures clock { self.new.clock ≡ self.old.clock }
     {
         match request {

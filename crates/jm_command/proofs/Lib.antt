@@ -1,4 +1,5 @@
 pub mod TextLaws
+pub mod AskedLaws
 pub mod ProgramLaws
 pub mod ExactLaws
 pub mod PlaceLaws

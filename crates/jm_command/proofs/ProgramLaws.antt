@@ -12,21 +12,32 @@ use Rattle.std.proofs.lemmas.List.{drop_all}
 use Rattle.edge_io.specs.Edges.{TookAll, TookCount, TookAtMost}
 use Rattle.edge_io.proofs.EdgeLaws.{Keeps-refl}
 use Rattle.element_props.specs.Patterns.{Asked}
+use Rattle.jm_command.proofs.AskedLaws.{goes_some, stops_some}
 use Rattle.element_tree.specs.Tree.{Tree, threads_of}
 use Rattle.plan_maker.specs.Generated.{generated}
 use Rattle.command_words.specs.declared.command.Command.{Command}
 use Rattle.jm_command.specs.declared.refusal.Refusal.{Refusal}
-use Rattle.jm_command.specs.declared.refusal.Refusal.TheVariants.{TooLong}
+use Rattle.jm_command.specs.declared.refusal.Refusal.TheVariants.{TooLong, Shape, Build, Unfit}
 use Rattle.command_words.specs.declared.command.Command.TheVariants.{Check, Make, Solo, Weave, Run}
 use Rattle.command_words.specs.declared.command.Make.{Make as MakeOf}
 use Rattle.command_words.specs.declared.command.Solo.{Solo as SoloOf}
 use Rattle.jm_command.specs.declared.status.Status.{Status}
 use Rattle.jm_command.specs.declared.status.Status.TheVariants.{Done, Usage, Refused, ReadFault, WriteFault, Memory}
-use Rattle.jm_command.specs.Refusals.{ReadsPlan, IsAccepted, IsRefused, replies_fault, thread_fault, first_fault, samples_fault, refusal_line}
+use Rattle.jm_command.specs.Refusals.{ReadsPlan, IsAccepted, IsRefused, AsksSome, MayAsk, replies_fault, thread_fault, first_fault, samples_fault, refusal_line}
 use Rattle.jm_command.specs.Printed.{MayPrint}
 use Rattle.trace_output.specs.Printing.{TextOut, TextFailed}
-use Rattle.jm_command.specs.Command.{plan_limit, Edges, edges, Accepts, Makes, HasPlan, Refuses, IsRefusal, RefusalUnwritten, ResultsUnwritten, ReportUnwritten, NothingPrinted, ResultsCut, ReportCut, IsCutShort, SaysUnplanned, Says, NothingRead, usage_line}
+use Rattle.jm_command.specs.Command.{plan_limit, Edges, edges, Accepts, Makes, HasPlan, Refuses, IsRefusal, RefusalUnwritten, ResultsUnwritten, ReportUnwritten, ReadsSome, NothingPrinted, ResultsCut, ReportCut, IsCutShort, SaysUnplanned, Says, NothingRead, HasAsked, usage_line}
 use Rattle.jm_command.specs.Parts.{Sinks, sinks, LineSays, ResultsFailed, ReportFailed, ResultsShort, ReportShort, PlanSays, RefusalSays, SaysUnfound, IsPlain, HasThread, CanRun}
+
+-- what was asked for until a plan was accepted or refused
+accepted_asks : (command : Command) (bytes : List ℕ) (before after : Asked) (plan : Tree) → IsAccepted command bytes before after plan → AsksSome bytes before after
+accepted_asks command bytes before after plan is = record { tree = is.tree; shape = is.is_plan.shape; asks = goes_some is.is_plan.built }
+
+pub refused_asks : (command : Command) (bytes : List ℕ) (before after : Asked) (refusal : Refusal) → IsRefused command bytes before after refusal → MayAsk bytes before after
+refused_asks command bytes before after TooLong is = absurd is
+refused_asks command bytes before after (Shape e) is = inl is.1
+refused_asks command bytes before after (Build e) is = inr (record { tree = is.0; shape = is.1; asks = stops_some is.2 })
+refused_asks command bytes before after (Unfit e) is = inr (record { tree = is.tree; shape = is.is_plan.shape; asks = goes_some is.is_plan.built })
 
 -- a refusal and its line
 pub refusal_said : (command : Command) (bytes : List ℕ) (before after : Asked) (old new : Option (List ℕ)) (faults now : ℕ) (refusal : Refusal) → IsRefused command bytes before after refusal
@@ -36,7 +47,7 @@ refusal_said command bytes before after old new faults now refusal is Usage s = 
 refusal_said command bytes before after old new faults now refusal is Refused s = (refusal, is, s)
 refusal_said command bytes before after old new faults now refusal is ReadFault s = absurd s
 refusal_said command bytes before after old new faults now refusal is WriteFault s = (refusal, is, s)
-refusal_said command bytes before after old new faults now refusal is Memory s = s
+refusal_said command bytes before after old new faults now refusal is Memory s = (s.0, s.1, refused_asks command bytes before after refusal is)
 
 -- one thread of the plan can be run, where the conditions of that hold
 pub samples_fit : (plan : Tree) (samples : ℕ) → samples_fault plan samples ≡ None → length (threads_of plan) * samples ≤ 4194304
@@ -133,21 +144,26 @@ took_whole None left' bytes took = tt
 took_whole (Some l) left' bytes took = (omega (arith, ap length took.0), took.1 ∙ ap Some (sym (drop_all (length bytes) l (omega (arith, ap length took.0)))))
 
 -- nothing is printed, whatever the words are
-pub cut_with_nothing : (words : Option Command) (old new : Edges) → NothingPrinted old new → IsCutShort words old new
+pub cut_with_nothing : (words : Option Command) (old new : Edges) → NothingPrinted words old new → IsCutShort words old new
 cut_with_nothing None old new nothing = nothing
 cut_with_nothing (Some command) old new nothing = inl nothing
 
 -- memory ran out before anything was read or printed
-pub nothing_at_start : (edges : Edges) → NothingPrinted edges edges
-nothing_at_start edges = record {
+none_read : (words : Option Command) (edges : Edges) → ReadsSome words edges edges
+none_read None edges = record { left = Keeps-refl edges.left; calm = refl; asked = refl }
+none_read (Some command) edges = inl (record { left = Keeps-refl edges.left; calm = refl; asked = refl })
+
+pub nothing_at_start : (words : Option Command) (edges : Edges) → NothingPrinted words edges edges
+nothing_at_start words edges = record {
   took = (0, omega arith, took_none edges.left);
+  reads = none_read words edges;
   results = Keeps-refl edges.results;
   reports = Keeps-refl edges.reports;
   no_fault = record { source = refl; results = refl; reports = refl };
 }
 
 pub cut_at_start : (words : Option Command) (edges : Edges) → IsCutShort words edges edges
-cut_at_start words edges = cut_with_nothing words edges edges (nothing_at_start edges)
+cut_at_start words edges = cut_with_nothing words edges edges (nothing_at_start words edges)
 
 -- texts that are cut short, of a command that has its plan
 texts_cut : (left left' : Option (List ℕ)) (read read' : ℕ) (old new : Sinks) (asked asked' : Asked) (command : Command)
@@ -205,9 +221,10 @@ module _ (left left' : Option (List ℕ)) (read read' : ℕ) (results : Option (
     record { rose = failed.rose; results = Keeps-refl results; reports = failed.prefix; read_calm = calm; result_calm = refl },
   )
 
-  nothing_with : TookAtMost left left' (plan_limit + 1) → new ≡ old → told' ≡ told → NothingPrinted before after
-  nothing_with took same quiet = record {
+  nothing_with : TookAtMost left left' (plan_limit + 1) → (asked' ≡ asked) ⊎ HasAsked before after → new ≡ old → told' ≡ told → NothingPrinted (Some command) before after
+  nothing_with took asks same quiet = record {
     took = took;
+    reads = inr (reads, asks);
     results = Keeps-refl results;
     reports = keeps_same old new same;
     no_fault = record { source = calm; results = refl; reports = quiet };
@@ -220,11 +237,14 @@ module _ (left left' : Option (List ℕ)) (read read' : ℕ) (results : Option (
   long_said took still Refused s = refused_with TooLong (reads, inl (record { long = took; refusal_is = refl; asked = still })) s
   long_said took still ReadFault s = absurd s
   long_said took still WriteFault s = unwritten_with TooLong (reads, inl (record { long = took; refusal_is = refl; asked = still })) s
-  long_said took still Memory s = nothing_with (plan_limit + 1, omega arith, took) s.0 s.1
+  long_said took still Memory s = nothing_with (plan_limit + 1, omega arith, took) (inl still) s.0 s.1
 
   module _ (bytes : List ℕ) (within : length bytes ≤ plan_limit) (took : TookAll left left' bytes) where
     refuses : (refusal : Refusal) → IsRefused command bytes asked asked' refusal → Refuses command before after refusal
     refuses refusal is = (reads, inr (record { bytes = bytes; within = within; read = took; refused = is }))
+
+    has_asked : MayAsk bytes asked asked' → (asked' ≡ asked) ⊎ HasAsked before after
+    has_asked may = elim may [ inl still ↦ inl still | inr some ↦ inr (record { bytes = bytes; within = within; read = took; asks = some }) ]
 
     pub unfound_said : (status : Status) → SaysUnfound command bytes asked asked' old new told told' status → SaysUnplanned command before after status
     unfound_said Done s = absurd s
@@ -232,7 +252,7 @@ module _ (left left' : Option (List ℕ)) (read read' : ℕ) (results : Option (
     unfound_said Refused s = refused_with s.0 (refuses s.0 s.1) s.2
     unfound_said ReadFault s = absurd s
     unfound_said WriteFault s = unwritten_with s.0 (refuses s.0 s.1) s.2
-    unfound_said Memory s = nothing_with (length bytes, omega (arith, within), took_whole left left' bytes took) s.0 s.1
+    unfound_said Memory s = nothing_with (length bytes, omega (arith, within), took_whole left left' bytes took) (has_asked s.2) s.0 s.1
 
 -- the same of what a call answered
 pub unfound_by : {P : Type 0} (left left' : Option (List ℕ)) (read read' : ℕ) (old new : Option (List ℕ)) (told told' : ℕ) (asked asked' : Asked) → read' ≡ read → (command : Command)
@@ -291,6 +311,7 @@ module _ (left left' : Option (List ℕ)) (read read' : ℕ) (old new : Sinks) (
   plan_said plan is Memory s = elim s [
     | inl nothing ↦ inl (record {
       took = (length is.bytes, omega (arith, is.within), took_whole left left' is.bytes is.read);
+      reads = inr (reads, inr (record { bytes = is.bytes; within = is.within; read = is.read; asks = accepted_asks command is.bytes asked asked' plan is.accepted }));
       results = keeps_same old.results new.results nothing.results.results;
       reports = keeps_same old.reports new.reports nothing.reports.reports;
       no_fault = record { source = calm; results = nothing.results.result_faults; reports = nothing.reports.report_faults };
@@ -351,6 +372,7 @@ module _ (left : Option (List ℕ)) (read : ℕ) (old new : Sinks) (asked : Aske
   made_said Memory s = elim s [
     | inl nothing ↦ inl (record {
       took = (0, omega arith, took_none left);
+      reads = inl makes.unread;
       results = keeps_same old.results new.results nothing.results.results;
       reports = keeps_same old.reports new.reports nothing.reports.reports;
       no_fault = record { source = refl; results = nothing.results.result_faults; reports = nothing.reports.report_faults };

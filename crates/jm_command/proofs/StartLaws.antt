@@ -177,7 +177,7 @@ cut_start (Some Check) ticks after e alone = (cut_at_start (Some Check) e, alone
 cut_start (Some (Make m)) ticks after e alone = (cut_at_start (Some (Make m)) e, alone)
 cut_start (Some (Solo o)) ticks after e alone = (cut_at_start (Some (Solo o)) e, alone)
 cut_start (Some (Weave w)) ticks after e alone = (cut_at_start (Some (Weave w)) e, alone)
-cut_start (Some (Run r)) ticks after e alone = inl (nothing_at_start e, alone)
+cut_start (Some (Run r)) ticks after e alone = inl (nothing_at_start (Some (Run r)) e, alone)
 
 -- no outside was opened
 pub none_served : (opened closed : List ℕ) → opened ≡ [] → (n : ℕ) × AreServed n opened closed closed

@@ -19,7 +19,7 @@ use Rattle.command_words.specs.declared.command.Make.{Make as MakeOf}
 use Rattle.plan_maker.specs.Generated.{generated}
 use Rattle.jm_command.specs.declared.refusal.Refusal.{Refusal}
 use Rattle.jm_command.specs.declared.refusal.Refusal.TheVariants.{TooLong}
-use Rattle.jm_command.specs.Refusals.{ReadsPlan, IsAccepted, IsRefused, fault_for, refusal_line}
+use Rattle.jm_command.specs.Refusals.{ReadsPlan, IsAccepted, IsRefused, AsksSome, fault_for, refusal_line}
 use Rattle.jm_command.specs.Printed.{TextsOf, MayPrint}
 
 abbrev pub usage_line : List ℕ
@@ -173,9 +173,23 @@ abbrev pub IsUnwritten : Option Command → Edges → Edges → Type 0
 IsUnwritten None old new = UsageUnwritten old new
 IsUnwritten (Some command) old new = RefusalUnwritten command old new ⊎ (ResultsUnwritten command old new ⊎ ReportUnwritten command old new)
 
+-- the plan was read to its end, and of the patterns that its reading asks for a prefix was asked for
+pub record HasAsked (old new : Edges) : Type 0 where
+  pub bytes : List ℕ
+  pub within : length bytes ≤ plan_limit
+  pub read : TookAll old.left new.left bytes
+  pub asks : AsksSome bytes old.asked new.asked
+
+-- What was read and asked for where nothing is printed: nothing at all; or, by a command that reads its plan, no pattern was asked
+-- for, or a prefix of those that the plan's reading asks for.
+abbrev pub ReadsSome : Option Command → Edges → Edges → Type 0
+ReadsSome None old new = NothingRead old new
+ReadsSome (Some command) old new = NothingRead old new ⊎ (ReadsPlan command × ((new.asked ≡ old.asked) ⊎ HasAsked old new))
+
 -- Status 7: memory ran out. No count of faults rose. Nothing is printed, and no more was read than shows that a plan is too long; or a prefix of one text of a command that has its plan, and then nothing later was begun.
-pub record NothingPrinted (old new : Edges) : Type 0 where
+pub record NothingPrinted (words : Option Command) (old new : Edges) : Type 0 where
   pub took : TookAtMost old.left new.left (plan_limit + 1)
+  pub reads : ReadsSome words old new
   pub results : Keeps old.results new.results
   pub reports : Keeps old.reports new.reports
   pub no_fault : HasNoFault old new
@@ -201,8 +215,8 @@ pub record ReportCut (command : Command) (old new : Edges) : Type 0 where
   pub no_fault : HasNoFault old new
 
 abbrev pub IsCutShort : Option Command → Edges → Edges → Type 0
-IsCutShort None old new = NothingPrinted old new
-IsCutShort (Some command) old new = NothingPrinted old new ⊎ (ResultsCut command old new ⊎ ReportCut command old new)
+IsCutShort None old new = NothingPrinted None old new
+IsCutShort (Some command) old new = NothingPrinted (Some command) old new ⊎ (ResultsCut command old new ⊎ ReportCut command old new)
 
 -- what a status says where a command that reads a plan has none
 abbrev pub SaysUnplanned : Command → Edges → Edges → Status → Type 0
@@ -211,7 +225,7 @@ SaysUnplanned command old new Usage = ⊥
 SaysUnplanned command old new Refused = IsRefusal command old new
 SaysUnplanned command old new ReadFault = IsUnread command old new
 SaysUnplanned command old new WriteFault = RefusalUnwritten command old new
-SaysUnplanned command old new Memory = NothingPrinted old new
+SaysUnplanned command old new Memory = NothingPrinted (Some command) old new
 
 -- what a status says of a run whose words are this command, or none
 abbrev pub Says : Option Command → Edges → Edges → Status → Type 0

@@ -18,7 +18,7 @@ use Rattle.command_words.specs.declared.command.Weave.{Weave as WeaveOf}
 use Rattle.jm_command.specs.declared.refusal.Refusal.{Refusal}
 use Rattle.jm_command.specs.declared.judge.Judged.{Judged}
 use Rattle.jm_command.specs.declared.judge.Judged.TheVariants.{Fit, Unfit, NoMemory}
-use Rattle.jm_command.specs.Refusals.{IsAccepted, IsRefused, refusal_line}
+use Rattle.jm_command.specs.Refusals.{IsAccepted, IsRefused, MayAsk, refusal_line}
 use Rattle.jm_command.specs.Printed.{default_solo, shown_of, report_of, HasShown, TextsOf, MayPrint}
 
 -- what the two sinks hold, where it is told, and their counts of faults
@@ -162,7 +162,7 @@ SaysUnfound command bytes before after old new faults now Refused =
 SaysUnfound command bytes before after old new faults now ReadFault = ⊥
 SaysUnfound command bytes before after old new faults now WriteFault =
     (refusal : Refusal) × IsRefused command bytes before after refusal × TextFailed (refusal_line refusal) old new faults now
-SaysUnfound command bytes before after old new faults now Memory = (new ≡ old) × (now ≡ faults)
+SaysUnfound command bytes before after old new faults now Memory = (new ≡ old) × (now ≡ faults) × MayAsk bytes before after
 
 -- the status after texts that are printed: done where they are whole, else 7
 abbrev pub WholeSays : Bool → Status → Type 0
@@ -196,11 +196,11 @@ IsPlain (Run r) = ⊥
 
 -- ---- the plan of some bytes
 
--- a plan that is fit for the command, or why it is refused
+-- A plan that is fit for the command, or why it is refused. Where memory ran out, what was asked for on the way.
 abbrev pub Judges : Command → List ℕ → Asked → Asked → Judged → Type 0
 Judges command bytes before after (Fit plan) = IsAccepted command bytes before after plan
 Judges command bytes before after (Unfit refusal) = IsRefused command bytes before after refusal
-Judges command bytes before after NoMemory = Unit {0}
+Judges command bytes before after NoMemory = MayAsk bytes before after
 
 -- the thread that is run is one of the plan's, and its samples can be summed
 pub record HasThread (s : Solo) (plan : Tree) : Type 0 where

@@ -1,5 +1,5 @@
 -- Why a plan is refused, and the line that says so.
-use Rattle.std.specs.Prelude.{◌≡◌, ℕ, ◌+◌, ◌*◌, nat_le, List, [], ◌∷◌, ◌++◌, length, slice_get, unwrap_or, position, Option, Some, None, Ok, Err, codes, if◌then◌else◌}
+use Rattle.std.specs.Prelude.{◌≡◌, ◌⊎◌, ℕ, ◌+◌, ◌*◌, nat_le, List, [], ◌∷◌, ◌++◌, length, slice_get, unwrap_or, position, Option, Some, None, Ok, Err, codes, if◌then◌else◌}
 use Rattle.std.specs.Option.{option_map}
 use Rattle.plan_json.specs.Place.{Place, at, path_text}
 use Rattle.plan_json.specs.Shape.{Raw, raw, Raws, no_raws, raw_then, reading_of}
@@ -10,7 +10,7 @@ use Rattle.element_props.specs.declared.error.BuildError.TheVariants as builds
 use Rattle.element_props.specs.declared.error.What.{What}
 use Rattle.element_props.specs.declared.error.What.TheVariants as whats
 use Rattle.element_props.specs.Patterns.{Asked}
-use Rattle.element_props.specs.Reads.{over, Goes, Stops}
+use Rattle.element_props.specs.Reads.{over, Goes, Stops, RunsOut}
 use Rattle.element_tree.specs.Tree.{Tree, threads_of, asks_a_server}
 use Rattle.element_tree.specs.Walk.{is_enabled, reading}
 use Rattle.command_words.specs.declared.command.Command.{Command}
@@ -109,6 +109,16 @@ IsRefused command bytes before after refusals.TooLong = ⊥
 IsRefused command bytes before after (refusals.Shape e) = (reading_of bytes ≡ Err e) × (after ≡ before)
 IsRefused command bytes before after (refusals.Build e) = (tree : Raw) × (reading_of bytes ≡ Ok tree) × Stops before (reading tree) e after
 IsRefused command bytes before after (refusals.Unfit e) = IsUnfit command bytes before after e
+
+-- The bytes were read as this tree, and the maker of patterns was given a prefix of the texts that the tree's reading asks for.
+pub record AsksSome (bytes : List ℕ) (before after : Asked) : Type 0 where
+  pub tree : Raw
+  pub shape : reading_of bytes ≡ Ok tree
+  pub asks : RunsOut before (reading tree) after
+
+-- it was given nothing, or such a prefix
+abbrev pub MayAsk : List ℕ → Asked → Asked → Type 0
+MayAsk bytes before after = (after ≡ before) ⊎ AsksSome bytes before after
 
 -- ---- the line
 

@@ -20,7 +20,7 @@ use Rattle.thread_machine.specs.declared.trace.TraceItem.{TraceItem}
 use Rattle.trace_output.specs.Texts.{traces_text, end_of, ends_text}
 use Rattle.reporter_loop.specs.ReportsWritten.{texts_of, WritesPrefix}
 use Rattle.reporter_loop.specs.Ticked.{HasTickedWhere, TickedSoFar}
-use Rattle.run_engine.specs.Followed.{AllFollow}
+use Rattle.run_engine.specs.Followed.{AllFollow, AreFollowed}
 use Rattle.run_engine.specs.Joins.{AllEnd}
 use Rattle.run_engine.specs.Keeps.{all_entries}
 use Rattle.run_engine.specs.Paired.{pairs_of}
@@ -126,11 +126,16 @@ pub record AllPrinted (r : RunOf) (plan : Tree) (ticks : Option Ticks) (after : 
 abbrev pub HasTickedSoFar : RunOf → Option Ticks → Around → Type 0
 HasTickedSoFar r ticks after = (n : ℕ) × (n ≤ 16777216) × TickedSoFar n (option_map (with_period r.every) ticks) after.ticks
 
+-- each outside that was opened was told what some trace of its thread follows, where the world tells
+abbrev pub HasHeardSoFar : RunOf → Tree → Around → Type 0
+HasHeardSoFar r plan after = after.tells ≡ true → AreFollowed plan (run_options r) after.opened after.told
+
 -- A sink has failed while the threads ran: the reports hold a prefix of the lines of reports that are numbered from 0, and the
 -- results nothing.
 pub record RunFailed (r : RunOf) (plan : Tree) (ticks : Option Ticks) (after : Around) (old new : Sinks) : Type 0 where
   pub begun : WritesPrefix (report_text plan) old.reports new.reports
   pub ticked : HasTickedSoFar r ticks after
+  pub heard : HasHeardSoFar r plan after
   pub rose : Rose old.report_faults new.report_faults
   pub nothing : NoResults old new
 
@@ -159,6 +164,7 @@ pub record TailFailed (r : RunOf) (plan : Tree) (ticks : Option Ticks) (after : 
 pub record RunCut (r : RunOf) (plan : Tree) (ticks : Option Ticks) (after : Around) (old new : Sinks) : Type 0 where
   pub begun : WritesPrefix (report_text plan) old.reports new.reports
   pub ticked : HasTickedSoFar r ticks after
+  pub heard : HasHeardSoFar r plan after
   pub report_calm : new.report_faults ≡ old.report_faults
   pub nothing : NoResults old new
 
@@ -211,7 +217,7 @@ RunStarts r ticks after old new statuses.Usage = ⊥
 RunStarts r ticks after old new statuses.Refused = IsRefusal (Run r) old new × IsLeftAlone ticks after
 RunStarts r ticks after old new statuses.ReadFault = IsUnread (Run r) old new × IsLeftAlone ticks after
 RunStarts r ticks after old new statuses.WriteFault = (RefusalUnwritten (Run r) old new × IsLeftAlone ticks after) ⊎ RunSays r ticks after old new statuses.WriteFault
-RunStarts r ticks after old new statuses.Memory = (NothingPrinted old new × IsLeftAlone ticks after) ⊎ RunSays r ticks after old new statuses.Memory
+RunStarts r ticks after old new statuses.Memory = (NothingPrinted (Some (Run r)) old new × IsLeftAlone ticks after) ⊎ RunSays r ticks after old new statuses.Memory
 
 -- What a status says of a start whose words are this command, or none: of a plain command what it says there, and then the world and
 -- the ticker were left alone.

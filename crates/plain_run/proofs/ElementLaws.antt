@@ -2,9 +2,10 @@
 use Rattle.std.proofs.Common.{◌≡◌, ℕ, zero, suc, ◌+◌, ◌-◌, ◌<◌, ◌≤◌, Bool, true, false, List, [], ◌∷◌, length, drop, Option, Some, None, refl, ap, arith, add-one}
 use Rattle.std.proofs.Math.ListN.{get_or}
 use Rattle.std.proofs.Math.Seq.{drop-cons}
-use Rattle.std.specs.Prelude.{slice_get, ◌==◌, if◌then◌else◌}
+use Rattle.std.specs.Prelude.{slice_get, Result, ◌==◌, if◌then◌else◌}
 use Rattle.std.proofs.lemmas.Bool.Decides.{nat_tests}
 use Rattle.std.proofs.lemmas.List.{drop_all}
+use Rattle.jm_base.specs.declared.errors.NoMemory.{NoMemory}
 use Rattle.jm_base.specs.declared.types.End.TheVariants.{ValueLimit as PastValueLimit}
 use Rattle.jm_base.specs.declared.types.Method.{Method}
 use Rattle.jm_base.specs.declared.types.ScriptReply.{ScriptReply}
@@ -18,12 +19,13 @@ use Rattle.element_tree.specs.declared.kinds.Kind.TheVariants.{Simple, OnceOnly,
 use Rattle.logic_controllers.specs.IfController.{is_true}
 use Rattle.jm_meaning.specs.declared.signal.Signal.{Signal}
 use Rattle.jm_meaning.specs.declared.signal.Signal.TheVariants.{Normal, Stop}
-use Rattle.jm_meaning.specs.State.{State, Part, normal, and_then, Try, tried}
+use Rattle.jm_meaning.specs.State.{State, Part, normal, on_normal, and_then, Try, tried}
 use Rattle.jm_meaning.specs.Children.{Below, in_order, if_once, if_each}
 use Rattle.jm_meaning.specs.Meaning.{Here, meaning, kind_meaning}
 use Rattle.plain_run.specs.declared.progress.Progress.{Progress}
-use Rattle.plain_run.specs.Plays.{state_in, Plays}
+use Rattle.plain_run.specs.Plays.{state_in, Plays, IsUnderWay, Runs}
 use Rattle.plain_run.proofs.Ways.{OnWay, way-start, way-as, way-end, way-over, way-then, way-stop, way-tried, way-past}
+use Rattle.plain_run.proofs.UnderWay.{on-way-in, way-runs}
 
 -- a part that is another one where the thread stands
 pub plays-as : {a b : Account} {p q : Progress} {signal : Signal} (part part' : Part) → Plays a p part' signal q b → part (state_in p) ≡ part' (state_in p) → Plays a p part signal q b
@@ -131,15 +133,20 @@ module _ (a b c : Account) (p0 p q : Progress) (below : Below) (round : ℕ) (at
     pub condition-false : is_true x ≡ false → Plays a p0 (if_each below round cs attempt) Normal q c
     condition-false wrong = way-over Normal tested (if-not (is_true x) (and_then (below (get_or cs i 0) round (state_in q)) (if_each below round (drop (i + 1) cs) attempt)) (over (normal (state_in q))) wrong)
 
-    module _ (d : Account) (r : Progress) (signal : Signal) (right : is_true x ≡ true) (plays : Plays c q (below (get_or cs i 0) round) signal r d) where
-      chosen : where_true below round attempt (get_or cs i 0) (drop (i + 1) cs) x (state_in q) ≡ and_then (below (get_or cs i 0) round (state_in q)) (if_each below round (drop (i + 1) cs) attempt)
-      chosen = if-so (is_true x) (and_then (below (get_or cs i 0) round (state_in q)) (if_each below round (drop (i + 1) cs) attempt)) (over (normal (state_in q))) right
+    chosen : is_true x ≡ true
+        → where_true below round attempt (get_or cs i 0) (drop (i + 1) cs) x (state_in q) ≡ and_then (below (get_or cs i 0) round (state_in q)) (if_each below round (drop (i + 1) cs) attempt)
+    chosen right = if-so (is_true x) (and_then (below (get_or cs i 0) round (state_in q)) (if_each below round (drop (i + 1) cs) attempt)) (over (normal (state_in q))) right
 
+    -- out of memory in a child
+    pub child-cut : (d : Account) → is_true x ≡ true → IsUnderWay c (below (get_or cs i 0) round (state_in q)) d → IsUnderWay a (if_each below round cs attempt (state_in p0)) d
+    child-cut d right at = on-way-in (below (get_or cs i 0) round (state_in q)) (on_normal (if_each below round (drop (i + 1) cs) attempt)) tested (chosen right) at
+
+    module _ (d : Account) (r : Progress) (signal : Signal) (right : is_true x ≡ true) (plays : Plays c q (below (get_or cs i 0) round) signal r d) where
       pub child-done : signal ≡ Normal → OnWay a p0 (if_each below round cs attempt) (if_each below round (drop (i + 1) cs) attempt) r d
-      child-done normal = way-then (below (get_or cs i 0) round) (if_each below round (drop (i + 1) cs) attempt) tested chosen plays normal
+      child-done normal = way-then (below (get_or cs i 0) round) (if_each below round (drop (i + 1) cs) attempt) tested (chosen right) plays normal
 
       pub child-last : (signal ≡ Normal → ⊥) → Plays a p0 (if_each below round cs attempt) signal r d
-      child-last other = way-stop (below (get_or cs i 0) round) (if_each below round (drop (i + 1) cs) attempt) tested chosen plays other
+      child-last other = way-stop (below (get_or cs i 0) round) (if_each below round (drop (i + 1) cs) attempt) tested (chosen right) plays other
 
 -- ---- an If that evaluates its condition once
 
@@ -157,6 +164,6 @@ module _ (a b : Account) (p q : Progress) (below : Below) (round : ℕ) (attempt
     pub once-false : is_true x ≡ false → Plays a p (if_once below round cs attempt) Normal q b
     once-false wrong = way-over Normal entered (if-not (is_true x) (in_order below round cs (state_in q)) (over (normal (state_in q))) wrong)
 
-    pub once-true : (c : Account) (r : Progress) (signal : Signal) → is_true x ≡ true → Plays b q (in_order below round cs) signal r c → Plays a p (if_once below round cs attempt) signal r c
-    once-true c r signal right plays =
-        way-end (way-as (in_order below round cs) entered (if-so (is_true x) (in_order below round cs (state_in q)) (over (normal (state_in q))) right)) plays
+    pub once-true : (c : Account) (r : Progress) (result : Result Signal NoMemory) → is_true x ≡ true → Runs b q (in_order below round cs) result r c → Runs a p (if_once below round cs attempt) result r c
+    once-true c r result right runs =
+        way-runs c r result (way-as (in_order below round cs) entered (if-so (is_true x) (in_order below round cs (state_in q)) (over (normal (state_in q))) right)) runs

@@ -1,6 +1,7 @@
 mod ShowsLaws
 mod TellsLaws
 mod Ways
+mod UnderWay
 mod RoundWays
 mod StepLaws
 mod TurnLaws

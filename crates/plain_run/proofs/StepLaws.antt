@@ -29,8 +29,9 @@ use Rattle.jm_meaning.specs.Sampling.{given_sample, after_waited, given, after_s
 use Rattle.jm_meaning.specs.Transactions.{with_sample}
 use Rattle.jm_meaning.proofs.PartLaws.{no-rounds, one-round, no-units, one-unit, puts-came}
 use Rattle.plain_run.specs.declared.progress.Progress.{Progress}
-use Rattle.plain_run.specs.Plays.{state_in, with_pause, Plays}
+use Rattle.plain_run.specs.Plays.{state_in, with_pause, Plays, IsUnderWay, Runs}
 use Rattle.plain_run.proofs.Ways.{OnWay, way-start, way-silent, way-move, way-give, way-end, way-over, way-then, way-stop, way-tried, way-past}
+use Rattle.plain_run.proofs.UnderWay.{where-left, in-bind, on-way-tried, on-way-then, way-shows}
 use Rattle.plain_run.proofs.RoundWays.{split}
 
 -- a refusal past a limit has come to the limit
@@ -44,6 +45,18 @@ pub refused-so : (res : Result Signal NoMemory) (error : VarError) (Q : Signal �
     → (error ≡ ValueLimit → Q (Stop PastValueLimit)) → IfOk res Q
 refused-so (Ok signal) error Q h q = subst Q (sym h.1) (q h.0)
 refused-so (Err e) error Q h q = tt
+
+-- out of memory it has come somewhere on its way
+pub at-memory : {A : Type 0} {a b : Account} {run limit : Run A} {error : VarError} → Refused a run b limit error → error ≡ NoMemoryLeft → IsUnderWay a run b
+at-memory (by_limit goes) is = absurd (cc)
+at-memory (by_memory left) is = where-left left
+
+-- what a refusal makes of a part
+pub refused-runs : {a b : Account} {p q : Progress} {part : Part} (res : Result Signal NoMemory) (error : VarError)
+    → MatchResult res (λ signal. (error ≡ ValueLimit) × (signal ≡ Stop PastValueLimit)) (λ e. error ≡ NoMemoryLeft)
+    → (error ≡ ValueLimit → Plays a p part (Stop PastValueLimit) q b) → (error ≡ NoMemoryLeft → IsUnderWay a (part (state_in p)) b) → Runs a p part res q b
+refused-runs {a} {b} {p} {q} {part} (Ok signal) error h past cut = subst (λ s. Plays a p part s q b) (sym h.1) (past h.0)
+refused-runs (Err e) error h past cut = cut h
 
 -- the text of a template, or none past a limit
 pub text-goes : (a b : Account) (template : Pieces) (old new : UserState) (came : Option (List ℕ))
@@ -90,6 +103,11 @@ pub taken-then : {a b c : Account} {p q r : Progress} {first signal : Signal} (f
     → Plays a p (λ s. with_round s (λ s. and_then (f s) g)) signal r c
 taken-then {a} {p = p} f g plays normal next =
     way-end (way-then (λ s. with_round s f) g (way-start a p (λ s. with_round s (λ s. and_then (f s) g))) (split p.rounds (state_in p) f g) plays normal) next
+
+pub taken-cut : {a b c : Account} {p q : Progress} {first : Signal} (f g : Part) → Plays a p (λ s. with_round s f) first q b → first ≡ Normal → IsUnderWay b (g (state_in q)) c
+    → IsUnderWay a (with_round (state_in p) (λ s. and_then (f s) g)) c
+taken-cut {a} {p = p} f g plays normal at =
+    on-way-then (way-then (λ s. with_round s f) g (way-start a p (λ s. with_round s (λ s. and_then (f s) g))) (split p.rounds (state_in p) f g) plays normal) at
 
 pub not-taken : {a b : Account} {p q : Progress} {signal : Signal} (f g : Part) → Plays a p (λ s. with_round s f) signal q b → (signal ≡ Normal → ⊥)
     → Plays a p (λ s. with_round s (λ s. and_then (f s) g)) signal q b
@@ -148,10 +166,13 @@ module _ (a b : Account) (p : Progress) (elements : List Element) (number : ℕ)
         (one-unit (state_in p) (sampling elements number at_failure) (p.units - 1) is) refl refl (omega arith) refl
 
     pub sampler-runs : (done : Done) → Goes a (piped p.user) [] (over (fine done user)) b
-        → (q : Progress) (signal : Signal) → Plays b (record p { units = p.units - 1; user = user }) (given number at_failure done) signal q b
-        → Plays a p (λ s. with_unit s (sampling elements number at_failure)) signal q b
-    sampler-runs done goes q signal plays =
-        way-end (way-tried (record p { units = p.units - 1; user = user }) piped (given number at_failure) done in_unit refl goes refl) plays
+        → (q : Progress) (result : Result Signal NoMemory) → IfOk result (λ signal. (c : Account) → Plays c (record p { units = p.units - 1; user = user }) (given number at_failure done) signal q c)
+        → Runs a p (λ s. with_unit s (sampling elements number at_failure)) result q b
+    sampler-runs done goes q result shows =
+        way-shows q result (way-tried (record p { units = p.units - 1; user = user }) piped (given number at_failure) done in_unit refl goes refl) shows
+
+    pub sampler-cut : (error : VarError) → Refused a (piped p.user) b (over (past_limit user)) error → error ≡ NoMemoryLeft → IsUnderWay a (with_unit (state_in p) (sampling elements number at_failure)) b
+    sampler-cut error refused is = on-way-tried piped (given number at_failure) in_unit refl (at-memory refused is)
 
     pub sampler-refused : (error : VarError) → Refused a (piped p.user) b (over (past_limit user)) error → error ≡ ValueLimit
         → Plays a p (λ s. with_unit s (sampling elements number at_failure)) (Stop PastValueLimit) (record p { units = p.units - 1; user = user }) b
@@ -180,6 +201,9 @@ module _ (a b : Account) (elements : List Element) (group : ℕ) (p q : Progress
   -- or the thread stops
   pub round-out : (ok : Bool) → ok ≡ false → Goes a starting [] (answers ok q.config.places q.user) b → Plays a p (round_start elements group) (Stop StopThread) q b
   round-out ok is goes = way-over (Stop StopThread) (came_to (where_fed ok) (goes-bind (on_fed before) goes)) (ap (λ x. where_fed x (state_in q)) is)
+
+  pub round-cut : (error : VarError) → Refused a starting b (step_past_limit q.config.places q.user) error → error ≡ NoMemoryLeft → IsUnderWay a (round_start elements group (state_in p)) b
+  round-cut error refused is = in-bind (on_fed before) (at-memory refused is)
 
   pub round-refused : (error : VarError) → Refused a starting b (step_past_limit q.config.places q.user) error → error ≡ ValueLimit
       → Plays a p (round_start elements group) (Stop PastValueLimit) q b

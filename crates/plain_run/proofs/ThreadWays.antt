@@ -4,6 +4,7 @@ use Rattle.std.specs.Prelude.{slice_get}
 use Rattle.jm_base.specs.declared.types.End.{End}
 use Rattle.jm_base.specs.Run.{Run, over, give, Ended}
 use Rattle.jm_base.specs.Outside.{Account}
+use Rattle.jm_base.proofs.RunLaws.{goes-append}
 use Rattle.element_tree.specs.Tree.{Tree, group_of}
 use Rattle.element_tree.specs.declared.kinds.Element.{Element}
 use Rattle.element_tree.specs.declared.kinds.Kind.{Kind}
@@ -14,18 +15,21 @@ use Rattle.jm_meaning.specs.declared.item.Item.{Item}
 use Rattle.jm_meaning.specs.declared.item.Item.TheVariants.{Ended as EndedItem}
 use Rattle.jm_meaning.specs.declared.signal.Signal.{Signal}
 use Rattle.jm_meaning.specs.declared.signal.Signal.TheVariants.{Normal, NextLoop, Stop}
-use Rattle.jm_meaning.specs.State.{State, Part, normal}
-use Rattle.jm_meaning.specs.Beginning.{Options, max_rounds, first_of, set_first}
+use Rattle.var_functions.specs.declared.state.UserState.{UserState}
+use Rattle.config_elements.specs.RoundStart.{first_config}
+use Rattle.jm_meaning.specs.State.{State, Part, state_of, normal}
+use Rattle.jm_meaning.specs.Beginning.{Options, max_rounds, first_places, first_of, set_first}
 use Rattle.jm_meaning.specs.Rounds.{rounds, group_turns, caught, round_of_group, round_start}
 use Rattle.jm_meaning.specs.Children.{in_order, children_of}
 use Rattle.jm_meaning.specs.Meaning.{meaning, group_part, group_meaning, here_at, failure_in, failure_of, signal_of, thread_part, events, end_of, and_end, after_pause}
 use Rattle.jm_meaning.specs.RampUp.{pause_of}
 use Rattle.jm_meaning.specs.TraceShown.{Shows}
 use Rattle.plain_run.specs.declared.progress.Progress.{Progress}
-use Rattle.plain_run.specs.Plays.{state_in, ended, Tells, Plays, here_of, caught_signal}
+use Rattle.plain_run.specs.Plays.{state_in, ended, Tells, Plays, IsUnderWay, here_of, caught_signal}
 use Rattle.plain_run.proofs.ShowsLaws.{shows-append, shows-bind, shows-give}
 use Rattle.plain_run.proofs.TellsLaws.{tells-bind}
 use Rattle.plain_run.proofs.Ways.{way-start, way-end, way-then, way-stop}
+use Rattle.plain_run.proofs.UnderWay.{in-bind, on-way-then}
 
 -- ---- a round of the group
 
@@ -76,24 +80,57 @@ pub thread-runs : {a b c : Account} {p q r : Progress} {first signal : Signal} (
 thread-runs {a} {p = p} plan group plays normal next =
     way-end (way-then (set_first plan.elements) (group_part (here_at plan group) group (slice_get plan.elements group)) (way-start a p (thread_part plan group)) refl plays normal) next
 
+-- out of memory in the rounds of its group
+pub thread-cut : {a b c : Account} {p q : Progress} {first : Signal} (plan : Tree) (group : ℕ) → Plays a p (set_first plan.elements) first q b → first ≡ Normal
+    → IsUnderWay b (group_part (here_at plan group) group (slice_get plan.elements group) (state_in q)) c → IsUnderWay a (thread_part plan group (state_in p)) c
+thread-cut {a} {p = p} plan group plays normal at =
+    on-way-then (way-then (set_first plan.elements) (group_part (here_at plan group) group (slice_get plan.elements group)) (way-start a p (thread_part plan group)) refl plays normal) at
+
 pub thread-stops : {a b : Account} {p q : Progress} {signal : Signal} (plan : Tree) (group : ℕ) → Plays a p (set_first plan.elements) signal q b → (signal ≡ Normal → ⊥)
     → Plays a p (thread_part plan group) signal q b
 thread-stops {a} {p = p} plan group plays other =
     way-stop (set_first plan.elements) (group_part (here_at plan group) group (slice_get plan.elements group)) (way-start a p (thread_part plan group)) refl plays other
 
--- after its pause, its first variables and the rounds of its group the thread ends
-pub thread-shows : (plan : Tree) (thread group ms : ℕ) (options : Options) (a b d : Account) (xs : List Item) (p q : Progress) (signal : Signal) (end : End)
-    → xs ≡ [] → group ≡ group_of plan thread → ms ≡ pause_of plan thread → state_in p ≡ first_of plan thread options
-    → ((run : Run (Unit {0})) → Shows a xs (after_pause ms run) run p.items.items b)
-    → Plays b p (thread_part plan group) signal q d → end ≡ end_of signal
-    → Shows a [] (events plan thread options) (over tt) (q.items.items ++ EndedItem end ∷ []) d
+-- the state that it begins with
+pub first-state : (plan : Tree) (thread : ℕ) (options : Options) (user : UserState) (places config : List ℕ) → user ≡ (first_of plan thread options).user → places ≡ first_places plan.elements
+    → config ≡ first_config plan.elements → state_of user (record { units = options.budget; rounds = max_rounds; places = places; config = config }) ≡ first_of plan thread options
+first-state plan thread options user places config u p c = rw (u, p, c) refl
+
+-- out of memory in its pause
+pub pause-cut : (plan : Tree) (thread ms : ℕ) (options : Options) (a b : Account) → ms ≡ pause_of plan thread → ((run : Run (Unit {0})) → IsUnderWay a (after_pause ms run) b)
+    → IsUnderWay a (events plan thread options) b
 unfolding events
-thread-shows plan thread group ms options a b d xs p q signal end none is pause begun waited plays ends =
+pause-cut plan thread ms options a b pause cut =
     let run : Run (Unit {0}) = and_end (thread_part plan (group_of plan thread) (first_of plan thread options)) in
-    let first : Shows a [] (after_pause (pause_of plan thread) run) run p.items.items b =
-    subst (λ m. Shows a [] (after_pause m run) run p.items.items b) pause (subst (λ l. Shows a l (after_pause ms run) run p.items.items b) none (waited run)) in
-    let there : Shows b p.items.items (thread_part plan (group_of plan thread) (first_of plan thread options)) (over (ended q signal)) q.items.items d =
-    subst (λ g. Shows b p.items.items (thread_part plan g (first_of plan thread options)) (over (ended q signal)) q.items.items d) is
-    (subst (λ s. Shows b p.items.items (thread_part plan group s) (over (ended q signal)) q.items.items d) begun plays.tells.shows) in
-    subst (λ x. Shows a [] (after_pause (pause_of plan thread) run) (over tt) (q.items.items ++ EndedItem x ∷ []) d) (sym ends)
-    (shows-append first (shows-append (shows-bind (λ e. give (Ended (end_of e.signal)) (over tt)) there) (shows-give d q.items.items (Ended (end_of signal)) (over tt))))
+    subst (λ m. IsUnderWay a (after_pause m run) b) pause (cut run)
+
+-- the thread has made its pause
+module _ (plan : Tree) (thread group ms : ℕ) (options : Options) (a b d : Account) (xs : List Item) (p : Progress) (none : xs ≡ []) (is : group ≡ group_of plan thread) (pause : ms ≡ pause_of plan thread)
+    (begun : state_in p ≡ first_of plan thread options) (waited : (run : Run (Unit {0})) → Shows a xs (after_pause ms run) run p.items.items b) where
+  paused : (run : Run (Unit {0})) → Shows a [] (after_pause (pause_of plan thread) run) run p.items.items b
+  paused run = subst (λ m. Shows a [] (after_pause m run) run p.items.items b) pause (subst (λ l. Shows a l (after_pause ms run) run p.items.items b) none (waited run))
+
+  part-is : thread_part plan group (state_in p) ≡ thread_part plan (group_of plan thread) (first_of plan thread options)
+  part-is = ap (λ s. thread_part plan group s) begun ∙ ap (λ g. thread_part plan g (first_of plan thread options)) is
+
+  -- out of memory after it
+  pub rest-cut : IsUnderWay b (thread_part plan group (state_in p)) d → IsUnderWay a (events plan thread options) d
+  unfolding events
+  rest-cut at =
+      let run : Run (Unit {0}) = and_end (thread_part plan (group_of plan thread) (first_of plan thread options)) in
+      let there : IsUnderWay b run d = in-bind (λ e. give (Ended (end_of e.signal)) (over tt)) (subst (λ r. IsUnderWay b r d) part-is at) in
+      ((paused run).events ++ there.0, there.1, goes-append (paused run).goes there.2)
+
+  -- after its first variables and the rounds of its group the thread ends
+  module _ (q : Progress) (signal : Signal) (plays : Plays b p (thread_part plan group) signal q d) where
+    pub end-cut : IsUnderWay a (events plan thread options) d
+    end-cut = rest-cut (plays.tells.shows.events, over (ended q signal), plays.tells.shows.goes)
+
+    pub thread-shows : (end : End) → end ≡ end_of signal → Shows a [] (events plan thread options) (over tt) (q.items.items ++ EndedItem end ∷ []) d
+    unfolding events
+    thread-shows end ends =
+        let run : Run (Unit {0}) = and_end (thread_part plan (group_of plan thread) (first_of plan thread options)) in
+        let there : Shows b p.items.items (thread_part plan (group_of plan thread) (first_of plan thread options)) (over (ended q signal)) q.items.items d =
+        subst (λ r. Shows b p.items.items r (over (ended q signal)) q.items.items d) part-is plays.tells.shows in
+        subst (λ x. Shows a [] (after_pause (pause_of plan thread) run) (over tt) (q.items.items ++ EndedItem x ∷ []) d) (sym ends)
+        (shows-append (paused run) (shows-append (shows-bind (λ e. give (Ended (end_of e.signal)) (over tt)) there) (shows-give d q.items.items (Ended (end_of signal)) (over tt))))

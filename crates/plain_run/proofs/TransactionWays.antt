@@ -1,6 +1,7 @@
 -- How a thread comes through a transaction.
-use Rattle.std.proofs.Common.{◌≡◌, ℕ, suc, ◌-◌, true, false, List, [], ◌∷◌, ◌++◌, refl, sym, ap, ◌∙◌, subst, arith}
-use Rattle.std.specs.Prelude.{◌&&◌, nat_lt, if◌then◌else◌}
+use Rattle.std.proofs.Common.{◌≡◌, ℕ, suc, ◌-◌, true, false, List, [], ◌∷◌, ◌++◌, Result, refl, sym, ap, ◌∙◌, subst, arith}
+use Rattle.std.specs.Prelude.{IfOk, ◌&&◌, nat_lt, if◌then◌else◌}
+use Rattle.jm_base.specs.declared.errors.NoMemory.{NoMemory}
 use Rattle.jm_base.specs.declared.types.End.TheVariants.{SampleLimit}
 use Rattle.jm_base.specs.declared.types.Sample.{Sample}
 use Rattle.jm_base.specs.Run.{over, give, Event, Sampled, Transaction}
@@ -14,8 +15,9 @@ use Rattle.jm_meaning.specs.Transactions.{gives_sample, sample_by, summed, with_
 use Rattle.jm_meaning.proofs.PartLaws.{no-units, one-unit}
 use Rattle.jm_meaning.proofs.TransactionLaws.{by-tally, goes-inside}
 use Rattle.plain_run.specs.declared.progress.Progress.{Progress}
-use Rattle.plain_run.specs.Plays.{state_in, ended, Plays}
-use Rattle.plain_run.proofs.Ways.{OnWay, way-start, way-move, way-give, way-end, way-over}
+use Rattle.plain_run.specs.Plays.{state_in, ended, Plays, IsUnderWay, Runs}
+use Rattle.plain_run.proofs.Ways.{OnWay, way-start, way-move, way-give, way-over}
+use Rattle.plain_run.proofs.UnderWay.{way-shows}
 
 -- what is left of a transaction after its children, by what it has counted and the signal
 abbrev pub sum_behind : ℕ → Tally → Signal → Part
@@ -27,6 +29,14 @@ unfolding tallied
 summed-so label tally e = refl
 
 -- ---- the children
+
+-- out of memory in them
+pub transaction-cut : {a b : Account} (label : ℕ) (part : Part) (p : Progress) → IsUnderWay a (part (state_in p)) b → IsUnderWay a (transaction label part (state_in p)) b
+transaction-cut {a} {b} label part p at = (
+  at.0,
+  transaction_from label (counted (tally_of []) at.0) at.1,
+  subst (λ r. Goes a r at.0 (transaction_from label (counted (tally_of []) at.0) at.1) b) (sym (by-tally label part (state_in p))) (goes-inside label (tally_of []) at.2),
+)
 
 module _ {a b : Account} (p : Progress) {q : Progress} {signal : Signal} (label : ℕ) (part : Part) (none : Tally) (empty : none ≡ tally_of [])
     (inside : Plays a (record p { tally = none }) part signal q b) where
@@ -42,10 +52,10 @@ module _ {a b : Account} (p : Progress) {q : Progress} {signal : Signal} (label 
       (sym counts-so) (goes-inside label (tally_of []) inside.tells.shows.goes)))
 
   -- The children were run from no tally on, and the one before is joined with theirs: what is left is the sample.
-  pub transaction-plays : (joined : Tally) → ((events : List Event) → q.tally ≡ counted (tally_of []) events → joined ≡ counted p.tally events)
-      → (c : Account) (r : Progress) (last : Signal) → Plays b (record q { tally = joined }) (sum_behind label q.tally signal) last r c
-      → Plays a p (transaction label part) last r c
-  transaction-plays joined joins c r last plays = way-end way plays where
+  pub transaction-runs : (joined : Tally) → ((events : List Event) → q.tally ≡ counted (tally_of []) events → joined ≡ counted p.tally events)
+      → (r : Progress) (result : Result Signal NoMemory) → IfOk result (λ last. (c : Account) → Plays c (record q { tally = joined }) (sum_behind label q.tally signal) last r c)
+      → Runs a p (transaction label part) result r b
+  transaction-runs joined joins r result sums = way-shows r result way sums where
     way : OnWay a p (transaction label part) (sum_behind label q.tally signal) (record q { tally = joined }) b
     way = record {
       tells = record {

@@ -1,7 +1,8 @@
 -- What it is that a thread runs a part of its plan.
-use Rattle.std.specs.Prelude.{◌≡◌, ◌≤◌, ℕ, zero, suc, List, [], ◌∷◌, ◌++◌}
-use Rattle.jm_base.specs.Run.{Run, over}
-use Rattle.jm_base.specs.Outside.{Account}
+use Rattle.std.specs.Prelude.{◌≡◌, ◌≤◌, ℕ, zero, suc, List, [], ◌∷◌, ◌++◌, Result, Ok, Err}
+use Rattle.jm_base.specs.declared.errors.NoMemory.{NoMemory}
+use Rattle.jm_base.specs.Run.{Run, Event, over}
+use Rattle.jm_base.specs.Outside.{Account, Goes}
 use Rattle.element_tree.specs.declared.kinds.Kind.{Kind}
 use Rattle.element_tree.specs.declared.kinds.Kind.TheVariants.{Loop, While, ForEach}
 use Rattle.element_tree.specs.Tree.{Tree}
@@ -41,6 +42,16 @@ pub record Plays (before : Account) (old : Progress) (part : Part) (signal : Sig
   pub tells : Tells before old.items.items old.tally (part (state_in old)) (over (ended new signal)) new.items.items new.tally after
   pub fewer : new.rounds ≤ old.rounds
   pub feeds : new.config.feeds ≡ old.config.feeds
+
+-- Between two moments of its outside the run has come some way: it has given some events, and some rest of it is left.
+abbrev pub IsUnderWay : {A : Type 0} → Account → Run A → Account → Type 0
+IsUnderWay {A} before run after = (events : List Event) × (rest : Run A) × Goes before run events rest after
+
+-- What becomes of a part that a thread runs: it is run, and has ended with this signal; or, out of memory, its outside has
+-- been asked for what it does up to somewhere on its way, and for nothing else.
+abbrev pub Runs : Account → Progress → Part → Result Signal NoMemory → Progress → Account → Type 0
+Runs before old part (Ok signal) new after = Plays before old part signal new after
+Runs before old part (Err e) new after = IsUnderWay before (part (state_in old)) after
 
 -- what the run of a thread is over, by its plan and what a failed sample leads to
 abbrev pub here_of : Tree → Signal → Here

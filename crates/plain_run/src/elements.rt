@@ -1,6 +1,6 @@
 // The elements below a thread group, each by its kind.
 
-ghost use Rattle.std.specs.Prelude.{◌≡◌, ◌≤◌, ℕ, IfOk, length, slice_get, Some};
+ghost use Rattle.std.specs.Prelude.{◌≡◌, ◌≤◌, ℕ, length, slice_get, Some};
 ghost use Rattle.element_tree.specs.declared.kinds.Element.{Element};
 ghost use Rattle.choice_controllers.specs.SwitchController.{run_names};
 ghost use Rattle.jm_meaning.specs.State.{text};
@@ -11,7 +11,7 @@ ghost use Rattle.jm_meaning.specs.Choices.{chosen, interleave, random, random_or
 ghost use Rattle.jm_meaning.specs.Sections.{section};
 ghost use Rattle.jm_meaning.specs.Transactions.{transaction};
 ghost use Rattle.jm_meaning.specs.Meaning.{meaning, kind_meaning};
-ghost use Rattle.plain_run.specs.Plays.{Plays, here_of, IsLooping};
+ghost use Rattle.plain_run.specs.Plays.{Runs, here_of, IsLooping};
 
 use crate::children::{children_of, shuffled};
 use crate::progress::Progress;
@@ -36,8 +36,8 @@ fn run_element<O: Outside>(
     outside: &mut O,
 ) -> M<Signal>
     requires { progress.old.rounds ≤ max_rounds }
-    ensures { IfOk result (λ signal. Plays (O.account outside.old) progress.old
-        (meaning (here_of plan.now at_failure) depth number round) signal progress.new (O.account outside.new)) }
+    ensures { Runs (O.account outside.old) progress.old
+        (meaning (here_of plan.now at_failure) depth number round) result progress.new (O.account outside.new) }
 {
     if depth == 0 {
         return Ok(Signal::Normal);
@@ -71,9 +71,9 @@ fn run_kind<O: Outside>(
 ) -> M<Signal>
     requires rounds { progress.old.rounds ≤ max_rounds }
     requires there { slice_get plan.now.elements number ≡ Some element.now }
-    ensures { IfOk result (λ signal. Plays (O.account outside.old) progress.old
+    ensures { Runs (O.account outside.old) progress.old
         (kind_meaning (here_of plan.now at_failure) (meaning (here_of plan.now at_failure) depth) number element.now element.now.kind round)
-        signal progress.new (O.account outside.new)) }
+        result progress.new (O.account outside.new) }
 {
     let children = children_of(progress.alloc, plan, element)?;
     let children = children.as_slice();
@@ -132,9 +132,9 @@ fn run_once<O: Outside>(
     outside: &mut O,
 ) -> M<Signal>
     requires { progress.old.rounds ≤ max_rounds }
-    ensures { IfOk result (λ signal. Plays (O.account outside.old) progress.old
+    ensures { Runs (O.account outside.old) progress.old
         (once_only (meaning (here_of plan.now at_failure) depth) round children.now)
-        signal progress.new (O.account outside.new)) }
+        result progress.new (O.account outside.new) }
 {
     if round == 0 {
         run_children(plan, at_failure, depth, children, round, progress, outside)
@@ -157,9 +157,9 @@ fn run_if<O: Outside>(
     outside: &mut O,
 ) -> M<Signal>
     requires { progress.old.rounds ≤ max_rounds }
-    ensures { IfOk result (λ signal. Plays (O.account outside.old) progress.old
+    ensures { Runs (O.account outside.old) progress.old
         (if_part all (meaning (here_of plan.now at_failure) depth) round children.now (text condition.now))
-        signal progress.new (O.account outside.new)) }
+        result progress.new (O.account outside.new) }
 {
     if all {
         run_if_each(
@@ -186,9 +186,9 @@ fn run_looping<O: Outside>(
     requires rounds { progress.old.rounds ≤ max_rounds }
     requires looping { IsLooping element.now.kind }
     requires children { children.now ≡ children_of plan.now.elements element.now }
-    ensures { (number round : ℕ) → IfOk result (λ signal. Plays (O.account outside.old) progress.old
+    ensures { (number round : ℕ) → Runs (O.account outside.old) progress.old
         (kind_meaning (here_of plan.now at_failure) (meaning (here_of plan.now at_failure) depth) number element.now element.now.kind round)
-        signal progress.new (O.account outside.new)) }
+        result progress.new (O.account outside.new) }
 {
     let name = element.name.bytes();
     match &element.kind {
@@ -236,9 +236,9 @@ pub fn run_children<O: Outside>(
     outside: &mut O,
 ) -> M<Signal>
     requires { progress.old.rounds ≤ max_rounds }
-    ensures { IfOk result (λ signal. Plays (O.account outside.old) progress.old
+    ensures { Runs (O.account outside.old) progress.old
         (in_order (meaning (here_of plan.now at_failure) depth) round children.now)
-        signal progress.new (O.account outside.new)) }
+        result progress.new (O.account outside.new) }
 {
     for child in children {
         match run_element(plan, at_failure, depth, *child, round, progress, outside)? {
@@ -262,9 +262,9 @@ fn run_if_once<O: Outside>(
     outside: &mut O,
 ) -> M<Signal>
     requires { progress.old.rounds ≤ max_rounds }
-    ensures { IfOk result (λ signal. Plays (O.account outside.old) progress.old
+    ensures { Runs (O.account outside.old) progress.old
         (if_once (meaning (here_of plan.now at_failure) depth) round children.now (text condition.now))
-        signal progress.new (O.account outside.new)) }
+        result progress.new (O.account outside.new) }
 {
     let Some(text) = progress.text(condition, outside)? else {
         return Ok(Signal::Stop(End::ValueLimit));
@@ -289,9 +289,9 @@ fn run_if_each<O: Outside>(
     outside: &mut O,
 ) -> M<Signal>
     requires { progress.old.rounds ≤ max_rounds }
-    ensures { IfOk result (λ signal. Plays (O.account outside.old) progress.old
+    ensures { Runs (O.account outside.old) progress.old
         (if_each (meaning (here_of plan.now at_failure) depth) round children.now (text condition.now))
-        signal progress.new (O.account outside.new)) }
+        result progress.new (O.account outside.new) }
 {
     for child in children {
         let Some(text) = progress.text(condition, outside)? else {
@@ -321,9 +321,9 @@ fn run_chosen<O: Outside>(
     outside: &mut O,
 ) -> M<Signal>
     requires rounds { progress.old.rounds ≤ max_rounds }
-    ensures { IfOk result (λ signal. Plays (O.account outside.old) progress.old
+    ensures { Runs (O.account outside.old) progress.old
         (chosen (meaning (here_of plan.now at_failure) depth) round children.now pick)
-        signal progress.new (O.account outside.new)) }
+        result progress.new (O.account outside.new) }
 {
     let Some(place) = pick else {
         return Ok(Signal::Normal);
@@ -348,9 +348,9 @@ fn run_interleave<O: Outside>(
 ) -> M<Signal>
     requires rounds { progress.old.rounds ≤ max_rounds }
     requires few { length children.now ≤ 65535 }
-    ensures { IfOk result (λ signal. Plays (O.account outside.old) progress.old
+    ensures { Runs (O.account outside.old) progress.old
         (interleave (meaning (here_of plan.now at_failure) depth) round number children.now)
-        signal progress.new (O.account outside.new)) }
+        result progress.new (O.account outside.new) }
 {
     if children.is_empty() {
         return Ok(Signal::Normal);
@@ -381,9 +381,9 @@ fn run_random<O: Outside>(
 ) -> M<Signal>
     requires rounds { progress.old.rounds ≤ max_rounds }
     requires few { length children.now ≤ 65535 }
-    ensures { IfOk result (λ signal. Plays (O.account outside.old) progress.old
+    ensures { Runs (O.account outside.old) progress.old
         (random (meaning (here_of plan.now at_failure) depth) round children.now)
-        signal progress.new (O.account outside.new)) }
+        result progress.new (O.account outside.new) }
 {
     let chosen = random_place(children.len() as u16, &mut progress.user.fns);
     run_chosen(
@@ -403,9 +403,9 @@ fn run_order<O: Outside>(
     outside: &mut O,
 ) -> M<Signal>
     requires rounds { progress.old.rounds ≤ max_rounds }
-    ensures { IfOk result (λ signal. Plays (O.account outside.old) progress.old
+    ensures { Runs (O.account outside.old) progress.old
         (random_order (meaning (here_of plan.now at_failure) depth) round children.now)
-        signal progress.new (O.account outside.new)) }
+        result progress.new (O.account outside.new) }
 {
     let order = shuffled(progress.alloc, children, &mut progress.user.fns)?;
     run_children(
@@ -433,9 +433,9 @@ fn run_switch<O: Outside>(
     outside: &mut O,
 ) -> M<Signal>
     requires rounds { progress.old.rounds ≤ max_rounds }
-    ensures { IfOk result (λ signal. Plays (O.account outside.old) progress.old
+    ensures { Runs (O.account outside.old) progress.old
         (switch (meaning (here_of plan.now at_failure) depth) round (run_names plan.now.elements element.now) children.now (text value.now))
-        signal progress.new (O.account outside.new)) }
+        result progress.new (O.account outside.new) }
 {
     let Some(text) = progress.text(value, outside)? else {
         return Ok(Signal::Stop(End::ValueLimit));
@@ -459,9 +459,9 @@ fn run_transaction<O: Outside>(
     outside: &mut O,
 ) -> M<Signal>
     requires { progress.old.rounds ≤ max_rounds }
-    ensures { IfOk result (λ signal. Plays (O.account outside.old) progress.old
+    ensures { Runs (O.account outside.old) progress.old
         (transaction label (in_order (meaning (here_of plan.now at_failure) depth) round children.now))
-        signal progress.new (O.account outside.new)) }
+        result progress.new (O.account outside.new) }
 {
     let around = progress.tally;
     progress.tally = Tally::none();
@@ -484,9 +484,9 @@ fn run_section<O: Outside>(
     outside: &mut O,
 ) -> M<Signal>
     requires { progress.old.rounds ≤ max_rounds }
-    ensures { IfOk result (λ signal. Plays (O.account outside.old) progress.old
+    ensures { Runs (O.account outside.old) progress.old
         (section lock (in_order (meaning (here_of plan.now at_failure) depth) round children.now))
-        signal progress.new (O.account outside.new)) }
+        result progress.new (O.account outside.new) }
 {
     if progress.units == 0 {
         return Ok(Signal::Stop(End::SampleLimit));
@@ -511,9 +511,9 @@ fn run_loop<O: Outside>(
     outside: &mut O,
 ) -> M<Signal>
     requires { progress.old.rounds ≤ max_rounds }
-    ensures { IfOk result (λ signal. Plays (O.account outside.old) progress.old
+    ensures { Runs (O.account outside.old) progress.old
         (rounds max_rounds (loop_turns name.now loops) (λ i. in_order (meaning (here_of plan.now at_failure) depth) i children.now) 0)
-        signal progress.new (O.account outside.new)) }
+        result progress.new (O.account outside.new) }
 {
     let mut round = 0;
     'rounds: while round_begins(loops, round) {
@@ -543,9 +543,9 @@ fn run_while<O: Outside>(
     outside: &mut O,
 ) -> M<Signal>
     requires { progress.old.rounds ≤ max_rounds }
-    ensures { IfOk result (λ signal. Plays (O.account outside.old) progress.old
+    ensures { Runs (O.account outside.old) progress.old
         (rounds max_rounds (while_turns name.now condition.now) (λ i. in_order (meaning (here_of plan.now at_failure) depth) i children.now) 0)
-        signal progress.new (O.account outside.new)) }
+        result progress.new (O.account outside.new) }
 {
     let mut round = 0;
     'rounds: loop {
@@ -582,11 +582,11 @@ fn run_each<O: Outside>(
     outside: &mut O,
 ) -> M<Signal>
     requires { progress.old.rounds ≤ max_rounds }
-    ensures { IfOk result (λ signal. Plays (O.account outside.old) progress.old
+    ensures { Runs (O.account outside.old) progress.old
         (rounds max_rounds
         (each_turns name.now (record { input = input.now; separator = span.separator; start = span.start; end = span.end }) output.now)
         (λ i. in_order (meaning (here_of plan.now at_failure) depth) i children.now) 0)
-        signal progress.new (O.account outside.new)) }
+        result progress.new (O.account outside.new) }
 {
     let mut round = 0;
     'rounds: while let Some(value) = value_at(

@@ -1,12 +1,12 @@
 // A thread: its first variables, and the rounds of its group.
 
-ghost use Rattle.std.specs.Prelude.{◌≡◌, ◌≤◌, IfOk, slice_get};
+ghost use Rattle.std.specs.Prelude.{◌≡◌, ◌≤◌, slice_get};
 ghost use Rattle.jm_meaning.specs.Beginning.{max_rounds};
 ghost use Rattle.config_elements.specs.RoundStart.{feeds_of};
 ghost use Rattle.jm_meaning.specs.Rounds.{rounds, group_turns, round_of_group, round_start};
 ghost use Rattle.jm_meaning.specs.Children.{in_order};
 ghost use Rattle.jm_meaning.specs.Meaning.{meaning, group_part, here_at, thread_part};
-ghost use Rattle.plain_run.specs.Plays.{Plays, here_of, caught_signal};
+ghost use Rattle.plain_run.specs.Plays.{Runs, here_of, caught_signal};
 
 use crate::children::children_of;
 use crate::elements::run_children;
@@ -26,8 +26,8 @@ pub fn run_thread<O: Outside>(
 ) -> M<Signal>
     requires rounds { progress.old.rounds ≤ max_rounds }
     requires feeds { progress.old.config.feeds ≡ feeds_of plan.now.elements group }
-    ensures { IfOk result (λ signal. Plays (O.account outside.old) progress.old
-        (thread_part plan.now group) signal progress.new (O.account outside.new)) }
+    ensures { Runs (O.account outside.old) progress.old
+        (thread_part plan.now group) result progress.new (O.account outside.new) }
 {
     match progress.set_first(plan, outside)? {
         Signal::Normal => {
@@ -47,8 +47,8 @@ fn run_group<O: Outside>(
 ) -> M<Signal>
     requires rounds { progress.old.rounds ≤ max_rounds }
     requires feeds { progress.old.config.feeds ≡ feeds_of plan.now.elements group }
-    ensures { IfOk result (λ signal. Plays (O.account outside.old) progress.old
-        (group_part (here_at plan.now group) group (slice_get plan.now.elements group)) signal progress.new (O.account outside.new)) }
+    ensures { Runs (O.account outside.old) progress.old
+        (group_part (here_at plan.now group) group (slice_get plan.now.elements group)) result progress.new (O.account outside.new) }
 {
     let Some(element) = plan.element(group) else {
         return Ok(Signal::Normal);
@@ -86,9 +86,9 @@ fn run_rounds<O: Outside>(
 ) -> M<Signal>
     requires rounds { progress.old.rounds ≤ max_rounds }
     requires feeds { progress.old.config.feeds ≡ feeds_of plan.now.elements group }
-    ensures { IfOk result (λ signal. Plays (O.account outside.old) progress.old
+    ensures { Runs (O.account outside.old) progress.old
         (rounds max_rounds (group_turns loops (round_start plan.now.elements group)) (λ i s. round_of_group (in_order (meaning (here_of plan.now at_failure) 30) i children.now s)) 0)
-        signal progress.new (O.account outside.new)) }
+        result progress.new (O.account outside.new) }
 {
     let mut round = 0;
     'rounds: while round_begins(loops, round) {

@@ -8,12 +8,13 @@ mod group;
 mod progress;
 mod transaction;
 
-ghost use Rattle.std.specs.Prelude.{length, ◌<◌, ◌≡◌, [], ℕ, IfOk, OnOk};
+ghost use Rattle.std.specs.Prelude.{length, ◌<◌, ◌≡◌, [], ℕ, IfOk, OnOk, OnErr};
 ghost use Rattle.jm_base.specs.Run.{Run, over};
 ghost use Rattle.element_tree.specs.Tree.{threads_of};
 ghost use Rattle.jm_meaning.specs.Beginning.{first_of};
 ghost use Rattle.jm_meaning.specs.Meaning.{events, end_of, after_pause};
 ghost use Rattle.jm_meaning.specs.TraceShown.{Shows};
+ghost use Rattle.plain_run.specs.Plays.{IsUnderWay};
 
 use crate::group::run_thread;
 use crate::progress::Progress;
@@ -29,7 +30,7 @@ use var_functions::{FnState, Props, UserState, Vars};
 ///
 /// Threads are numbered from 0 over all groups. `seed` is that of the random words, `props` are the properties of the run,
 /// and `budget` is how many units of the sample budget the thread may use. It is slow, and takes memory for the whole
-/// trace at once.
+/// trace at once. Out of memory it has asked the outside for a prefix of what the thread does, and for nothing else.
 pub fn run_plainly<O: Outside>(
     alloc: Global,
     plan: &Plan,
@@ -40,9 +41,11 @@ pub fn run_plainly<O: Outside>(
     outside: &mut O,
 ) -> M<Vec<Item>>
     requires { thread < length (threads_of plan.now) }
-    ensures { IfOk result (λ items. Shows (O.account outside.old) []
+    ensures shows { IfOk result (λ items. Shows (O.account outside.old) []
         (events plan.now thread (record { seed = seed; props = props.now; budget = budget }))
         (over tt) items.items (O.account outside.new)) }
+    ensures cut { OnErr result (IsUnderWay (O.account outside.old)
+        (events plan.now thread (record { seed = seed; props = props.now; budget = budget })) (O.account outside.new)) }
 {
     let mut progress = Progress {
         alloc,
@@ -74,8 +77,9 @@ fn first_user(alloc: Global, plan: &Plan, thread: u16, seed: u64, props: &Props)
 
 // A pause of that many milliseconds, where there is one.
 fn pause<O: Outside>(ms: u32, outside: &mut O, items: &mut Vec<Item>) -> M<()>
-    ensures { OnOk result ((run : Run Unit) → Shows (O.account outside.old) items.old.items
+    ensures shows { OnOk result ((run : Run Unit) → Shows (O.account outside.old) items.old.items
         (after_pause ms run) run items.new.items (O.account outside.new)) }
+    ensures cut { OnErr result ((run : Run Unit) → IsUnderWay (O.account outside.old) (after_pause ms run) (O.account outside.new)) }
 {
     if ms > 0 {
         outside.pause(ms)?;

@@ -1,6 +1,6 @@
 // How far a thread has come, and the steps of its run that are no recursion.
 
-ghost use Rattle.std.specs.Prelude.{◌≡◌, ◌≤◌, ◌<◌, ◌%◌, ℕ, [], IfOk, OnOk, MatchResult};
+ghost use Rattle.std.specs.Prelude.{◌≡◌, ◌≤◌, ◌<◌, ◌%◌, ℕ, [], IfOk, OnOk, OnErr, MatchResult};
 ghost use Rattle.jm_base.specs.declared.types.End.TheVariants.{ValueLimit as PastValueLimit};
 ghost use Rattle.jm_base.specs.Run.{over};
 ghost use Rattle.jm_base.specs.Outside.{Account, Goes};
@@ -11,7 +11,7 @@ ghost use Rattle.jm_meaning.specs.Rounds.{set_index, round_start};
 ghost use Rattle.jm_meaning.specs.Choices.{moved_on};
 ghost use Rattle.jm_meaning.specs.Beginning.{set_first};
 ghost use Rattle.jm_meaning.specs.Sampling.{sampling, given, after_sample};
-ghost use Rattle.plain_run.specs.Plays.{state_in, with_pause, Plays};
+ghost use Rattle.plain_run.specs.Plays.{state_in, with_pause, Plays, IsUnderWay, Runs};
 
 use config_elements::{ConfigState, begin_round};
 use element_tree::Plan;
@@ -67,6 +67,7 @@ impl Progress {
     pub fn text<O: Outside>(&mut self, template: &Template, outside: &mut O) -> M<Option<Text>>
         ensures came { IfOk result (λ came. Goes (O.account outside.old) (text template.now self.old.user) []
             (over (record { came = came; user = self.new.user })) (O.account outside.new)) }
+        ensures cut { OnErr result (IsUnderWay (O.account outside.old) (text template.now self.old.user) (O.account outside.new)) }
         ensures same { self.new ≡ record self.old { user = self.new.user } }
     {
         match expand(self.alloc, template, &mut self.user, outside) {
@@ -167,8 +168,8 @@ impl Progress {
         at_failure: Signal,
         outside: &mut O,
     ) -> M<Signal>
-        ensures { IfOk result (λ signal. Plays (O.account outside.old) self.old
-            (λ s. with_unit s (sampling plan.now.elements number at_failure)) signal self.new (O.account outside.new)) }
+        ensures { Runs (O.account outside.old) self.old
+            (λ s. with_unit s (sampling plan.now.elements number at_failure)) result self.new (O.account outside.new) }
     {
         if self.units == 0 {
             return Ok(Signal::Stop(End::SampleLimit));
@@ -230,7 +231,7 @@ impl Progress {
     /// Counters and data sets advance at the start of a round of the thread's group. Where no row is left the thread stops.
     pub fn feed<O: Outside>(&mut self, plan: &Plan, outside: &mut O) -> M<Signal>
         ensures plays { (group : ℕ) → self.old.config.feeds ≡ feeds_of plan.now.elements group
-            → IfOk result (λ signal. Plays (O.account outside.old) self.old (round_start plan.now.elements group) signal self.new (O.account outside.new)) }
+            → Runs (O.account outside.old) self.old (round_start plan.now.elements group) result self.new (O.account outside.new) }
         ensures same { self.new ≡ record self.old { user = self.new.user; config = self.new.config } }
     {
         match begin_round(self.alloc, &mut self.config, plan, &mut self.user, outside) {
@@ -243,8 +244,8 @@ impl Progress {
     /// Begins a round of the thread's group: it is taken from those left, and then Counters and data sets advance.
     pub fn open_group_round<O: Outside>(&mut self, plan: &Plan, outside: &mut O) -> M<Signal>
         ensures plays { (group : ℕ) → self.old.config.feeds ≡ feeds_of plan.now.elements group
-            → IfOk result (λ signal. Plays (O.account outside.old) self.old
-            (λ s. with_round s (round_start plan.now.elements group)) signal self.new (O.account outside.new)) }
+            → Runs (O.account outside.old) self.old
+            (λ s. with_round s (round_start plan.now.elements group)) result self.new (O.account outside.new) }
         ensures taken { IfOk result (λ signal. signal ≡ Signal.Normal → self.new.rounds < self.old.rounds) }
     {
         match self.take_round() {
@@ -258,8 +259,7 @@ impl Progress {
 
     /// Sets the first variables.
     pub fn set_first<O: Outside>(&mut self, plan: &Plan, outside: &mut O) -> M<Signal>
-        ensures { IfOk result (λ signal. Plays (O.account outside.old) self.old
-            (set_first plan.now.elements) signal self.new (O.account outside.new)) }
+        ensures { Runs (O.account outside.old) self.old (set_first plan.now.elements) result self.new (O.account outside.new) }
     {
         match set_first(self.alloc, plan, &mut self.user, outside) {
             Ok(()) => Ok(Signal::Normal),

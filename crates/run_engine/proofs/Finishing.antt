@@ -12,7 +12,7 @@ use Rattle.recorder_core.specs.declared.places.Recorder.{Recorder}
 use Rattle.critical_section.specs.declared.places.Sections.{Sections}
 use Rattle.run_engine.specs.declared.job.Job.{Job}
 use Rattle.run_engine.specs.Followed.{EndsWith, FollowsWhere}
-use Rattle.run_engine.specs.JobsRan.{SameOutside, HasEnded, RunsToEnd, JobRan, AllRan, AllAmong}
+use Rattle.run_engine.specs.JobsRan.{HasEnded, RunsToEnd, JobRan, AllRan, AllAmong}
 use Rattle.run_engine.specs.Made.{IsFresh, AllFresh}
 use Rattle.run_engine.specs.Joins.{IsDone, AllDone}
 

@@ -2,6 +2,7 @@ pub mod Bounding
 pub mod Closing
 pub mod Counting
 pub mod Finishing
+pub mod Hearing
 pub mod JobCrosses
 pub mod Joining
 pub mod Opening

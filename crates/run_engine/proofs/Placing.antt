@@ -2,7 +2,6 @@
 use Rattle.std.proofs.Common.{◌≡◌, ◌∙◌, ℕ, zero, suc, ◌+◌, ◌-◌, ◌<◌, ◌≤◌, List, [], ◌∷◌, ◌++◌, length, Option, Some, None, refl, sym, ap, subst, inl, inr, arith, append_assoc, length-append}
 use Rattle.std.specs.Prelude.{IfSome}
 use Rattle.std.proofs.lemmas.List.{append-nil}
-use Rattle.jm_base.specs.declared.types.Entry.{Entry}
 use Rattle.jm_base.specs.declared.types.End.{End}
 use Rattle.jm_base.specs.declared.types.End.TheVariants.{Completed, StopThread, StopTest, Stopped, SampleLimit, RoundLimit, ValueLimit, NoMemory}
 use Rattle.jm_base.specs.declared.types.Sample.{Sample}
@@ -16,7 +15,7 @@ use Rattle.critical_section.specs.declared.places.SectionSeat.{SectionSeat}
 use Rattle.critical_section.specs.Book.{Section, IsPast, HasOpen, HasPlacesBelow, Enters, closed, closed_list, further_view, one_more as more_made, taking, times}
 use Rattle.critical_section.specs.SectionSeats.{view_of, IsSeatOf, locks_of as locks_in, book_lists}
 use Rattle.critical_section.specs.declared.places.SectionBook.{SectionBook}
-use Rattle.jm_base.specs.SumTotals.{total, one_if}
+use Rattle.jm_base.specs.SumTotals.{total}
 use Rattle.thread_machine.specs.declared.step.Step.{Step}
 use Rattle.thread_machine.specs.declared.step.Step.TheVariants.{Sampled, Null, Enter, Leave, Ended}
 use Rattle.thread_machine.specs.declared.trace.TraceItem.{TraceItem}
@@ -27,7 +26,7 @@ use Rattle.thread_machine.specs.Stepped.{trace_paused, Begins, Gives, Steps, End
 use Rattle.thread_machine.proofs.Ends.{begun_on}
 use Rattle.thread_machine.proofs.Labels.{lock_within}
 use Rattle.run_engine.proofs.Traces.{stopped_as}
-use Rattle.run_engine.specs.SectionsRun.{section_in, entered_in, sections_of_all, RisesAfter, Rises, AllRise, AreNumbered, IsFirstSeat, HasTaken, KeepsSections, HeldAs}
+use Rattle.run_engine.specs.SectionsRun.{section_in, entered_in, sections_of_all, RisesAfter, Rises, AreNumbered, IsFirstSeat, HasTaken, KeepsSections, HeldAs}
 
 -- ---- the sections of a trace
 

@@ -19,18 +19,34 @@ range_at a zero k d low = absurd (omega arith)
 range_at a (suc n) zero d low = omega arith
 range_at a (suc n) (suc k) d low = range_at (a + 1) n k d (omega arith) ∙ (let e : a + 1 + k ≡ a + suc k = omega arith in e)
 
-range_length : (a n : ℕ) → length (range_with_len a n) ≡ n
+pub range_length : (a n : ℕ) → length (range_with_len a n) ≡ n
 range_length a zero = refl
 range_length a (suc n) = let l : length (range_with_len (a + 1) n) ≡ n = range_length (a + 1) n in omega arith
 
--- a number that is not among the first ones
-pub not_yet : (n : ℕ) (opened : List ℕ) → opened ≡ range_with_len 0 n → Contains opened n → ⊥
-not_yet n opened is has =
-    let h = subst (λ (xs : List ℕ). Contains xs n) is has in
+-- the first numbers are low
+pub low_among : (n k : ℕ) (opened : List ℕ) → opened ≡ range_with_len 0 n → Contains opened k → k < n
+low_among n k opened is has =
+    let h = subst (λ (xs : List ℕ). Contains xs k) is has in
     let l : length (range_with_len 0 n) ≡ n = range_length 0 n in
     let low : h.0 < length (range_with_len 0 n) = h.1 in
-    let at : slice_index_or (range_with_len 0 n) h.0 n ≡ 0 + h.0 = range_at 0 n h.0 n (omega arith) in
-    let there : slice_index_or (range_with_len 0 n) h.0 n ≡ n = h.2 in omega arith
+    let at : slice_index_or (range_with_len 0 n) h.0 k ≡ 0 + h.0 = range_at 0 n h.0 k (omega arith) in
+    let there : slice_index_or (range_with_len 0 n) h.0 k ≡ k = h.2 in omega arith
+
+-- a number that is not among the first ones
+pub not_yet : (n : ℕ) (opened : List ℕ) → opened ≡ range_with_len 0 n → Contains opened n → ⊥
+not_yet n opened is has = let low : n < n = low_among n n opened is has in omega arith
+
+-- one number more
+pub up_to_next : (P : ℕ → Type 0) (n : ℕ) → ((i : ℕ) → i < n → P i) → P n → (i : ℕ) → i < n + 1 → P i
+up_to_next P zero below here zero low = here
+up_to_next P zero below here (suc i) low = absurd (omega arith)
+up_to_next P (suc n) below here zero low = below 0 (omega arith)
+up_to_next P (suc n) below here (suc i) low = up_to_next (λ k. P (suc k)) n (λ k l. below (suc k) (omega arith)) here i (omega arith)
+
+-- what holds of each element's number, whatever stands in its place beyond the end
+pub each_number : {A : Type 0} (P : ℕ → Type 0) (xs : List A) → ((i : ℕ) (d : A) → i < length xs → P i) → (i : ℕ) → i < length xs → P i
+each_number P [] each i low = absurd (omega arith)
+each_number P (x ∷ xs) each i low = each i x low
 
 -- the numbers of a list, one after another
 pub numbers_from : {A : Type 0} (f : A → ℕ) (k : ℕ) (xs : List A) → ((i : ℕ) (d : A) → i < length xs → f (slice_index_or xs i d) ≡ k + i) → map f xs ≡ range_with_len k (length xs)

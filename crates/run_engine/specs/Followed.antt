@@ -1,5 +1,5 @@
 -- That a trace follows what its thread's outside was told.
-use Rattle.std.specs.Prelude.{◌≡◌, ℕ, ◌<◌, List, [], ◌∷◌, ◌++◌, length, slice_index_or, Option, Some}
+use Rattle.std.specs.Prelude.{◌≡◌, ℕ, ◌<◌, List, [], ◌∷◌, ◌++◌, length, slice_index_or, Contains, Option, Some}
 use Rattle.jm_base.specs.declared.types.End.{End}
 use Rattle.jm_base.specs.declared.types.End.TheVariants.{Completed, StopThread, StopTest, Stopped, SampleLimit, RoundLimit, ValueLimit, NoMemory}
 use Rattle.jm_base.specs.declared.types.Heard.{Heard}
@@ -39,3 +39,7 @@ FollowsWhere plan thread options told trace = (heard : List Heard) × (told ≡ 
 -- each thread's trace follows what its outside was told
 abbrev pub AllFollow : Tree → Options → (ℕ → Option (List Heard)) → List (List TraceItem) → Type 0
 AllFollow plan options told traces = (i : ℕ) (d : List TraceItem) → i < length traces → FollowsWhere plan i options (told i) (slice_index_or traces i d)
+
+-- each outside of these numbers was told what some trace of its thread follows
+abbrev pub AreFollowed : Tree → Options → List ℕ → (ℕ → Option (List Heard)) → Type 0
+AreFollowed plan options opened told = (i : ℕ) → Contains opened i → (trace : List TraceItem) × FollowsWhere plan i options (told i) trace

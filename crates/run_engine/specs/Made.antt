@@ -1,5 +1,6 @@
 -- Seats and workers before the first starts.
-use Rattle.std.specs.Prelude.{◌≡◌, ℕ, ◌<◌, List, [], length, slice_index_or, Some, Bool, false, zero, suc}
+use Rattle.std.specs.Prelude.{◌≡◌, ℕ, ◌<◌, List, [], length, slice_index_or, Contains, Option, Some, Bool, false, zero, suc}
+use Rattle.jm_base.specs.declared.types.Heard.{Heard}
 use Rattle.jm_base.specs.Outside.{Account}
 use Rattle.element_tree.specs.Tree.{Tree}
 use Rattle.jm_meaning.specs.Beginning.{Options}
@@ -48,3 +49,7 @@ AllFresh account r plan options identity tells count jobs =
 abbrev pub AllOpened : {O : Type 0} → (O → Account) → ℕ → List (Job O) → Type 0
 AllOpened account identity jobs =
     (i : ℕ) (d : Job _) → i < length jobs → ((slice_index_or jobs i d).number ≡ i) × ((account (slice_index_or jobs i d).out).origin ≡ Some (identity, i))
+
+-- each outside of these numbers was told nothing, where it tells
+abbrev pub AreUntold : Bool → List ℕ → (ℕ → Option (List Heard)) → Type 0
+AreUntold tells opened told = (i : ℕ) → Contains opened i → told i ≡ told_when tells []

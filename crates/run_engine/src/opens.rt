@@ -8,7 +8,7 @@ ghost use Rattle.critical_section.specs.SectionSeats.{view_of, IsSeatOf, seats_o
 ghost use Rattle.recorder_core.specs.RecorderSeats.{numbers_of};
 ghost use Rattle.run_engine.specs.Asked.{options_of};
 ghost use Rattle.run_engine.specs.JobsRan.{AllAmong};
-ghost use Rattle.run_engine.specs.Made.{IsNew, IsFresh, AllFresh, AllOpened};
+ghost use Rattle.run_engine.specs.Made.{IsNew, IsFresh, AllFresh, AllOpened, AreUntold};
 ghost use Rattle.run_engine.specs.SectionsRun.{IsFirstSeat};
 ghost use Rattle.run_engine.specs.Served.{AreServed};
 
@@ -44,6 +44,7 @@ fn open_job<'p, 's, W: World>(
     requires first { IsFirstSeat sections.now number first.old }
     requires room { number + 1 < seats_of sections.now }
     ensures first { OnOk result (IsFirstSeat sections.now (number + 1) first.new) }
+    ensures unsplit { OnErr result (first.new ≡ first.old) }
     ensures among { IfOk result (λ j. j.sections.now ≡ sections.now) }
     ensures fresh { IfOk result (IsFresh W.Out.account recorder.now ask.now.plan.now (options_of ask.now) (W.identity world.old) (W.tells world.old) count number) }
     ensures opened { OnOk result (W.opened world.new ≡ W.opened world.old ++ number ∷ []) }
@@ -87,6 +88,7 @@ fn make_jobs<'p, 's, W: World>(
     requires room { (jobs.old.items ≡ []) × (count ≤ vec_capacity jobs.old) }
     ensures all { OnOk result (length jobs.new.items ≡ count) }
     ensures first { OnOk result (IsFirstSeat sections.now count first.new) }
+    ensures split { IsFirstSeat sections.now (length jobs.new.items) first.new }
     ensures among { AllAmong sections.now jobs.new.items }
     ensures few { length jobs.new.items ≤ count }
     ensures each { AllFresh W.Out.account recorder.now ask.now.plan.now (options_of ask.now) (W.identity world.old) (W.tells world.old) count jobs.new.items }
@@ -107,11 +109,13 @@ fn make_jobs<'p, 's, W: World>(
     Ok(())
 }
 
-// Takes back the outsides of workers that are not to run.
+// Takes back the outsides of workers that are not to run. None of them is asked anything.
 fn close_all<'p, 's, W: World>(world: &mut W, jobs: Vec<Job<'p, 's, W::Out>>)
     requires opened { AllOpened W.Out.account (W.identity world.old) jobs.items }
     ensures closed { W.closed world.new ≡ W.closed world.old ++ range_with_len 0 (length jobs.entry.items) }
+    ensures told { (i : ℕ) (d : _) → i < length jobs.entry.items → W.told world.new i ≡ (W.Out.account (slice_index_or jobs.entry.items i d).out).told }
     ensures same { W.opened world.new ≡ W.opened world.old }
+    ensures kept { (W.identity world.new ≡ W.identity world.old) × (W.tells world.new ≡ W.tells world.old) }
 {
     for job in jobs {
         let Job { number, out, .. } = job;
@@ -119,7 +123,8 @@ fn close_all<'p, 's, W: World>(world: &mut W, jobs: Vec<Job<'p, 's, W::Out>>)
     }
 }
 
-/// The workers of a run, in the order of their numbers. Out of memory each outside that was opened is closed.
+/// The workers of a run, in the order of their numbers. Out of memory each outside that was opened is closed, and was asked
+/// nothing.
 pub fn open_all<'p, 's, W: World>(
     alloc: Global,
     recorder: &Recorder,
@@ -146,6 +151,11 @@ pub fn open_all<'p, 's, W: World>(
     ensures opened { OnOk result (W.opened world.new ≡ range_with_len 0 count) }
     ensures same { OnOk result ((W.identity world.new ≡ W.identity world.old) × (W.tells world.new ≡ W.tells world.old) × (W.closed world.new ≡ W.closed world.old)) }
     ensures refused { OnErr result ((n : ℕ) × (n ≤ count) × AreServed n (W.opened world.new) (W.closed world.old) (W.closed world.new)) }
+    ensures untold { OnErr result (AreUntold (W.tells world.old) (W.opened world.new) (W.told world.new)) }
+    ensures kept { OnErr result ((W.identity world.new ≡ W.identity world.old) × (W.tells world.new ≡ W.tells world.old)) }
+
+    // A seat was made of the first one for each outside that was opened, and none was taken back.
+    ensures split { OnErr result (IsFirstSeat sections.now (length (W.opened world.new)) first.new) }
 {
     let mut jobs = Vec::with_capacity(alloc, usize::from(count))?;
     match make_jobs(

@@ -16,7 +16,7 @@ ghost use Rattle.reporter_loop.specs.Reported.{any_over};
 ghost use Rattle.reporter_loop.specs.Ticked.{HasTickedWhere, TickedSoFar};
 ghost use Rattle.reporter_loop.specs.ReportsWritten.{texts_of, WritesPrefix};
 ghost use Rattle.run_engine.specs.Asked.{options_of};
-ghost use Rattle.run_engine.specs.Followed.{AllFollow};
+ghost use Rattle.run_engine.specs.Followed.{AllFollow, AreFollowed};
 ghost use Rattle.run_engine.specs.Joins.{AllEnd, AllLabelled};
 ghost use Rattle.run_engine.specs.Keeps.{all_entries};
 ghost use Rattle.run_engine.specs.Marks.{AllMarked};
@@ -127,6 +127,10 @@ pub fn run_threads<
     ensures follows { IfOk result (λ b. W.tells world.old ≡ true → AllFollow ask.now.plan.now (options_of ask.now) (W.told world.new) b.traces) }
     ensures marks { IfOk result (λ b. AllMarked (books_of b.books).joined b.traces) }
     ensures labelled { IfOk result (λ b. AllLabelled (length (labels_of ask.now.plan.now.elements)) b.traces) }
+
+    // Whatever the answer, each outside that was opened was told what some trace of its thread follows, where the world tells: of a
+    // thread that was not started, the trace of one that is cut before its first event.
+    ensures heard { W.tells world.old ≡ true → AreFollowed ask.now.plan.now (options_of ask.now) (W.opened world.new) (W.told world.new) }
 
     // Of each lock, the places of its sections in all traces are the numbers below how many there are, each once, and they
     // rise within each trace.

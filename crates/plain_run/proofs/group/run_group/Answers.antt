@@ -7,6 +7,7 @@ use Rattle.jm_meaning.specs.Meaning.{meaning, group_part, here_at}
 use Rattle.plain_run.specs.Plays.{state_in, here_of}
 use Rattle.plain_run.proofs.ElementLaws.{plays-as, plays-nothing}
 use Rattle.plain_run.proofs.ThreadWays.{group-is, no-group, nothing-there}
+use Rattle.plain_run.proofs.UnderWay.{at-start, in-other, runs-cut}
 use Rattle.plain_run.proofs.group.run_group.Goals as goal
 
 pub returns-in_default : goal.returns-in_default
@@ -15,6 +16,16 @@ returns-in_default g c = plays-nothing _ _ _ (nothing-there c.args.plan.now c.ar
 pub returns-in_default-kind : goal.returns-in_default-kind
 returns-in_default-kind g c =
     plays-nothing _ _ _ (no-group c.args.plan.now c.args.group c.in-Some.element.now (state_in c.args.progress.now) (sym c.in-Some.ensures) c.in_default-kind.not-ThreadGroup)
+
+pub returns-in_err-children : goal.returns-in_err-children
+returns-in_err-children g c = runs-cut _ _ _ _ c.from_residual.result c.from_residual.ensures.1 (at-start _ _)
+
+pub returns-in_err-signal : goal.returns-in_err-signal
+returns-in_err-signal g c = runs-cut _ _ _ _ c.from_residual-in_err-signal.result c.from_residual-in_err-signal.ensures.1
+    (in-other
+    (group-is c.args.plan.now c.args.group c.in-Some.element.now c.in-ThreadGroup.loops c.in-ThreadGroup.on_error c.in-ThreadGroup.ramp_ms c.in-ThreadGroup.threads c.as_slice.result.now c.signal_of.result
+    (state_in c.args.progress.now) (sym c.in-Some.ensures) c.in-ThreadGroup.is (c.as_slice.ensures.value ∙ c.in_ok-children.ensures) c.signal_of.ensures)
+    c.in_err-signal.ensures)
 
 pub returns : goal.returns
 returns g c =

@@ -4,6 +4,7 @@ use Rattle.std.proofs.lemmas.List.{length-append}
 use Rattle.run_engine.specs.Asked.{options_of}
 use Rattle.run_engine.specs.declared.job.Job.{Job}
 use Rattle.run_engine.specs.Made.{IsNew, IsFresh}
+use Rattle.run_engine.specs.SectionsRun.{IsFirstSeat}
 use Rattle.run_engine.proofs.Seqs.{more_each, first_each, rest_each, not_yet}
 use Rattle.reporter_loop.proofs.Numbers.{range_more}
 use Rattle.run_engine.proofs.opens.make_jobs.Goals as goal
@@ -55,3 +56,7 @@ loop-seat-preserved g c =
       tells = made.same.1 ∙ inv.tells;
       closed = made.same.2 ∙ inv.closed;
     }
+
+pub returns-clause-split : goal.returns-clause-split
+returns-clause-split g c =
+    let inv = c.loop-seat.invariant in subst (λ (n : ℕ). IsFirstSeat c.args.sections.now n c.loop-seat.first) inv.at inv.first

@@ -9,9 +9,10 @@ use Rattle.run_engine.specs.Asked.{options_of}
 use Rattle.run_engine.specs.Followed.{AllFollow}
 use Rattle.run_engine.specs.Joins.{AllEnd}
 use Rattle.run_engine.specs.Marks.{AllMarked}
-use Rattle.run_engine.specs.Made.{AllFresh}
+use Rattle.run_engine.specs.Made.{AllFresh, AreUntold}
 use Rattle.run_engine.proofs.Finishing.{all_done}
 use Rattle.run_engine.proofs.Opening.{none_served}
+use Rattle.run_engine.proofs.Hearing.{untold_follow, none_follow, all_follow}
 use Rattle.element_tree.specs.Names.{locks_of}
 use Rattle.run_engine.specs.SectionsRun.{AreNumbered, AllRise}
 use Rattle.run_engine.proofs.Placing.{all_seats, numbered_all}
@@ -101,3 +102,26 @@ returns-in-Ok-outcome-clause-stopped g c =
     let s = reports c.join_all.new.seat in let only = c.join_all.ensures.only in
     let raised : s.raised ≡ any_over limit s.closed = only.raised ∙ h.raised ∙ ap (any_over limit) (sym only.closed) in
     stopped_books limit s c.join_all.new.traces.items c.join_all.ensures.marks raised c.finish_run.result c.finish_run.ensures.traces c.finish_run.ensures.lists c.finish_run.ensures.stop
+
+pub returns-in_default-clause-heard : goal.returns-in_default-clause-heard
+returns-in_default-clause-heard g c = λ tells. none_follow _ _ _ _ c.requires.opened
+
+pub returns-in_default-split_all-clause-heard : goal.returns-in_default-split_all-clause-heard
+returns-in_default-split_all-clause-heard g c = λ tells. none_follow _ _ _ _ c.requires.opened
+
+pub returns-in_default-open_sections-clause-heard : goal.returns-in_default-open_sections-clause-heard
+returns-in_default-open_sections-clause-heard g c = λ tells. none_follow _ _ _ _ c.requires.opened
+
+pub returns-in_default-open_all-clause-heard : goal.returns-in_default-open_all-clause-heard
+returns-in_default-open_all-clause-heard g c =
+    λ tells. untold_follow _ _ _ _ (subst (λ (b : Bool). AreUntold b (g.W.World.opened c.open_all.new.world) (g.W.World.told c.open_all.new.world)) tells c.in_default-open_all.ensures.untold)
+
+pub returns-in-Ok-outcome-clause-heard : goal.returns-in-Ok-outcome-clause-heard
+returns-in-Ok-outcome-clause-heard g c =
+    λ tells. all_follow _ _ _ _ c.threads-threads.result c.join_all.new.traces.items (c.join_all.ensures.same.2 ∙ c.in-Ok-open_all.ensures.opened) c.join_all.ensures.ends.0
+    (c.join_all.ensures.follows (c.in-Ok-open_all.ensures.same.1 ∙ tells))
+
+pub returns-in-Err-clause-heard : goal.returns-in-Err-clause-heard
+returns-in-Err-clause-heard g c =
+    λ tells. all_follow _ _ _ _ c.threads-threads.result c.join_all.new.traces.items (c.join_all.ensures.same.2 ∙ c.in-Ok-open_all.ensures.opened) c.join_all.ensures.ends.0
+    (c.join_all.ensures.follows (c.in-Ok-open_all.ensures.same.1 ∙ tells))

@@ -1,7 +1,6 @@
 use Rattle.std.proofs.Common.{subst}
 use Rattle.critical_section.specs.SectionSeats.{view_of}
 use Rattle.run_engine.specs.SectionsRun.{HeldAs}
-use Rattle.run_engine.proofs.Placing.{closed_none}
 use Rattle.run_engine.proofs.samples.leave_open.Goals as goal
 
 pub leave-requires-clause-open : goal.leave-requires-clause-open

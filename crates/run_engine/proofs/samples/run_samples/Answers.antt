@@ -1,4 +1,4 @@
-use Rattle.std.proofs.Common.{◌≡◌, ◌∙◌, refl, ◌+◌, length, ◌≤◌, sym, ap, subst, arith}
+use Rattle.std.proofs.Common.{◌≡◌, ◌∙◌, refl, ◌+◌, ◌≤◌, sym, ap, subst, arith}
 use Rattle.jm_base.specs.declared.types.End.TheVariants.{Stopped}
 use Rattle.thread_machine.specs.declared.step.Step.TheVariants.{Sampled, Null}
 use Rattle.thread_machine.proofs.Ends.{begun_on, noted_on, noted_is, entered_is}

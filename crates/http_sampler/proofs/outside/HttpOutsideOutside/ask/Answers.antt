@@ -1,6 +1,6 @@
 use Rattle.std.proofs.Common.{refl, ap}
 use Rattle.http_sampler.specs.Outsides.{both_faults}
-use Rattle.http_sampler.proofs.Outcomes.{if_ok, on_err}
+use Rattle.http_sampler.proofs.Outcomes.{if_ok, on_err, on_err_always}
 use Rattle.http_sampler.proofs.Accounts.{goes_asking, both_by_script, both_by_dialer}
 use Rattle.http_sampler.proofs.outside.HttpOutsideOutside.ask.Goals as goal
 
@@ -28,3 +28,9 @@ returns-in-Http-clause-fault g c = rw (← c.self.view_is)
 pub returns-in-Http-clause-err : goal.returns-in-Http-clause-err
 returns-in-Http-clause-err g c = rw (← c.self.view_is)
     (on_err c.ask_peer.result _ _ (λ calm. record { origin = refl; told = refl; value = refl; faults = ap (both_faults c.self.inside.script.faults) calm }) c.ask_peer.ensures.calm)
+
+pub returns-in-Script-clause-unscripted : goal.returns-in-Script-clause-unscripted
+returns-in-Script-clause-unscripted g c = rw (← c.self.view_is) c.ask.ensures.err
+
+pub returns-in-Http-clause-unscripted : goal.returns-in-Http-clause-unscripted
+returns-in-Http-clause-unscripted g c = rw (← c.self.view_is) (on_err_always c.ask_peer.result _ (record { origin = refl; told = refl; value = refl; faults = refl }))
