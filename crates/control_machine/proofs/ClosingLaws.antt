@@ -1,9 +1,9 @@
 -- What an open element makes of the run in it: it goes on as that run goes; at the end a transaction gives its sample, and a
 -- section is left.
-use Rattle.std.proofs.Common.{◌≡◌, ℕ, false, [], ◌∷◌, refl, ap}
+use Rattle.std.proofs.Common.{◌≡◌, ℕ, false, [], refl, ap}
 use Rattle.jm_base.specs.declared.types.End.{End}
 use Rattle.jm_base.specs.declared.types.Sample.{Sample}
-use Rattle.jm_base.specs.Run.{Run, over, give, ◌>>=◌, Event, Left, Sampled, Sampler}
+use Rattle.jm_base.specs.Run.{Run, over, give, Event, Left, Sampled, Sampler}
 use Rattle.jm_base.specs.Outside.{Account, Goes}
 use Rattle.jm_base.proofs.RunLaws.{goes-bind}
 use Rattle.jm_meaning.specs.declared.signal.Signal.TheVariants.{Stop}

@@ -183,6 +183,7 @@ with_frame m f c = record {
   places = m.places;
   at_failure = m.at_failure;
   signal = m.signal;
+  links = m.links;
 }
 
 pub cut_inside : {a b : Account} (plan : Tree) (m : Machine) (f : Frame) (e : Element) (before new : UserState) (limit : Beside → Run Ending) (error : VarError) → slice_get plan.elements f.element ≡ Some e

@@ -110,6 +110,7 @@ told_stands plan sample m s = record {
   apart = all_apart_hearing sample plan.elements m.stack.frames s.apart;
   failure = s.failure;
   signal = out_after sample.ok m.at_failure s.failure;
+  links = s.links;
 }
 
 out_left : (how : Leave) → IsOut (signal_left how)
@@ -118,4 +119,4 @@ out_left leaves.StopThread = tt
 out_left leaves.StopTest = tt
 
 pub left_stands : (plan : Tree) (how : Leave) (m : Machine) → StandsIn plan m → StandsIn plan (record m { signal = signal_left how })
-left_stands plan how m s = record { group = s.group; open_ = s.open_; apart = s.apart; failure = s.failure; signal = out_left how }
+left_stands plan how m s = record { group = s.group; open_ = s.open_; apart = s.apart; failure = s.failure; signal = out_left how; links = s.links }

@@ -32,7 +32,7 @@ next_is (Stop end) away other = absurd (other end refl)
 
 -- a way out to the next round is over: the group goes on where its round is over
 pub loop_same : (plan : Tree) (m : Machine) (user : UserState) (own : Own) → m.stack.frames ≡ [] → (m.signal ≡ Normal → ⊥) → ((end : End) → m.signal ≡ Stop end → ⊥)
-    → left_of plan m (state_of user own) ≡ left_of plan (record { group = round_over m.group; stack = m.stack; rounds = m.rounds; places = m.places; at_failure = m.at_failure; signal = Normal }) (state_of user own)
+    → left_of plan m (state_of user own) ≡ left_of plan (record { group = round_over m.group; stack = m.stack; rounds = m.rounds; places = m.places; at_failure = m.at_failure; signal = Normal; links = m.links }) (state_of user own)
 loop_same plan m user own empty away other =
     ap (λ x. left_in (here_in plan m) m.group m.stack.frames (out (state_of user own) x)) (next_is m.signal away other)
     ∙ ap (λ fs. left_in (here_in plan m) m.group fs (out (state_of user own) NextLoop)) empty
@@ -43,13 +43,14 @@ pub loop_group : (elements : List Element) (left : ℕ) (g : Group) → GroupIsO
 loop_group elements left g o = record { element = o.element; there = o.there; below = o.below; apart = o.apart; pass = o.pass; bound = o.bound }
 
 pub loop_stands : (plan : Tree) (m m' : Machine) → m.stack.frames ≡ [] → StandsIn plan m → GroupIsOpen plan.elements m'.rounds m'.group
-    → (m'.stack ≡ m.stack) × (m'.signal ≡ Normal) → m'.at_failure ≡ m.at_failure → StandsIn plan m'
+    → (m'.stack ≡ m.stack) × (m'.signal ≡ Normal) × (m'.links ≡ m.links) → m'.at_failure ≡ m.at_failure → StandsIn plan m'
 loop_stands plan m m' empty stands group rest failure = record {
   group = group;
   open_ = subst (AreOpen plan.elements m'.rounds) (sym (ap (λ s. s.frames) rest.0 ∙ empty)) tt;
   apart = subst (AreApart plan.elements) (sym (ap (λ s. s.frames) rest.0 ∙ empty)) tt;
   failure = subst IsOut (sym failure) stands.failure;
   signal = subst IsOut (sym rest.1) tt;
+  links = rest.2 ∙ stands.links;
 }
 
 -- an element that was taken out of the open ones, on a way out

@@ -62,10 +62,6 @@ pub sampler_means : (here : Here) (below : Below) (n : ℕ) (e : Element) (k sam
     → kind_meaning here below n e k round s ≡ kind_part here n e k s
 sampler_means here below n e k sampler round s is of_kind = sampler_by here below n e k round s (subst IsSamplerKind (sym is) of_kind)
 
--- at a number is an element, or none
-pub none_some : (o : Option Element) (e : Element) → None ≡ o → o ≡ Some e → ⊥
-none_some o e none some = let i : None ≡ Some e = none ∙ some in cc
-
 -- a run that is another one has come to where that one has come
 pub goes_as : (a : Account) (run x : Run Ending) → run ≡ x → Goes a run [] x a
 goes_as a run x is = subst (λ r. Goes a r [] x a) (sym is) (goes-nothing a x)

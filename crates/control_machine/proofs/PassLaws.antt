@@ -1,6 +1,8 @@
 -- The children that are left in a pass.
-use Rattle.std.proofs.Common.{◌≡◌, ℕ, zero, suc, ◌+◌, ◌≤◌, ◌<◌, true, false, List, [], ◌∷◌, length, drop, Some, None, refl, ap, ◌∙◌, arith, add-one}
-use Rattle.std.specs.Prelude.{slice_get, take, Result, Ok, Err, IfOk, IsOkAnd}
+use Rattle.std.proofs.Common.{◌≡◌, ℕ, zero, suc, ◌+◌, ◌≤◌, ◌<◌, true, false, List, [], ◌∷◌, length, drop, Option, Some, None, refl, ap, ◌∙◌, arith, add-one}
+use Rattle.std.specs.Prelude.{slice_get, take, unwrap_or, Result, Ok, Err, IfOk, IsOkAnd}
+use Rattle.std.specs.List.{filter}
+use Rattle.std.specs.Option.{option_map}
 use Rattle.std.proofs.Math.Seq.{drop-cons}
 use Rattle.std.proofs.lemmas.List.{take_all, drop_all, length-take, get_or-take}
 use Rattle.std.proofs.lemmas.Option.{slice_get_past, slice_get-get_or}
@@ -9,8 +11,9 @@ use Rattle.element_tree.specs.declared.kinds.Element.{Element}
 use Rattle.cursor_steps.specs.declared.pass.Pass.{Pass}
 use Rattle.element_tree.specs.declared.package.Turn.{Turn}
 use Rattle.element_tree.specs.declared.package.Turn.TheVariants.{Child, Round, Over}
-use Rattle.cursor_steps.specs.RunningChildren.{is_left, after_child, run_count, runs_of, Passes}
+use Rattle.cursor_steps.specs.RunningChildren.{is_left, after_child, is_run_at, run_count, runs_of, Passes}
 use Rattle.jm_meaning.specs.Children.{children_of}
+use Rattle.node_table.specs.ElementLinks.{child_of}
 use Rattle.control_machine.specs.Moves.{pass_left}
 use Rattle.control_machine.specs.Load.{remaining, TakesChild}
 
@@ -74,3 +77,7 @@ passes_fewer old new Over p = tt
 pub of_answer : {A E : Type 0} (res : Result A E) (P Q : A → Type 0) → ((x : A) → P x → Q x) → IsOkAnd res P → IfOk res Q
 of_answer (Ok x) P Q h p = h x p
 of_answer (Err e) P Q h p = tt
+
+-- what the links say of the children of an element
+pub runs_there : (elements : List Element) (n place : ℕ) (e : Element) → slice_get elements n ≡ Some e → child_of elements n place ≡ slice_get (runs_of elements e) place
+runs_there elements n place e there = ap (λ (o : Option Element). slice_get (filter (is_run_at elements) (unwrap_or (option_map (λ (x : Element). x.children) o) [])) place) there

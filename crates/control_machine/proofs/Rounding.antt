@@ -41,7 +41,7 @@ module _ (plan : Tree) (m : Machine) (user : UserState) (own : Own) (open' : Gro
 
   pub round_has_begun : round_begins m.group.loops m.group.begun ≡ true → (m.rounds ≡ 0 → ⊥)
       → left_of plan m (state_of user own)
-      ≡ left_after plan (record { group = next_group m.group; stack = m.stack; rounds = m.rounds - 1; places = m.places; at_failure = m.at_failure; signal = m.signal })
+      ≡ left_after plan (record { group = next_group m.group; stack = m.stack; rounds = m.rounds - 1; places = m.places; at_failure = m.at_failure; signal = m.signal; links = m.links })
       (round_start plan.elements m.group.element (state_of user (at_rounds own (m.rounds - 1))))
   round_has_begun begins some =
       at_group

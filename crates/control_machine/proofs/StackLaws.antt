@@ -28,7 +28,7 @@ use Rattle.control_machine.specs.declared.machine.Went.TheVariants.{On, To}
 use Rattle.control_machine.specs.declared.moves.Move.TheVariants.{TransactionSample}
 use Rattle.control_machine.specs.Moves.{past}
 use Rattle.control_machine.specs.Cursors.{cursor_left, Shut, Plain, Summing, Leaving, shut_of, lock_in}
-use Rattle.control_machine.specs.Left.{label_at, frame_left, closing, closed, around, rest_of, group_around, left_in, left_after, left_of, here_in, open_lock, IsAlone, AreApart}
+use Rattle.control_machine.specs.Left.{label_at, frame_left, closing, closed, rest_of, group_around, left_in, left_after, here_in, open_lock, IsAlone, AreApart}
 use Rattle.control_machine.specs.Hearing.{hearing, frame_hearing, all_hearing}
 use Rattle.control_machine.specs.Turns.{went, closing_move}
 use Rattle.control_machine.proofs.ClosingLaws.{goes_closing, closing_gives, closing_hears, ends_so, left_there, stop_closing}

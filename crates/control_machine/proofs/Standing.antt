@@ -1,13 +1,12 @@
 -- A machine stands in its plan after each turn.
 use Rattle.std.proofs.Common.{◌≡◌, ◌∙◌, ap, inr, ℕ, zero, suc, ◌+◌, ◌-◌, ◌≤◌, ◌<◌, Bool, true, false, List, [], ◌∷◌, length, take, Option, Some, None, refl, sym, subst, arith}
-use Rattle.std.specs.Prelude.{◌||◌, ◌&&◌, not, is_some, IsTrue, if◌then◌else◌, slice_get, Result, Ok, Err, MatchResult, IfOk, IfSome}
+use Rattle.std.specs.Prelude.{◌||◌, ◌&&◌, not, is_some, if◌then◌else◌, slice_get, Result, Ok, Err, MatchResult, IfOk, IfSome}
 use Rattle.std.specs.List.{AllByRecursion, filter}
 use Rattle.std.proofs.lemmas.Option.{slice_get_within}
 use Rattle.element_tree.specs.declared.kinds.Element.{Element}
 use Rattle.element_tree.specs.declared.kinds.Kind.{Kind}
 use Rattle.element_tree.specs.declared.package.Turn.{Turn}
 use Rattle.element_tree.specs.declared.package.Turn.TheVariants.{Child, Round, Over}
-use Rattle.element_tree.specs.declared.kinds.Kind.TheVariants as kinds
 use Rattle.element_tree.specs.Types.{is_section}
 use Rattle.element_tree.specs.Tree.{Tree, Nests, Apart}
 use Rattle.logic_controllers.specs.ControllerRounds.{begun_after}
@@ -179,7 +178,7 @@ abbrev pub Pushed : Machine → Machine → Frame → Result Went VarError → T
 Pushed m m' f res = MatchResult res (λ w. (w ≡ opening_move (shut_of f.cursor)) × (m'.stack.frames ≡ f ∷ m.stack.frames)) (λ e. e ≡ NoMemory)
 
 abbrev pub IsRest : Machine → Machine → Type 0
-IsRest m m' = (m'.group ≡ m.group) × (m'.rounds ≡ m.rounds) × (m'.at_failure ≡ m.at_failure) × (m'.signal ≡ m.signal)
+IsRest m m' = (m'.group ≡ m.group) × (m'.rounds ≡ m.rounds) × (m'.at_failure ≡ m.at_failure) × (m'.signal ≡ m.signal) × (m'.links ≡ m.links)
 
 pub pushed_stands : (plan : Tree) (m m' : Machine) (f : Frame) (res : Result Went VarError) → Pushed m m' f res → IsRest m m' → IsOpen plan.elements max_rounds m.rounds f
     → IsApart plan.elements m.stack.frames f → StandsIn plan m → IfOk res (λ w. StandsIn plan m')
@@ -189,6 +188,7 @@ pushed_stands plan m m' f (Ok w) pushed rest open' apart stands = record {
   apart = subst (AreApart plan.elements) (sym pushed.1) (apart, stands.apart);
   failure = subst IsOut (sym rest.2) stands.failure;
   signal = subst IsOut (sym rest.3) stands.signal;
+  links = rest.4 ∙ stands.links;
 }
 pushed_stands plan m m' f (Err e) pushed rest open' apart stands = tt
 

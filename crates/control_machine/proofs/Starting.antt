@@ -17,6 +17,8 @@ use Rattle.jm_meaning.specs.State.{State, Own, state_of, normal}
 use Rattle.jm_meaning.specs.Rounds.{round_start}
 use Rattle.jm_meaning.specs.Children.{children_of}
 use Rattle.jm_meaning.specs.Meaning.{Here, here_at, meaning, signal_of, failure_in, failure_of, group_rounds, group_meaning, group_part}
+use Rattle.node_table.specs.declared.element_links.Link.{Link}
+use Rattle.node_table.specs.ElementLinks.{links_of}
 use Rattle.control_machine.specs.Opened.{Opened}
 use Rattle.control_machine.specs.declared.machine.Machine.{Machine}
 use Rattle.control_machine.specs.Left.{left_in, rest_of, left_of, children_at, AreOpen, AreApart, IsOut, StandsIn}
@@ -24,14 +26,15 @@ use Rattle.control_machine.proofs.PassLaws.{none-left, count-is}
 use Rattle.control_machine.proofs.CameSteps.{same_element}
 
 -- the machine of this group
-abbrev pub first_of : ℕ → Loops → ℕ → Opened → List ℕ → Signal → Machine
-first_of number loops children stack places failure = record {
+abbrev pub first_of : ℕ → Loops → ℕ → Opened → List ℕ → Signal → List Link → Machine
+first_of number loops children stack places failure links = record {
   group = record { element = number; loops = loops; begun = 0; pass = record { children = children; next = children } };
   stack = stack;
   rounds = 16777216;
   places = places;
   at_failure = failure;
   signal = Normal;
+  links = links;
 }
 
 action_out : (on_error : OnError) → IsOut (signal_of on_error)
@@ -40,10 +43,10 @@ action_out on_errors.NextLoop = tt
 action_out on_errors.StopThread = tt
 action_out on_errors.StopTest = tt
 
-pub new_stands : (plan : Tree) (number : ℕ) (e : Element) (loops : Loops) (on_error : OnError) (children : ℕ) (stack : Opened) (places : List ℕ) (failure : Signal)
-    → IsGroup plan.elements number → Some e ≡ slice_get plan.elements number → children ≡ run_count plan.elements e → stack.frames ≡ [] → failure ≡ signal_of on_error
-    → StandsIn plan (first_of number loops children stack places failure)
-new_stands plan number e loops on_error children stack places failure group there count empty action =
+pub new_stands : (plan : Tree) (number : ℕ) (e : Element) (loops : Loops) (on_error : OnError) (children : ℕ) (stack : Opened) (places : List ℕ) (failure : Signal) (links : List Link)
+    → IsGroup plan.elements number → Some e ≡ slice_get plan.elements number → children ≡ run_count plan.elements e → stack.frames ≡ [] → failure ≡ signal_of on_error → links ≡ links_of plan.elements
+    → StandsIn plan (first_of number loops children stack places failure links)
+new_stands plan number e loops on_error children stack places failure links group there count empty action linked =
     let d = same_element plan.elements number group.element e group.there (sym there) in
     record {
       group = record {
@@ -58,6 +61,7 @@ new_stands plan number e loops on_error children stack places failure group ther
       apart = subst (AreApart plan.elements) (sym empty) tt;
       failure = subst IsOut (sym action) (action_out on_error);
       signal = tt;
+      links = linked;
     }
 
 not_less : (n : ℕ) → is_left (record { children = n; next = n }) ≡ false
@@ -70,11 +74,11 @@ first_rounds : (here : Here) (number children : ℕ) (loops : Loops) (s : State)
 unfolding left_in rest_of
 first_rounds here number children loops s = rw (none-left (record { children = children; next = children }) (children_at here.plan.elements number) (not_less children)) refl
 
-pub new_whole : (plan : Tree) (thread number : ℕ) (e : Element) (loops : Loops) (on_error : OnError) (ramp_ms threads children : ℕ) (stack : Opened) (places : List ℕ) (failure : Signal) (user : UserState) (own : Own)
+pub new_whole : (plan : Tree) (thread number : ℕ) (e : Element) (loops : Loops) (on_error : OnError) (ramp_ms threads children : ℕ) (stack : Opened) (places : List ℕ) (failure : Signal) (links : List Link) (user : UserState) (own : Own)
     → number ≡ group_of plan thread → Some e ≡ slice_get plan.elements number → e.kind ≡ ThreadGroup loops on_error ramp_ms threads → children ≡ run_count plan.elements e → stack.frames ≡ [] → failure ≡ signal_of on_error
-    → left_of plan (first_of number loops children stack places failure) (state_of user own)
+    → left_of plan (first_of number loops children stack places failure links) (state_of user own)
     ≡ group_part (here_at plan (group_of plan thread)) (group_of plan thread) (slice_get plan.elements (group_of plan thread)) (state_of user own)
-new_whole plan thread number e loops on_error ramp_ms threads children stack places failure user own is there kind count empty action =
+new_whole plan thread number e loops on_error ramp_ms threads children stack places failure links user own is there kind count empty action =
     ap (λ fs. left_in here m.group fs (over (normal s))) empty
     ∙ first_rounds here number children loops s
     ∙ ap (λ o. group_rounds 16777216 (round_start plan.elements number) (meaning here 30) loops (unwrap_or (option_map (children_of plan.elements) o) []) 0 s) (sym there)
@@ -83,7 +87,7 @@ new_whole plan thread number e loops on_error ramp_ms threads children stack pla
     ∙ ap (λ f. group_part (record { plan = plan; at_failure = f }) number (slice_get plan.elements number) s) (action ∙ ap failure_in (sym kind) ∙ ap failure_of there)
     ∙ ap (λ n. group_part (here_at plan n) n (slice_get plan.elements n) s) is where
       m : Machine
-      m = first_of number loops children stack places failure
+      m = first_of number loops children stack places failure links
 
       here : Here
       here = record { plan = plan; at_failure = failure }

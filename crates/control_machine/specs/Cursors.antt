@@ -1,5 +1,5 @@
 -- What is left of an open element, by its cursor.
-use Rattle.std.specs.Prelude.{◌≡◌, ℕ, ◌-◌, ◌<◌, ◌≤◌, Bool, true, false, List, [], ◌∷◌, length, map, drop, Option, Some, None, slice_get, IfSome}
+use Rattle.std.specs.Prelude.{◌≡◌, ℕ, ◌-◌, ◌<◌, ◌≤◌, Bool, true, false, List, [], ◌∷◌, length, map, drop, Option, Some, slice_get, IfSome}
 use Rattle.jm_base.specs.Run.{over}
 use Rattle.template_text.specs.Pieces.{Pieces}
 use Rattle.element_tree.specs.declared.kinds.Element.{Element}

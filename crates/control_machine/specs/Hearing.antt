@@ -28,4 +28,5 @@ told sample m = record {
   places = m.places;
   at_failure = m.at_failure;
   signal = after_sample sample.ok m.at_failure;
+  links = m.links;
 }

@@ -1,5 +1,5 @@
 -- What is left of a thread's run, seen from its innermost open element.
-use Rattle.std.specs.Prelude.{◌≡◌, ℕ, ◌+◌, ◌-◌, ◌≤◌, List, [], ◌∷◌, length, Option, Some, None, Bool, false, is_some, slice_get, unwrap_or}
+use Rattle.std.specs.Prelude.{◌≡◌, ℕ, ◌+◌, ◌-◌, ◌≤◌, List, [], ◌∷◌, length, Option, Some, None, false, is_some, slice_get, unwrap_or}
 use Rattle.std.specs.Option.{option_map}
 use Rattle.std.specs.List.{AllByRecursion}
 use Rattle.jm_base.specs.declared.types.End.{End}
@@ -22,6 +22,7 @@ use Rattle.jm_meaning.specs.Transactions.{with_own_sample, transaction_from}
 use Rattle.jm_meaning.specs.Sections.{leaving}
 use Rattle.jm_meaning.specs.Beginning.{max_rounds}
 use Rattle.jm_meaning.specs.Meaning.{Here, children_in, meaning, group_rounds}
+use Rattle.node_table.specs.ElementLinks.{links_of}
 use Rattle.control_machine.specs.declared.stack.Frame.{Frame}
 use Rattle.control_machine.specs.declared.machine.Group.{Group}
 use Rattle.control_machine.specs.declared.machine.Machine.{Machine}
@@ -226,10 +227,11 @@ IsOut (Stop StopTest) = Unit {0}
 IsOut (Stop RoundLimit) = Unit {0}
 IsOut (Stop end) = ⊥
 
--- a machine stands in the plan for which it was made
+-- a machine stands in the plan for which it was made, and has the links of its elements
 pub record StandsIn (plan : Tree) (m : Machine) : Type 0 where
   pub group : GroupIsOpen plan.elements m.rounds m.group
   pub open_ : AreOpen plan.elements m.rounds m.stack.frames
   pub apart : AreApart plan.elements m.stack.frames
   pub failure : IsOut m.at_failure
   pub signal : IsOut m.signal
+  pub links : m.links ≡ links_of plan.elements

@@ -1,6 +1,6 @@
 // Elements that are entered.
 
-ghost use Rattle.std.specs.Prelude.{◌≡◌, slice_get, length, Some, ℕ, List, Bool, IfOk};
+ghost use Rattle.std.specs.Prelude.{◌≡◌, slice_get, length, Some, ℕ, List, Bool, IfOk, OnErr};
 ghost use Rattle.template_text.specs.Pieces.{Pieces};
 ghost use Rattle.element_tree.specs.declared.kinds.Element.{Element};
 ghost use Rattle.var_functions.specs.Came.{CameTo};
@@ -184,6 +184,7 @@ fn enter_interleave<O: Outside>(
     ensures fits { IfOk result (λ x. (e : Element) → slice_get plan.now.elements child ≡ Some e
         → EnteredFits child (length (children_of plan.now.elements e)) e.kind x) }
     ensures stands { StandsLater state.old state.new }
+    ensures places { OnErr result (places.new ≡ places.old) }
 {
     let mut cursor = InterleaveCursor {
         element: child,
@@ -315,6 +316,7 @@ fn enter_other<O: Outside>(
     ensures fits { IfOk result (λ x. (e : Element) → slice_get plan.now.elements child ≡ Some e
         → EnteredFits child (length (children_of plan.now.elements e)) e.kind x) }
     ensures stands { StandsLater state.old state.new }
+    ensures places { OnErr result (places.new ≡ places.old) }
 {
     let Some(element) = plan.element(child) else {
         return Ok(Entered::Nothing);
@@ -339,7 +341,7 @@ fn enter_other<O: Outside>(
 
 /// Enters the element of this number: a Loop, a Switch or an If without `all` expands its text, and the controllers that
 /// choose choose their child, by which an Interleave's place moves on. A critical section is named by the number of its
-/// lock. No variable is set.
+/// lock. No variable is set. A refusal leaves the places as they were.
 pub fn enter<O: Outside>(
     alloc: Global,
     plan: &Plan,
@@ -355,6 +357,7 @@ pub fn enter<O: Outside>(
         → EnteredFits child (length (children_of plan.now.elements e)) e.kind x) }
     ensures lock { IfOk result (λ x. (e : Element) → slice_get plan.now.elements child ≡ Some e → EntersLock plan.now.elements e.kind x) }
     ensures stands { StandsLater state.old state.new }
+    ensures places { OnErr result (places.new ≡ places.old) }
 {
     let Some(element) = plan.element(child) else {
         return Ok(Entered::Nothing);

@@ -22,6 +22,7 @@ use cursor_steps::{Pass, run_count};
 use element_tree::{Kind, Loops, Plan};
 use jm_base::{End, M, Outside, Sample};
 use jm_meaning::{Places, Signal, signal_of};
+use node_table::Links;
 use std::alloc::Global;
 use var_functions::{UserState, VarError};
 
@@ -38,8 +39,8 @@ pub struct Group {
 }
 
 /// A thread's place in its plan: the group's rounds, the open elements, the rounds that the thread has left, the places of
-/// its Interleave Controllers, what a failed sample leads to, and whether the thread is on its way out. It is used with the
-/// plan for which it was made.
+/// its Interleave Controllers, what a failed sample leads to, whether the thread is on its way out, and the links of the
+/// plan's elements. It is used with the plan for which it was made.
 #[derive(Drop)]
 pub struct Machine {
     pub group: Group,
@@ -48,6 +49,7 @@ pub struct Machine {
     pub places: Places,
     pub at_failure: Signal,
     pub signal: Signal,
+    pub(crate) links: Links,
 }
 
 /// What a turn comes to: the next turn, or a move.
@@ -85,6 +87,7 @@ impl Machine {
         };
         let children = run_count(plan, element);
         let places = Places::first(alloc, plan)?;
+        let links = Links::of(alloc, plan)?;
         Ok(Machine {
             group: Group {
                 element: number,
@@ -100,6 +103,7 @@ impl Machine {
             places,
             at_failure: signal_of(*on_error),
             signal: Signal::Normal,
+            links,
         })
     }
 

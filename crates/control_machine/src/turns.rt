@@ -1,8 +1,6 @@
 // The turns of a machine.
 
 ghost use Rattle.std.specs.Prelude.{◌≡◌, is_some, ◌+◌, ◌-◌, ◌≤◌, ◌<◌, slice_get, Some, List, [], ◌∷◌, IfOk, OnErr, MatchResult};
-ghost use Rattle.std.specs.List.{filter};
-ghost use Rattle.cursor_steps.specs.RunningChildren.{is_run_at};
 ghost use Rattle.element_tree.specs.declared.kinds.Element.{Element};
 ghost use Rattle.element_tree.specs.Tree.{Tree, Nests, Apart};
 ghost use Rattle.jm_base.specs.Run.{over};
@@ -16,6 +14,7 @@ ghost use Rattle.jm_meaning.specs.Sections.{leaving_open};
 ghost use Rattle.jm_meaning.specs.Transactions;
 ghost use Rattle.jm_meaning.specs.Beginning.{max_rounds};
 ghost use Rattle.jm_meaning.specs.declared.signal.Signal.{Signal};
+ghost use Rattle.node_table.specs.ElementLinks.{links_of};
 ghost use Rattle.control_machine.specs.Moves.{past};
 ghost use Rattle.control_machine.specs.Left.{Beside, StandsIn, GroupIsOpen, IsOpen, IsApart, left_of, left_after, state_at, moved, IsMove, here_in, open_lock};
 ghost use Rattle.control_machine.specs.Turns.{Lightens, TakesRound, IsRoundless, IsNormalAt, IsNormalOn, IsRoundOf, IsRoundIn, MovesLock, MovesLockOn, went, IsWent, opening_move, closing_move, closing_of, left_from, left_answered, load_in, IsOpened};
@@ -28,11 +27,11 @@ use crate::enter::{Entered, enter};
 use crate::machine::{Machine, Went};
 use crate::moves::Move;
 use crate::stack::Frame;
-use cursor_steps::is_run_at;
 use element_tree::{Plan, Turn};
 use jm_base::{End, Outside};
 use jm_meaning::{Signal, Tally, gives_sample};
 use logic_controllers::round_begins;
+use node_table::Links;
 use std::alloc::Global;
 use var_functions::{UserState, VarError};
 
@@ -87,7 +86,7 @@ impl Machine {
             → left_of plan self.old (state_at self.old beside user) ≡ moved plan self.new (state_at self.new beside user) result }
         ensures given { (elements : List Element) → IsMove elements result }
         ensures group { (elements : List Element) → GroupIsOpen elements self.old.rounds self.old.group → GroupIsOpen elements self.new.rounds self.new.group }
-        ensures rest { (self.new.stack ≡ self.old.stack) × (self.new.signal ≡ self.old.signal) }
+        ensures rest { (self.new.stack ≡ self.old.stack) × (self.new.signal ≡ self.old.signal) × (self.new.links ≡ self.old.links) }
         ensures lock { self.old.stack.frames ≡ [] → MovesLock result (open_lock self.old.stack.frames) (open_lock self.new.stack.frames) }
         ensures rounds { TakesRound result self.old.rounds self.new.rounds }
         ensures index { IsRoundOf result self.new.group }
@@ -229,7 +228,7 @@ impl Machine {
                 let round = frame.cursor.round(frame.round);
                 let (element, depth) = (frame.element, frame.depth);
                 self.stack.put(frame);
-                match child_at(plan, element, place) {
+                match child_at(&self.links, element, place) {
                     Some(child) => self.open(alloc, plan, child, round, depth, state, outside),
                     None => Ok(Went::On),
                 }
@@ -266,7 +265,7 @@ impl Machine {
         match self.group.pass.next_child() {
             Some(place) => {
                 let round = u64::from(self.group.begun.saturating_sub(1));
-                match child_at(plan, self.group.element, place) {
+                match child_at(&self.links, self.group.element, place) {
                     Some(child) => self.open(alloc, plan, child, round, 30, state, outside),
                     None => Ok(Went::On),
                 }
@@ -297,7 +296,7 @@ impl Machine {
             (leaving_open (open_lock self.old.stack.frames) (past (state_at self.new beside state.new))) result }
         ensures given { IfOk result (IsWent plan.now.elements) }
         ensures stands { IfOk result (λ w. StandsIn plan.now self.new) }
-        ensures rest { (self.new.group ≡ self.old.group) × (self.new.rounds ≡ self.old.rounds) × (self.new.at_failure ≡ self.old.at_failure) × (self.new.signal ≡ self.old.signal) }
+        ensures rest { (self.new.group ≡ self.old.group) × (self.new.rounds ≡ self.old.rounds) × (self.new.at_failure ≡ self.old.at_failure) × (self.new.signal ≡ self.old.signal) × (self.new.links ≡ self.old.links) }
         ensures lock { IfOk result (λ w. MovesLockOn w (open_lock self.old.stack.frames) (open_lock self.new.stack.frames)) }
         ensures load { IfOk result (λ w. IsOpened plan.now.elements depth self.old.stack.frames self.new.stack.frames) }
         ensures rounds { IfOk result (λ w. IsRoundless w self.old.rounds self.new.rounds) }
@@ -326,7 +325,7 @@ impl Machine {
         ensures pushed { MatchResult result
             (λ w. (w ≡ opening_move (shut_of cursor)) × (self.new.stack.frames ≡ record { element = element; round = round; depth = depth - 1; cursor = cursor } ∷ self.old.stack.frames))
             (λ e. e ≡ VarError.NoMemory) }
-        ensures rest { (self.new.group ≡ self.old.group) × (self.new.rounds ≡ self.old.rounds) × (self.new.at_failure ≡ self.old.at_failure) × (self.new.signal ≡ self.old.signal) }
+        ensures rest { (self.new.group ≡ self.old.group) × (self.new.rounds ≡ self.old.rounds) × (self.new.at_failure ≡ self.old.at_failure) × (self.new.signal ≡ self.old.signal) × (self.new.links ≡ self.old.links) }
         ensures places { self.new.places ≡ self.old.places }
     {
         let went = opening_move(&cursor);
@@ -375,29 +374,13 @@ fn close_transaction(element: u16, tally: Tally, signal: Signal) -> Went
     Went::To(Move::TransactionSample { element, tally })
 }
 
-// The child at this place among those of the element that run.
-fn child_at(plan: &Plan, element: u16, place: u16) -> Option<u16>
-    ensures { (e : Element) → slice_get plan.now.elements element ≡ Some e → result ≡ slice_get (children_of plan.now.elements e) place }
+// The child at this place among those of the element that run, by the links of its plan.
+fn child_at(links: &Links, element: u16, place: u16) -> Option<u16>
+    ensures { (elements : List Element) (e : Element) → links.now ≡ links_of elements → slice_get elements element ≡ Some e
+        → result ≡ slice_get (children_of elements e) place }
 {
-    let element = plan.element(element)?;
     if place == u16::MAX {
         return None;
     }
-    run_at(plan, element.children.as_slice(), place)
-}
-
-// The one at this place among those of the numbers that run.
-fn run_at(plan: &Plan, numbers: &[u16], place: u16) -> Option<u16>
-    ensures { result ≡ slice_get (filter (is_run_at plan.now.elements) numbers.now) place }
-{
-    let mut left = place;
-    for number in numbers {
-        if is_run_at(plan, *number) {
-            if left == 0 {
-                return Some(*number);
-            }
-            left -= 1;
-        }
-    }
-    None
+    links.child(element, place)
 }

@@ -3,13 +3,16 @@
 use assertions::{Answer, check, check_with};
 use config_elements::{ConfigState, begin_round};
 use element_props::RegexPatterns;
-use element_tree::{Assertion, BoundaryExtractor, JsonExtractor, Plan, RegexExtractor, build};
+use element_tree::{
+    Assertion, BoundaryExtractor, BuildError, JsonExtractor, Plan, RegexExtractor, build,
+};
 use extractors::{extract_bounds, extract_json, extract_regex, extract_regex_with};
 use jm_base::{Heard, M};
 use outside_world::ScriptOutside;
-use plan_json::read_tree;
+use plan_json::{RawElement, TreeError, read_tree};
 use reply_search::Searches;
-use sampler_pipeline::{Done, Packages, run_one};
+use sampler_pipeline::{Done, run_one};
+use scope_resolver::package;
 use std::alloc::Global;
 use var_functions::{FnState, Props, UserState, VarError, Vars};
 
@@ -76,11 +79,22 @@ pub fn holds_with<'p>(
     check_with(alloc, assertion, answer, searches)
 }
 
+// The tree that a text is.
+fn tree_of(alloc: Global, text: &str) -> Result<RawElement, TreeError> {
+    read_tree(alloc, text.as_bytes())
+}
+
+// The plan of a tree.
+fn built(alloc: Global, tree: &RawElement) -> Result<Plan, BuildError> {
+    let mut patterns = RegexPatterns::new(Vec::new(alloc));
+    build(alloc, tree, &mut patterns)
+}
+
 /// The plan that a text is.
 pub fn plan(alloc: Global, text: &str) -> anyhow::Result<Plan> {
-    let tree = read_tree(alloc, text.as_bytes())?;
-    let mut patterns = RegexPatterns::new(Vec::new(alloc));
-    Ok(build(alloc, &tree, &mut patterns)?)
+    let tree = tree_of(alloc, text)?;
+    let plan = built(alloc, &tree)?;
+    Ok(plan)
 }
 
 /// What the functions of a thread keep at its start, without properties, with seed 0.
@@ -106,18 +120,17 @@ pub fn round(
     begin_round(alloc, config, plan, user, outside)
 }
 
-/// A sampler runs with the package that is kept for it.
+/// A sampler runs with its package.
 pub fn sampler(
     alloc: Global,
     plan: &Plan,
-    packages: &mut Packages,
     number: u16,
     user: &mut UserState,
     outside: &mut ScriptOutside,
     order: &mut Vec<u16>,
 ) -> Result<Done, VarError> {
-    match packages.of(alloc, plan, number) {
-        Ok(scope) => run_one(alloc, plan, scope, number, user, outside, order),
+    match package(alloc, plan, number) {
+        Ok(scope) => run_one(alloc, plan, &scope, number, user, outside, order),
         Err(_) => Err(VarError::NoMemory),
     }
 }

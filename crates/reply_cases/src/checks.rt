@@ -6,7 +6,7 @@ use crate::words::{at, bytes_of, pattern_of, text_of};
 use assertions::Answer;
 use element_props::{Pattern, choice_of};
 use element_tree::{Assertion, Comparison, TestKind};
-use jm_base::{Items, Reply, Text};
+use jm_base::{Items, M, Reply, Text};
 use reply_search::Searches;
 use std::alloc::Global;
 
@@ -41,6 +41,7 @@ fn response_of(alloc: Global, fields: &[&str]) -> anyhow::Result<Assertion> {
     let Some(test) = choice_of::<TestKind>(at(fields, 2)) else {
         anyhow::bail!("no such test");
     };
+    let field = field_of(at(fields, 3))?;
     let flags = at(fields, 4);
     let texts = texts_of(alloc, fields.get(5..).unwrap_or(&[]))?;
     let found = matches!(test, TestKind::Contains | TestKind::Matches);
@@ -48,7 +49,7 @@ fn response_of(alloc: Global, fields: &[&str]) -> anyhow::Result<Assertion> {
     let regexes = regexes_of(alloc, if found { &texts } else { &[] }, b"", b"")?;
     let whole_regexes = regexes_of(alloc, if whole { &texts } else { &[] }, b"\\A(?:", b")\\z")?;
     Ok(Assertion::Response {
-        field: field_of(at(fields, 3))?,
+        field,
         ignore_status: flags.contains('i'),
         not: flags.contains('n'),
         or: flags.contains('o'),
@@ -76,36 +77,54 @@ fn assertion_of(alloc: Global, fields: &[&str]) -> anyhow::Result<Assertion> {
     }
 }
 
-/// Whether an assertion holds of an answer.
-pub fn checked(alloc: Global, fields: &[&str], answer: &Answer) -> anyhow::Result<String> {
-    let assertion = assertion_of(alloc, fields)?;
-    match holds(alloc, &assertion, answer) {
-        Ok(held) => Ok(format!(in alloc; "{held}")?),
-        Err(_) => Ok(format!(in alloc; "no memory")?),
+fn word_of(held: M<bool>) -> &'static str {
+    match held {
+        Ok(true) => "true",
+        Ok(false) => "false",
+        Err(_) => "no memory",
     }
+}
+
+/// Whether an assertion holds of an answer.
+pub fn checked(
+    alloc: Global,
+    fields: &[&str],
+    answer: &Answer,
+    out: &mut String,
+) -> anyhow::Result<()> {
+    let assertion = assertion_of(alloc, fields)?;
+    out.push_str(word_of(holds(alloc, &assertion, answer)))?;
+    Ok(())
 }
 
 /// `checks TEST FLAGS COUNT PATTERN .. BODY ..`: whether a Response Assertion of that many patterns holds of each body, by searches
 /// that are kept from body to body.
-pub fn checked_each(alloc: Global, fields: &[&str]) -> anyhow::Result<String> {
+pub fn checked_each(alloc: Global, fields: &[&str], out: &mut String) -> anyhow::Result<()> {
     let count = at(fields, 3).parse::<usize>()?;
     let end = count.saturating_add(4).min(fields.len());
     let mut words = Vec::new(alloc);
     words.extend_from_slice(&["check", "response", at(fields, 1), "body", at(fields, 2)])?;
     words.extend_from_slice(fields.get(4..end).unwrap_or(&[]))?;
     let assertion = response_of(alloc, &words)?;
+    check_bodies(alloc, &assertion, fields.get(end..).unwrap_or(&[]), out)
+}
+
+/// Whether an assertion holds of each body.
+fn check_bodies(
+    alloc: Global,
+    assertion: &Assertion,
+    bodies: &[&str],
+    out: &mut String,
+) -> anyhow::Result<()> {
     let mut searches = Searches::new(alloc);
-    let mut out = String::new(alloc);
-    for body in fields.get(end..).unwrap_or(&[]) {
+    let mut space = "";
+    for body in bodies {
         let answer = answer_of(alloc, body)?;
-        let held = match holds_with(alloc, &assertion, &answer, &mut searches) {
-            Ok(true) => "true ",
-            Ok(false) => "false ",
-            Err(_) => "no memory ",
-        };
-        out.push_str(held)?;
+        let held = word_of(holds_with(alloc, assertion, &answer, &mut searches));
+        write!(out, "{space}{held}")?;
+        space = " ";
     }
-    Ok(String::from_str(alloc, out.as_str().trim_end())?)
+    Ok(())
 }
 
 /// An answer of this body alone.
@@ -114,8 +133,8 @@ fn answer_of(alloc: Global, body: &str) -> anyhow::Result<Answer> {
         elapsed: 0,
         reply: Reply {
             code: 200,
-            message: text_of(alloc, "")?,
-            headers: text_of(alloc, "")?,
+            message: Text::new(alloc, b"")?,
+            headers: Text::new(alloc, b"")?,
             body: text_of(alloc, body)?,
         },
     })

@@ -16,10 +16,10 @@ pub fn field_of(name: &str) -> anyhow::Result<Field> {
 /// `regex REF PATTERN TEMPLATE MATCH FIELD PICK [DEFAULT]`
 pub fn regex_of(alloc: Global, fields: &[&str]) -> anyhow::Result<RegexExtractor> {
     Ok(RegexExtractor {
-        default: text_at(alloc, fields, 7)?,
         field: field_of(at(fields, 5))?,
         match_: at(fields, 4).parse::<i32>()?,
         pattern: pattern_of(alloc, &bytes_of(alloc, at(fields, 2))?)?,
+        default: text_at(alloc, fields, 7)?,
         ref_: text_of(alloc, at(fields, 1))?,
         template: text_of(alloc, at(fields, 3))?,
     })
@@ -28,8 +28,8 @@ pub fn regex_of(alloc: Global, fields: &[&str]) -> anyhow::Result<RegexExtractor
 /// `json REF PATH MATCH PICK [DEFAULT]`
 pub fn json_of(alloc: Global, fields: &[&str]) -> anyhow::Result<JsonExtractor> {
     Ok(JsonExtractor {
-        default: text_at(alloc, fields, 5)?,
         match_: at(fields, 3).parse::<i32>()?,
+        default: text_at(alloc, fields, 5)?,
         path: text_of(alloc, at(fields, 2))?,
         ref_: text_of(alloc, at(fields, 1))?,
     })
@@ -38,10 +38,10 @@ pub fn json_of(alloc: Global, fields: &[&str]) -> anyhow::Result<JsonExtractor> 
 /// `bounds REF LEFT RIGHT MATCH FIELD PICK [DEFAULT]`
 pub fn bounds_of(alloc: Global, fields: &[&str]) -> anyhow::Result<BoundaryExtractor> {
     Ok(BoundaryExtractor {
-        default: text_at(alloc, fields, 7)?,
         field: field_of(at(fields, 5))?,
-        left: text_of(alloc, at(fields, 2))?,
         match_: at(fields, 4).parse::<i32>()?,
+        default: text_at(alloc, fields, 7)?,
+        left: text_of(alloc, at(fields, 2))?,
         ref_: text_of(alloc, at(fields, 1))?,
         right: text_of(alloc, at(fields, 3))?,
     })

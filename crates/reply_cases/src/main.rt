@@ -35,15 +35,27 @@ mod shown;
 mod words;
 
 use cases::Cases;
+use std::alloc::Global;
+
+/// Prints what a line gave, if anything.
+fn answer(rt: &impl Print, alloc: Global, cases: &mut Cases, line: &str) -> anyhow::Result<()> {
+    let mut given = String::new(alloc);
+    cases.run(alloc, line, &mut given)?;
+    if !given.is_empty() {
+        println!(rt; "{given}")?;
+    }
+    Ok(())
+}
+
+/// Goes through the lines of the input.
+fn answer_all(rt: &(impl Input + Print), alloc: Global, cases: &mut Cases) -> anyhow::Result<()> {
+    for line in rt.lines(alloc) {
+        answer(rt, alloc, cases, line?.as_str())?;
+    }
+    Ok(())
+}
 
 fn main(rt: HostRuntime) -> anyhow::Result<()> {
     let mut cases = Cases::new(rt.alloc())?;
-    for line in rt.lines(rt.alloc()) {
-        let line = line?;
-        let answer = cases.run(rt.alloc(), line.as_str())?;
-        if !answer.is_empty() {
-            println!(rt; "{answer}")?;
-        }
-    }
-    Ok(())
+    answer_all(&rt, rt.alloc(), &mut cases)
 }

@@ -1,13 +1,13 @@
 // A thread of a plan, a sampler at a time, over the plan's own replies.
 
 use crate::calls;
-use crate::shown::{ending, shown};
+use crate::shown::{Shown, ending};
 use config_elements::ConfigState;
 use element_tree::Plan;
-use jm_base::{Heard, Request, Sample};
+use jm_base::{Heard, M, Request, Sample};
 use outside_world::ScriptOutside;
-use sampler_pipeline::{Done, Packages};
-use std::alloc::Global;
+use sampler_pipeline::Done;
+use std::alloc::{AllocError, Global};
 use var_functions::{UserState, VarError, Vars};
 
 /// The first thread of a plan, and what it keeps from round to round and from sampler to sampler.
@@ -15,7 +15,6 @@ use var_functions::{UserState, VarError, Vars};
 pub struct Scene {
     plan: Plan,
     config: ConfigState,
-    packages: Packages,
     pub user: UserState,
     outside: ScriptOutside,
     order: Vec<u16>,
@@ -28,7 +27,6 @@ impl Scene {
         let fns = calls::functions(alloc)?;
         Ok(Scene {
             config: calls::config(alloc, &plan)?,
-            packages: Packages::new(alloc, &plan)?,
             user: UserState { vars, fns },
             outside: ScriptOutside::new(alloc, &plan, true)?,
             order: Vec::new(alloc),
@@ -47,92 +45,99 @@ impl Scene {
     }
 
     /// The sampler of this number runs.
-    pub fn sampler(&mut self, alloc: Global, number: u16) -> anyhow::Result<String> {
+    pub fn sampler(&mut self, alloc: Global, number: u16, out: &mut String) -> anyhow::Result<()> {
         let done = calls::sampler(
             alloc,
             &self.plan,
-            &mut self.packages,
             number,
             &mut self.user,
             &mut self.outside,
             &mut self.order,
         );
-        let mut out = done_text(alloc, done)?;
-        out.push_str("\torder")?;
-        for number in &self.order {
-            out.push_str(format!(in alloc; " {number}")?.as_str())?;
-        }
-        Ok(out)
+        write_done(done, out)?;
+        write_order(&self.order, out)?;
+        Ok(())
     }
 
     /// What the outside was asked so far.
-    pub fn told(&self, alloc: Global) -> anyhow::Result<String> {
-        let mut out = String::from_str(alloc, "told")?;
+    pub fn told(&self, alloc: Global, out: &mut String) -> M<()> {
+        out.push_str("told")?;
         for heard in &calls::told(alloc, &self.outside)? {
-            out.push_str(heard_text(alloc, heard)?.as_str())?;
+            write_heard(heard, out)?;
         }
-        Ok(out)
+        Ok(())
     }
 
     /// The requests that the outside was asked for so far.
-    pub fn asked(&self, alloc: Global) -> anyhow::Result<String> {
-        let mut out = String::from_str(alloc, "asked")?;
+    pub fn asked(&self, alloc: Global, out: &mut String) -> M<()> {
+        out.push_str("asked")?;
         for heard in &calls::told(alloc, &self.outside)? {
             if let Heard::Asked { request, .. } = heard {
-                out.push_str(request_text(alloc, request)?.as_str())?;
+                write_request(request, out)?;
             }
         }
-        Ok(out)
+        Ok(())
     }
 }
 
-fn request_text(alloc: Global, request: &Request) -> anyhow::Result<String> {
+fn write_request(request: &Request, out: &mut String) -> Result<(), AllocError> {
     match request {
-        Request::Script(text) => {
-            let text = text.bytes().escape_ascii();
-            Ok(format!(in alloc; "\tscript {text}")?)
-        }
-        Request::Http { host, port, bytes } => {
-            let host = host.bytes().escape_ascii();
-            let bytes = bytes.bytes().escape_ascii();
-            Ok(format!(in alloc; "\thttp {host} {port} {bytes}")?)
-        }
+        Request::Script(text) => write!(out, "\tscript {}", text.bytes().escape_ascii()),
+        Request::Http { host, port, bytes } => write!(
+            out,
+            "\thttp {} {port} {}",
+            host.bytes().escape_ascii(),
+            bytes.bytes().escape_ascii()
+        ),
     }
 }
 
-fn heard_text(alloc: Global, heard: &Heard) -> anyhow::Result<String> {
+fn write_heard(heard: &Heard, out: &mut String) -> Result<(), AllocError> {
     match heard {
-        Heard::Reading(clock) => Ok(format!(in alloc; "\tread {clock}")?),
-        Heard::Paused(ms) => Ok(format!(in alloc; "\tpause {ms}")?),
-        Heard::Asked { sampler, .. } => Ok(format!(in alloc; "\task {sampler}")?),
+        Heard::Reading(clock) => write!(out, "\tread {clock}"),
+        Heard::Paused(ms) => write!(out, "\tpause {ms}"),
+        Heard::Asked { sampler, .. } => write!(out, "\task {sampler}"),
     }
 }
 
-/// Stamp, elapsed time, label, code, message, success, failure text, bytes and listeners.
-fn sample_text(alloc: Global, sample: &Sample) -> anyhow::Result<String> {
-    let message = shown(alloc, sample.message.bytes())?;
-    let (stamp, elapsed, label) = (sample.stamp, sample.elapsed, sample.label);
-    let reply = format!(in alloc; "{stamp},{elapsed},{label},{},{message}", sample.code)?;
-    let failure = sample.failure.bytes().escape_ascii();
-    let (ok, bytes, listeners) = (sample.ok, sample.bytes, sample.listeners);
-    Ok(format!(in alloc; "{reply},{ok},{failure},{bytes},{listeners}")?)
+/// Stamp, elapsed time, label, code, message, success, failure text, bytes and listeners, and the pause before the sample.
+fn write_sample(sample: &Sample, paused: u32, out: &mut String) -> Result<(), AllocError> {
+    write!(
+        out,
+        "{},{},{},{},{},{},{},{},{}\tpaused {paused}",
+        sample.stamp,
+        sample.elapsed,
+        sample.label,
+        sample.code,
+        Shown(sample.message.bytes()),
+        sample.ok,
+        sample.failure.bytes().escape_ascii(),
+        sample.bytes,
+        sample.listeners
+    )
 }
 
-/// The sample, or that there is none.
-fn sampled_text(alloc: Global, sample: &Option<Sample>) -> anyhow::Result<String> {
-    match sample {
-        Some(sample) => sample_text(alloc, sample),
-        None => Ok(String::from_str(alloc, "null")?),
+/// The sample or that there is none, and the pause before it.
+fn write_sampled(done: &Done, out: &mut String) -> Result<(), AllocError> {
+    match &done.sample {
+        Some(sample) => write_sample(sample, done.paused, out),
+        None => write!(out, "null\tpaused {}", done.paused),
     }
 }
 
-/// What the sampler came to and the pause before it, or why it was refused.
-fn done_text(alloc: Global, done: Result<Done, VarError>) -> anyhow::Result<String> {
+/// What the sampler came to, or why it was refused.
+fn write_done(done: Result<Done, VarError>, out: &mut String) -> Result<(), AllocError> {
     match done {
-        Ok(done) => {
-            let sampled = sampled_text(alloc, &done.sample)?;
-            Ok(format!(in alloc; "{sampled}\tpaused {}", done.paused)?)
-        }
-        Err(error) => Ok(String::from_str(alloc, ending(Err(error)))?),
+        Ok(done) => write_sampled(&done, out),
+        Err(error) => out.push_str(ending(Err(error))),
     }
+}
+
+/// The elements that took part.
+fn write_order(order: &[u16], out: &mut String) -> Result<(), AllocError> {
+    out.push_str("\torder")?;
+    for number in order {
+        write!(out, " {number}")?;
+    }
+    Ok(())
 }

@@ -1,63 +1,68 @@
 // Variables as the output shows them.
 
-use std::alloc::Global;
+use std::alloc::{AllocError, Global};
+use std::fmt;
 use var_functions::{VarError, Vars};
 
 /// The longest value that is shown whole.
 const MOST_SHOWN: usize = 60;
 
-/// How many matches and groups of an extractor are looked for.
-const MATCHES: u32 = 4;
-
-const GROUPS: u32 = 3;
-
 /// A value with escapes for bytes that do not print; a long one by its length and its first bytes.
-pub fn shown(alloc: Global, value: &[u8]) -> anyhow::Result<String> {
-    if value.len() > MOST_SHOWN {
-        return Ok(format!(in alloc; "{} bytes: {}..", value.len(), value[..8].escape_ascii())?);
+#[derive(Clone, Copy)]
+pub struct Shown<'v>(pub &'v [u8]);
+
+impl fmt::Display for Shown<'_> {
+    fn fmt<W: fmt::Write>(&self, f: &mut fmt::Formatter<W>) -> fmt::Result {
+        let value = self.0;
+        if value.len() > MOST_SHOWN {
+            return write!(f, "{} bytes: {}..", value.len(), value[..8].escape_ascii());
+        }
+        write!(f, "{}", value.escape_ascii())
     }
-    Ok(format!(in alloc; "{}", value.escape_ascii())?)
 }
 
-/// Adds a variable, where it is defined.
-pub fn add_variable(
-    alloc: Global,
-    out: &mut String,
-    vars: &Vars,
-    name: &str,
-) -> anyhow::Result<()> {
-    if let Some(value) = vars.get(name.as_bytes()) {
-        let value = shown(alloc, value.bytes())?;
-        out.push_str(format!(in alloc; "\t{name}={value}")?.as_str())?;
+/// Writes a variable, where it is defined.
+fn write_variable(vars: &Vars, name: &str, out: &mut String) -> Result<(), AllocError> {
+    match vars.get(name.as_bytes()) {
+        Some(value) => write!(out, "\t{name}={}", Shown(value.bytes())),
+        None => Ok(()),
     }
-    Ok(())
 }
 
-/// Adds a match: its value and its groups.
-fn add_match(alloc: Global, out: &mut String, vars: &Vars, name: &str) -> anyhow::Result<()> {
-    add_variable(alloc, out, vars, name)?;
-    let groups = format!(in alloc; "{name}_g")?;
-    add_variable(alloc, out, vars, groups.as_str())?;
-    for group in 0..GROUPS + 1 {
-        let name = format!(in alloc; "{groups}{group}")?;
-        add_variable(alloc, out, vars, name.as_str())?;
+/// Writes those of these variables that are defined.
+pub fn write_variables(vars: &Vars, names: &[String], out: &mut String) -> Result<(), AllocError> {
+    for name in names {
+        write_variable(vars, name.as_str(), out)?;
     }
     Ok(())
 }
 
-/// Adds what an extractor may have set under a name.
-pub fn add_extracted(
+/// Writes a match: its value and its groups, of which the first four are looked for.
+fn write_match(
     alloc: Global,
-    out: &mut String,
     vars: &Vars,
     name: &str,
-) -> anyhow::Result<()> {
+    number: &str,
+    out: &mut String,
+) -> Result<(), AllocError> {
+    for group in ["", "_g", "_g0", "_g1", "_g2", "_g3"] {
+        let name = format!(in alloc; "{name}{number}{group}")?;
+        write_variable(vars, name.as_str(), out)?;
+    }
+    Ok(())
+}
+
+/// Writes what an extractor may have set under a name: the count, the match, and the first four of many.
+pub fn write_extracted(
+    alloc: Global,
+    vars: &Vars,
+    name: &str,
+    out: &mut String,
+) -> Result<(), AllocError> {
     let count = format!(in alloc; "{name}_matchNr")?;
-    add_variable(alloc, out, vars, count.as_str())?;
-    add_match(alloc, out, vars, name)?;
-    for number in 1..MATCHES + 1 {
-        let name = format!(in alloc; "{name}_{number}")?;
-        add_match(alloc, out, vars, name.as_str())?;
+    write_variable(vars, count.as_str(), out)?;
+    for number in ["", "_1", "_2", "_3", "_4"] {
+        write_match(alloc, vars, name, number, out)?;
     }
     Ok(())
 }

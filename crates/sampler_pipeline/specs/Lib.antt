@@ -1,4 +1,3 @@
 pub mod Exchanges
 pub mod SamplerPipeline
 pub mod PipelineCut
-pub mod KeptPackages

@@ -3,13 +3,11 @@
 #![tactic(auto)]
 
 mod exchange;
-mod packages;
 mod pipeline;
 mod post;
 mod pre;
 mod run;
 mod verdict;
 
-pub use packages::Packages;
 pub use pipeline::Pipeline;
 pub use run::{Done, run_one};

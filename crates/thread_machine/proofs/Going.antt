@@ -6,7 +6,7 @@ use Rattle.jm_base.specs.declared.types.Entry.{Entry}
 use Rattle.jm_base.specs.declared.types.Sample.{Sample}
 use Rattle.element_tree.specs.Tree.{Tree}
 use Rattle.config_elements.specs.RoundStart.{feeds_of}
-use Rattle.sampler_pipeline.specs.KeptPackages.{Keeps}
+use Rattle.node_table.specs.KeptPackages.{packages_of}
 use Rattle.control_machine.specs.Hearing.{told}
 use Rattle.control_machine.specs.Left.{StandsIn, IsLock, open_lock}
 use Rattle.thread_machine.specs.declared.runner.Runner.{Runner}
@@ -43,13 +43,13 @@ known_on w n plan section known = rw (plan, section) known
 not_begun : (w : Runner) → w.begun ≡ true → w.begun ≡ false → w.section ≡ None
 not_begun w begun unbegun = absurd (let i : true ≡ false = sym begun ∙ unbegun in cc)
 
-pub moves_next : (w n : Runner) → IsNext w n → w.entering ≡ None → n.begun ≡ true → MovesOn w → StandsIn n.plan.now n.machine → Keeps n.plan.now.elements n.packages → MovesOn n
-moves_next w n s none begun m stands keeps = record {
+pub moves_next : (w n : Runner) → IsNext w n → w.entering ≡ None → n.begun ≡ true → MovesOn w → StandsIn n.plan.now n.machine → n.table ≡ packages_of n.plan.now.elements → MovesOn n
+moves_next w n s none begun m stands table = record {
   stands = stands;
   lock = ap (λ o. held o n.section) (s.entering ∙ none) ∙ s.section ∙ lock_open w m none ∙ sym s.lock;
   first = λ unbegun. not_begun n begun unbegun;
   feeds = feeds_on w n s.plan s.feeds s.group m.feeds;
-  keeps = keeps;
+  table = table;
 }
 
 -- after the moves up to the next that ends a step
@@ -60,7 +60,7 @@ moves_on_next w mid m none is begun stands feeds lock = record {
   lock = ap (λ r. held r.entering r.section) is ∙ ap (λ o. held o w.section) none ∙ sym lock;
   first = λ unbegun. not_begun mid begun unbegun;
   feeds = feeds;
-  keeps = subst (λ (r : Runner). Keeps r.plan.now.elements r.packages) (sym is) m.keeps;
+  table = subst (λ (r : Runner). r.table ≡ packages_of r.plan.now.elements) (sym is) m.table;
 }
 
 -- ---- a thread that goes on
@@ -124,18 +124,18 @@ left_goes w mid n lock step is m owed entering last room mid_is begun new_is lef
       lock = ap (λ o. held o None) no_entering ∙ sym none;
       first = λ unbegun. absurd (let i : true ≡ false = sym begun ∙ unbegun in cc);
       feeds = feeds;
-      keeps = subst (λ (r : Runner). Keeps r.plan.now.elements r.packages) (sym mid_is) m.keeps;
+      table = subst (λ (r : Runner). r.table ≡ packages_of r.plan.now.elements) (sym mid_is) m.table;
     } in
     let g : GoesOn k = goes_on k (ap (λ r. r.last) mid_is ∙ last) no_entering (omega (arith, room, room_is, no_owed, left)) moves tt in
     subst (GoesOnAfter n) (sym is) (subst GoesOn (sym new_is) g)
 
 -- a section is to be entered
 pub enters_goes : (w : Runner) (lock units : ℕ) → w.owed ≡ None → w.last ≡ None → w.begun ≡ true → w.section ≡ None → open_lock w.machine.stack.frames ≡ Some lock → StandsIn w.plan.now w.machine
-    → w.config.feeds ≡ feeds_of w.plan.now.elements w.machine.group.element → Keeps w.plan.now.elements w.packages → 3 ≤ w.trace.room → IsLock w.plan.now.elements lock
+    → w.config.feeds ≡ feeds_of w.plan.now.elements w.machine.group.element → w.table ≡ packages_of w.plan.now.elements → 3 ≤ w.trace.room → IsLock w.plan.now.elements lock
     → GoesOn (record w { units = units; entering = Some lock })
-enters_goes w lock units owed last begun closed has stands feeds keeps room there = record {
+enters_goes w lock units owed last begun closed has stands feeds table room there = record {
   room = (let none = ap owed_count owed in omega (arith, room, none));
-  moves = λ h. record { stands = stands; lock = sym has; first = λ unbegun. closed; feeds = feeds; keeps = keeps };
+  moves = λ h. record { stands = stands; lock = sym has; first = λ unbegun. closed; feeds = feeds; table = table };
   limit = limit_none w.last (λ o end. IsLimit end × (w.section ≡ None)) last;
   known = subst (λ o. IfSome o (IsLock w.plan.now.elements)) (sym closed) tt;
   enters = (begun, last, closed, owed, there);
@@ -149,7 +149,7 @@ goes_paused w n is on owed entering room =
     let no_entering : owed_count w.entering ≡ 0 = ap owed_count entering in
     let g : GoesOn k = record {
       room = omega (arith, room, no_owed, no_entering);
-      moves = λ h. (let m : MovesOn w = on.moves h in record { stands = m.stands; lock = m.lock; first = m.first; feeds = m.feeds; keeps = m.keeps });
+      moves = λ h. (let m : MovesOn w = on.moves h in record { stands = m.stands; lock = m.lock; first = m.first; feeds = m.feeds; table = m.table });
       limit = on.limit;
       known = on.known;
       enters = on.enters;
@@ -159,9 +159,9 @@ goes_paused w n is on owed entering room =
 -- ---- after a sampler and a transaction's sample
 
 module _ (w : Runner) (m : MovesOn w) (owed : w.owed ≡ None) (entering : w.entering ≡ None) (last : w.last ≡ None) (begun : w.begun ≡ true) (known : IfSome w.section (IsLock w.plan.now.elements)) (room : 4 ≤ w.trace.room) where
-  module _ (ran_on mid : Runner) (ran_is : ran_on ≡ record w { user = ran_on.user; packages = ran_on.packages; order = ran_on.order; units = w.units - 1 }) (mid_is : mid ≡ record ran_on { trace = mid.trace })
-      (less : ran_on.trace.room ≤ mid.trace.room + 1) (keeps : Keeps w.plan.now.elements ran_on.packages) where
-    mid_all : mid ≡ record w { user = ran_on.user; packages = ran_on.packages; order = ran_on.order; units = w.units - 1; trace = mid.trace }
+  module _ (ran_on mid : Runner) (ran_is : ran_on ≡ record w { user = ran_on.user; order = ran_on.order; units = w.units - 1 }) (mid_is : mid ≡ record ran_on { trace = mid.trace })
+      (less : ran_on.trace.room ≤ mid.trace.room + 1) where
+    mid_all : mid ≡ record w { user = ran_on.user; order = ran_on.order; units = w.units - 1; trace = mid.trace }
     mid_all = mid_is ∙ ap (λ (r : Runner). record r { trace = mid.trace }) ran_is
 
     room_left : 3 ≤ mid.trace.room
@@ -171,7 +171,7 @@ module _ (w : Runner) (m : MovesOn w) (owed : w.owed ≡ None) (entering : w.ent
     pub sampled_goes : (new : Runner) (sample : Sample) (entry : Entry) (step : Step) → step ≡ Sampled entry → new ≡ record mid { owed = Some sample; machine = told sample mid.machine }
         → (StandsIn mid.plan.now mid.machine → StandsIn new.plan.now new.machine) → open_lock new.machine.stack.frames ≡ open_lock mid.machine.stack.frames → GoesOnAfter new step
     sampled_goes new sample entry step step_is new_is stands lock =
-        let all : new ≡ record w { user = ran_on.user; packages = ran_on.packages; order = ran_on.order; units = w.units - 1; trace = mid.trace; owed = Some sample; machine = told sample w.machine } =
+        let all : new ≡ record w { user = ran_on.user; order = ran_on.order; units = w.units - 1; trace = mid.trace; owed = Some sample; machine = told sample w.machine } =
         new_is ∙ ap (λ (r : Runner). record r { owed = Some sample; machine = told sample r.machine }) mid_all in
         let next : IsNext w new = record {
           plan = ap (λ r. r.plan.now) all;
@@ -187,7 +187,7 @@ module _ (w : Runner) (m : MovesOn w) (owed : w.owed ≡ None) (entering : w.ent
         let three : 3 ≤ mid.trace.room = room_left in
         subst (GoesOnAfter new) (sym step_is) (goes_on new (next.last ∙ last) (next.entering ∙ entering) (omega (arith, one, left, three))
         (moves_next w new next entering (ap (λ r. r.begun) all ∙ begun) m (stands (subst (λ (r : Runner). StandsIn r.plan.now r.machine) (sym mid_all) m.stands))
-        (subst (λ (r : Runner). Keeps r.plan.now.elements r.packages) (sym all) keeps))
+        (subst (λ (r : Runner). r.table ≡ packages_of r.plan.now.elements) (sym all) m.table))
         (known_on w new next.plan next.section known))
 
     -- none is
@@ -207,7 +207,7 @@ module _ (w : Runner) (m : MovesOn w) (owed : w.owed ≡ None) (entering : w.ent
         let three : 3 ≤ mid.trace.room = room_left in
         goes_on n (next.last ∙ last) (next.entering ∙ entering) (omega (arith, none, less_yet, three))
         (moves_next w n next entering (ap (λ r. r.begun) mid_all ∙ begun) m (subst (λ (r : Runner). StandsIn r.plan.now r.machine) (sym mid_all) m.stands)
-        (subst (λ (r : Runner). Keeps r.plan.now.elements r.packages) (sym mid_all) keeps))
+        (subst (λ (r : Runner). r.table ≡ packages_of r.plan.now.elements) (sym mid_all) m.table))
         (known_on w n next.plan next.section known)
 
   -- a transaction's sample is owed
@@ -226,5 +226,5 @@ module _ (w : Runner) (m : MovesOn w) (owed : w.owed ≡ None) (entering : w.ent
       let left : new.trace.room ≡ w.trace.room = ap (λ r. r.trace.room) is in
       subst (GoesOnAfter new) (sym step_is) (goes_on new (next.last ∙ last) (next.entering ∙ entering) (omega (arith, one, left, room))
       (moves_next w new next entering (ap (λ r. r.begun) is ∙ begun) m (subst (λ (r : Runner). StandsIn r.plan.now r.machine) (sym is) m.stands)
-      (subst (λ (r : Runner). Keeps r.plan.now.elements r.packages) (sym is) m.keeps))
+      (subst (λ (r : Runner). r.table ≡ packages_of r.plan.now.elements) (sym is) m.table))
       (known_on w new next.plan next.section known))

@@ -11,3 +11,4 @@ pub mod Sound
 pub mod Intervals
 pub mod Counts
 pub mod PlaceLaws
+pub mod Tables

@@ -192,7 +192,7 @@ sound_noted w t sample interval sound owed items room =
     (rw items (one_more (labels_in w.plan.now) w.trace.items w.section w.section (SampledItem sample interval) (trace_of w sound) labelled refl (tt {0})))
     (record {
       room = (let one = ap owed_count owed in let r = on.room in omega (arith, one, r, room));
-      moves = λ h. (let m : MovesOn w = on.moves h in record { stands = m.stands; lock = m.lock; first = m.first; feeds = m.feeds; keeps = m.keeps });
+      moves = λ h. (let m : MovesOn w = on.moves h in record { stands = m.stands; lock = m.lock; first = m.first; feeds = m.feeds; table = m.table });
       limit = on.limit;
       known = on.known;
       enters = enters_noted w sample owed on.enters;
@@ -212,7 +212,7 @@ sound_entered w t lock place sound entering items room =
     (rw items (one_more (labels_in w.plan.now) w.trace.items w.section (Some lock) (EnteredItem lock place) (trace_of w sound) (tt {0}) (e.2, refl) (tt {0})))
     (record {
       room = (let one = ap owed_count entering in let r = on.room in omega (arith, one, r, room));
-      moves = λ h. (let m : MovesOn w = on.moves h in record { stands = m.stands; lock = sym (ap (λ o. held o w.section) entering) ∙ m.lock; first = λ unbegun. absurd (begun_not w.begun e.0 unbegun); feeds = m.feeds; keeps = m.keeps });
+      moves = λ h. (let m : MovesOn w = on.moves h in record { stands = m.stands; lock = sym (ap (λ o. held o w.section) entering) ∙ m.lock; first = λ unbegun. absurd (begun_not w.begun e.0 unbegun); feeds = m.feeds; table = m.table });
       limit = subst (λ o. IfSome o (λ end. IsLimit end × (Some lock ≡ None))) (sym e.1) tt;
       known = e.4;
       enters = tt;

@@ -5,7 +5,7 @@ use Rattle.jm_base.specs.declared.types.End.TheVariants.{SampleLimit, ValueLimit
 use Rattle.jm_base.specs.declared.types.Sample.{Sample}
 use Rattle.element_tree.specs.Names.{labels_of}
 use Rattle.config_elements.specs.RoundStart.{feeds_of}
-use Rattle.sampler_pipeline.specs.KeptPackages.{Keeps}
+use Rattle.node_table.specs.KeptPackages.{packages_of}
 use Rattle.control_machine.specs.Left.{StandsIn, IsLock, open_lock}
 use Rattle.thread_machine.specs.declared.runner.Runner.{Runner}
 use Rattle.thread_machine.specs.Bare.{IsLabelled}
@@ -51,14 +51,14 @@ IsLimit ValueLimit = Unit {0}
 IsLimit end = ⊥
 
 -- A thread that makes more moves: its machine stands in its plan and has open what the thread has, what the thread keeps of
--- Counters and data sets was made for its group, and the packages that it keeps are those of its samplers. No section is open
--- before the first variables are set.
+-- Counters and data sets was made for its group, and its table has the packages of its plan. No section is open before the
+-- first variables are set.
 pub record MovesOn (r : Runner) : Type 0 where
   pub stands : StandsIn r.plan.now r.machine
   pub lock : held r.entering r.section ≡ open_lock r.machine.stack.frames
   pub first : r.begun ≡ false → r.section ≡ None
   pub feeds : r.config.feeds ≡ feeds_of r.plan.now.elements r.machine.group.element
-  pub keeps : Keeps r.plan.now.elements r.packages
+  pub table : r.table ≡ packages_of r.plan.now.elements
 
 -- A thread that goes on: there is room for what is owed, for a section that is left and for the thread's end; it makes more
 -- moves, or its end by a limit comes next. A section is entered where none is open.

@@ -9,8 +9,8 @@ ghost use Rattle.scope_resolver.specs.Scoping.{scope_of};
 ghost use Rattle.trials.specs.Tried.{fine, past_limit};
 ghost use Rattle.config_elements.specs.RoundStart.{feeds_of};
 ghost use Rattle.sampler_pipeline.specs.SamplerPipeline.{pipeline, label_at};
-ghost use Rattle.sampler_pipeline.specs.KeptPackages.{Keeps};
 ghost use Rattle.jm_meaning.specs.Rounds.{round_start};
+ghost use Rattle.node_table.specs.KeptPackages.{packages_of};
 ghost use Rattle.jm_meaning.specs.Sections.{leaving_open};
 ghost use Rattle.jm_meaning.specs.Meaning.{and_end};
 ghost use Rattle.control_machine.specs.Moves.{past};
@@ -30,13 +30,14 @@ use control_machine::{Leave, Machine, Move, Tally};
 use element_tree::Plan;
 use jm_base::{End, M, NoMemory, Outside, Sample};
 use jm_meaning::{Signal, ramp_up_pause, set_first};
-use sampler_pipeline::{Done, Packages, Pipeline};
+use node_table::NodeTable;
+use sampler_pipeline::{Done, Pipeline};
 use std::alloc::Global;
 use var_functions::{FnState, Props, UserState, VarError, Vars};
 
 /// A thread: its plan and number, the pause before its first variables that is still to come, whether those are set, its
-/// variables and what functions keep, what it keeps of Counters and data sets, the packages of the samplers that have run, what
-/// runs them and the elements that took part in the last one, the machine of moves, the units left of its sample budget, the
+/// variables and what functions keep, what it keeps of Counters and data sets, the packages of the plan's samplers, what runs
+/// them and the elements that took part in the last one, the machine of moves, the units left of its sample budget, the
 /// sample that is still to be noted, the lock of the section that is still to be entered and of the one that is open, the end
 /// that comes after a section was left for a limit, and its trace.
 #[derive(Drop)]
@@ -47,7 +48,7 @@ pub struct Runner<'p> {
     pub begun: bool,
     pub user: UserState,
     pub config: ConfigState,
-    pub packages: Packages,
+    pub table: NodeTable,
     pub pipeline: Pipeline<'p>,
     pub order: Vec<u16>,
     pub machine: Machine,
@@ -86,7 +87,7 @@ impl<'p> Runner<'p> {
                 fns: FnState::new(alloc, props, found.number, u64::from(thread), seed)?,
             },
             config: ConfigState::new(alloc, plan, thread)?,
-            packages: Packages::new(alloc, plan)?,
+            table: NodeTable::of(alloc, plan)?,
             order: Vec::new(alloc),
             machine: Machine::new(alloc, plan, thread)?,
             units: budget,
@@ -346,24 +347,21 @@ impl<'p> Runner<'p> {
 
     // The sampler of this number runs with the elements that apply to it.
     fn run_sampler<O: Outside>(&mut self, number: u16, outside: &mut O) -> Result<Done, VarError>
-        requires { Keeps self.old.plan.now.elements self.old.packages }
+        requires there { IsSampler self.old.plan.now.elements number }
+        requires table { self.old.table ≡ packages_of self.old.plan.now.elements }
         ensures came { CameTo (O.account outside.old) (pipeline self.old.plan.now.elements (scope_of self.old.plan.now.elements number) number self.old.user)
             (O.account outside.new) (λ done. over (fine done self.new.user)) (over (past_limit self.new.user)) result }
         ensures label { IfOk result (λ done. IfSome done.sample (λ s. s.label ≡ label_at self.old.plan.now.elements number)) }
-        ensures keeps { Keeps self.old.plan.now.elements self.new.packages }
-        ensures kept { self.new ≡ record self.old { user = self.new.user; packages = self.new.packages; order = self.new.order } }
+        ensures kept { self.new ≡ record self.old { user = self.new.user; order = self.new.order } }
     {
-        match self.packages.of(self.alloc, self.plan, number) {
-            Ok(scope) => self.pipeline.run(
-                self.plan,
-                scope,
-                number,
-                &mut self.user,
-                outside,
-                &mut self.order,
-            ),
-            Err(_) => Err(VarError::NoMemory),
-        }
+        self.pipeline.run(
+            self.plan,
+            self.table.package(number),
+            number,
+            &mut self.user,
+            outside,
+            &mut self.order,
+        )
     }
 
     // A pause of that many milliseconds is put into the trace, if it is any.
@@ -440,7 +438,7 @@ impl<'p> Runner<'p> {
         requires held { open_lock self.old.machine.stack.frames ≡ Some lock }
         requires stands { StandsIn self.old.plan.now self.old.machine }
         requires feeds { self.old.config.feeds ≡ feeds_of self.old.plan.now.elements self.old.machine.group.element }
-        requires keeps { Keeps self.old.plan.now.elements self.old.packages }
+        requires table { self.old.table ≡ packages_of self.old.plan.now.elements }
         requires room { 3 ≤ self.old.trace.room }
         requires there { IsLock self.old.plan.now.elements lock }
         ensures gives { (a : Account) → Gives a a

@@ -90,6 +90,11 @@ module _ (plan : Tree) (thread : ℕ) (trace left items rest : List TraceItem) (
     pub next_cut : IsCut own v w → IsCut (trace_text plan thread trace) u w
     next_cut c = subst (λ l. IsCut l u w) lines_split (cut_more done own more u v w before c)
 
+-- a list that is cut at a place is its first part and the rest
+pub cut_parts : {X : Type 0} (n : ℕ) (xs first rest : List X) → first ≡ take n xs → rest ≡ drop n xs → xs ≡ first ++ rest
+cut_parts n xs first rest is after =
+    subst (λ l. xs ≡ l ++ rest) (sym is) (subst (λ l. xs ≡ take n xs ++ l) (sym after) (sym (take-append-drop n xs)))
+
 -- what holds of all items holds of the first of them and of the rest
 pub all_parts : {X : Type 0} (P : X → Type 0) → (xs ys : List X) → All P (xs ++ ys) → All P xs × All P ys
 all_parts P xs ys all = (

@@ -24,43 +24,56 @@ impl Settings {
     }
 }
 
-/// What a line gives: the answer of a case, or nothing.
-pub fn answer(alloc: Global, settings: &mut Settings, line: &str) -> anyhow::Result<String> {
+/// Writes what a line gives: the answer of a case, or nothing.
+pub fn answer(
+    alloc: Global,
+    settings: &mut Settings,
+    line: &str,
+    out: &mut String,
+) -> anyhow::Result<()> {
     let (word, rest) = line.split_once(" ").unwrap_or((line, ""));
     match word {
         "within" => settings.frame = Frame::of(alloc, rest)?,
         "too-large" => settings.too_large = numbers(alloc, rest)?,
-        "read" => {
-            let text = text_of(alloc, &settings.frame, rest)?;
-            return tree::answer(alloc, &text);
-        }
-        "path" => return path::answer(alloc, rest),
-        "fits" | "package" => {
+        "path" => path::answer(alloc, rest, out)?,
+        "fits" | "package" | "table" => {
             let (number, rest) = rest.split_once(" ").unwrap_or((rest, ""));
-            return on_plan(alloc, settings, asked_of(word, number)?, rest);
+            on_text(alloc, settings, word, number, rest, out)?;
         }
-        "build" | "plan" | "write" => {
-            return on_plan(alloc, settings, asked_of(word, "0")?, rest);
+        "read" | "build" | "plan" | "write" | "links" => {
+            on_text(alloc, settings, word, "", rest, out)?;
         }
         _ => {}
     }
-    Ok(String::new(alloc))
+    Ok(())
 }
 
 // What a case asks of a plan, by its word and its number.
 fn asked_of(word: &str, number: &str) -> anyhow::Result<Asked> {
-    let number = number.parse::<u32>()?;
     Ok(match word {
-        "fits" => Asked::Fits(number),
-        "package" => Asked::Package(u16::try_from(number)?),
+        "fits" => Asked::Fits(number.parse::<u32>()?),
+        "package" => Asked::Package(number.parse::<u16>()?),
+        "table" => Asked::Kept(number.parse::<u16>()?),
+        "links" => Asked::Links,
         "plan" => Asked::All,
         "write" => Asked::Text,
         _ => Asked::Counts,
     })
 }
 
-// What is asked of the plan of a text, or why there is none.
-fn on_plan(alloc: Global, settings: &Settings, asked: Asked, text: &str) -> anyhow::Result<String> {
+// What is asked of the tree of a text, or of its plan.
+fn on_text(
+    alloc: Global,
+    settings: &Settings,
+    word: &str,
+    number: &str,
+    text: &str,
+    out: &mut String,
+) -> anyhow::Result<()> {
     let text = text_of(alloc, &settings.frame, text)?;
-    plan::answer(alloc, &settings.too_large, asked, &text)
+    if word == "read" {
+        return tree::answer(alloc, &text, out);
+    }
+    let asked = asked_of(word, number)?;
+    plan::answer(alloc, &settings.too_large, asked, &text, out)
 }

@@ -3,12 +3,12 @@
 use crate::calls;
 use crate::source::push_bytes;
 use crate::words::word;
-use jm_base::Text;
+use jm_base::{M, Text};
 use plan_json::Path;
 use std::alloc::Global;
 
 /// The path of these steps, with the property after `;` where one is given, as its text and as it is displayed.
-pub fn answer(alloc: Global, description: &str) -> anyhow::Result<String> {
+pub fn answer(alloc: Global, description: &str, out: &mut String) -> anyhow::Result<()> {
     let (steps, prop) = match description.split_once(";") {
         Some((steps, name)) => (steps, Some(bytes_of(alloc, name)?)),
         None => (description, None),
@@ -17,9 +17,14 @@ pub fn answer(alloc: Global, description: &str) -> anyhow::Result<String> {
         places: places(alloc, steps)?,
         prop,
     };
-    let text = calls::path_text(alloc, &path)?;
-    let text = word(&text);
-    Ok(format!(in alloc; "= {text} and {path}\n")?)
+    write_path(alloc, &path, out)?;
+    Ok(())
+}
+
+fn write_path(alloc: Global, path: &Path, out: &mut String) -> M<()> {
+    let text = calls::path_text(alloc, path)?;
+    write!(out, "= {} and {path}\n", word(&text))?;
+    Ok(())
 }
 
 // A text in which `\xNN` stands for a byte.

@@ -1,5 +1,5 @@
 -- Turns in a row.
-use Rattle.std.proofs.Common.{◌≡◌, ◌⊎◌, inl, inr, ℕ, zero, suc, ◌+◌, ◌<◌, Bool, true, false, List, [], ◌∷◌, Some, None, length, set, get_or, refl, sym, ap, ◌∙◌, arith}
+use Rattle.std.proofs.Common.{◌≡◌, ◌⊎◌, inl, inr, ℕ, zero, suc, ◌+◌, ◌<◌, ◌≤◌, Bool, true, false, List, [], ◌∷◌, Some, None, length, set, get_or, refl, sym, ap, subst, ◌∙◌, arith}
 use Rattle.std.specs.Prelude.{◌||◌, ◌&&◌, slice_get}
 use Rattle.std.proofs.lemmas.List.{get_or-set_same, length-set}
 use Rattle.std.proofs.lemmas.Option.{slice_get-get_or, slice_get_past}
@@ -13,6 +13,15 @@ use Rattle.weave_engine.specs.Repeats.{Repeats, ends, goes_on}
 use Rattle.weave_engine.specs.Steps.{Owed, Thread}
 use Rattle.weave_engine.specs.Turns.{Weave, thread_turn, ends_row, reporter_turn, owes_nothing, is_free, finds_busy, is_busy}
 use Rattle.weave_engine.specs.Seats.{OwesSame, SeatIs, AreSeats, Runs, RunsOn, turns_left, turns_of, turns_at, is_nothing, is_settled, is_free_seat, is_free_at, is_blocked, is_blocked_seat, is_blocked_at, Lightens, TakesTurn}
+
+-- The item that a lookup found, or that it found none
+
+pub found_there : {X : Type 0} (xs ys : List X) (i j : ℕ) (x : X) → xs ≡ ys → i ≡ j → i < length xs → x ≡ get_or xs i x → slice_get ys j ≡ Some x
+found_there xs ys i j x same at within is =
+    subst (λ l. slice_get l j ≡ Some x) same (subst (λ k. slice_get xs k ≡ Some x) at (slice_get-get_or xs i x within ∙ ap Some (sym is)))
+
+pub missed_there : {X : Type 0} (xs ys : List X) (i j : ℕ) → xs ≡ ys → i ≡ j → length xs ≤ i → slice_get ys j ≡ None
+missed_there xs ys i j same at past = subst (λ l. slice_get l j ≡ None) same (subst (λ k. slice_get xs k ≡ None) at (slice_get_past xs i past))
 
 -- What a row keeps
 

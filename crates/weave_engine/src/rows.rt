@@ -6,7 +6,7 @@ ghost use Rattle.schedule_text.specs.declared.token.Token.{Token};
 ghost use Rattle.weave_engine.specs.Repeats.{Repeats};
 ghost use Rattle.weave_engine.specs.Turns.{Weave, thread_turn, ends_row};
 ghost use Rattle.weave_engine.specs.Woven.{Runs as RunsAs, AllRun};
-ghost use Rattle.weave_engine.specs.Seats.{RunsOn, Locked, is_free_at, is_blocked_at, AllKeepOn};
+ghost use Rattle.weave_engine.specs.Seats.{RunsOn, Locked, is_nothing, is_free_at, is_blocked_at, AllKeepOn};
 
 use crate::reporter::{reporter_row, reporter_turn};
 use crate::seat::{Owed, Seat};
@@ -16,15 +16,22 @@ use phaser_core::Core;
 use schedule_text::Token;
 use std::alloc::Global;
 
+// Whether a thread owes nothing.
+fn owes_nothing(seat: &Seat<'_>) -> bool
+    ensures { result ≡ is_nothing seat.now.owed }
+{
+    match seat.owed {
+        Owed::Nothing => true,
+        Owed::Record { .. } | Owed::Enter(_) | Owed::Stop => false,
+    }
+}
+
 // Whether the thread of this number owes nothing.
 fn is_free(seats: &Vec<Seat<'_>>, thread: u8) -> bool
     ensures { result ≡ is_free_at seats.now.items thread }
 {
     match seats.get(usize::from(thread)) {
-        Some(seat) => match seat.owed {
-            Owed::Nothing => true,
-            Owed::Record { .. } | Owed::Enter(_) | Owed::Stop => false,
-        },
+        Some(seat) => owes_nothing(seat),
         None => true,
     }
 }

@@ -1,4 +1,4 @@
-use Rattle.std.proofs.Common.{◌≡◌, ℕ, List, length, sym, ap, ◌∙◌, subst}
+use Rattle.std.proofs.Common.{◌≡◌, length, sym, subst}
 use Rattle.std.proofs.lemmas.Result.{IfOk-weaker}
 use Rattle.element_tree.specs.declared.kinds.Kind.TheVariants as kinds
 use Rattle.jm_meaning.specs.State.{state_of, at_places}
@@ -23,6 +23,7 @@ returns-in-CriticalSection g c = record {
   fits = λ e there. subst (λ x. EnteredFits c.args.child (length (children_of c.args.plan.now.elements x)) x.kind c.enter_section.result) (same_element c.args.plan.now.elements c.args.child c.in-Some.element.now e (sym c.in-Some.ensures) there) c.enter_section.ensures.fits;
   lock = λ e there. subst (λ x. EntersLock c.args.plan.now.elements x.kind c.enter_section.result) (same_element c.args.plan.now.elements c.args.child c.in-Some.element.now e (sym c.in-Some.ensures) there) c.enter_section.ensures.lock;
   stands = stands_same c.args.state.now;
+  places = tt;
 }
 
 pub enter_other-requires : goal.enter_other-requires

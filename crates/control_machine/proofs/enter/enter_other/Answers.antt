@@ -114,6 +114,7 @@ returns-in-Transaction g c =
           (c.enter_transaction.ensures.came failure below round (state_of c.args.state.now (at_places own c.args.places.now))));
       fits = λ e there. subst (λ x. EnteredFits c.args.child (length (children_of c.args.plan.now.elements x)) x.kind c.enter_transaction.result) (same_element c.args.plan.now.elements c.args.child c.in-Some.element.now e (sym c.in-Some.ensures) there) c.enter_transaction.ensures.fits;
       stands = stands_same c.args.state.now;
+      places = tt;
     }
 
 pub returns-in_default-kind : goal.returns-in_default-kind
@@ -127,6 +128,7 @@ returns-in_default-kind g c =
           d.not-Script d.not-Http d.not-Simple d.not-OnceOnly d.not-Loop d.not-If d.not-While d.not-ForEach d.not-Interleave d.not-Random d.not-RandomOrder d.not-Switch d.not-Transaction (c.requires.other c.in-Some.element.now (sym c.in-Some.ensures))));
       fits = λ e there. tt;
       stands = stands_same c.args.state.now;
+      places = tt;
     }
 
 pub returns-in_default-clause-stands : goal.returns-in_default-clause-stands

@@ -1,4 +1,4 @@
-use Rattle.std.proofs.Common.{◌-◌, ◌∷◌, sym, ap, ◌∙◌, subst, refl, arith}
+use Rattle.std.proofs.Common.{◌-◌, sym, ap, ◌∙◌, subst, refl, arith}
 use Rattle.var_functions.specs.Came.{CameTo}
 use Rattle.std.proofs.lemmas.Result.{IfOk-weaker, on_err_weaker}
 use Rattle.control_machine.specs.Moves.{past}
@@ -76,6 +76,7 @@ returns-else-self-eq0-clause-stands g c =
       apart = rw c.put.ensures (c.requires.apart, s.apart);
       failure = s.failure;
       signal = s.signal;
+      links = s.links;
     }
 
 pub returns-else-self-eq0-clause-lighter : goal.returns-else-self-eq0-clause-lighter
@@ -85,12 +86,12 @@ returns-else-self-eq0-clause-lighter g c = λ old depth takes.
 pub open-requires-clause-nests : goal.open-requires-clause-nests
 open-requires-clause-nests g c =
     let o = c.requires.open in
-    child_nests c.args.plan.now.elements c.args.frame.depth c.in-Child.place c.in-Some.child o.element o.below (sym (c.in-Some.ensures o.element o.there))
+    child_nests c.args.plan.now.elements c.args.frame.depth c.in-Child.place c.in-Some.child o.element o.below (sym (c.in-Some.ensures c.args.plan.now.elements o.element c.requires.stands.links o.there))
 
 pub open-requires-clause-apart : goal.open-requires-clause-apart
 open-requires-clause-apart g c =
     let o = c.requires.apart in
-    rw c.put-in-Child.ensures (child_apart c.args.plan.now.elements c.args.frame.depth c.in-Child.place c.in-Some.child _ o.element o.below (sym (c.in-Some.ensures o.element o.there)))
+    rw c.put-in-Child.ensures (child_apart c.args.plan.now.elements c.args.frame.depth c.in-Child.place c.in-Some.child _ o.element o.below (sym (c.in-Some.ensures c.args.plan.now.elements o.element c.requires.stands.links o.there)))
 
 pub returns-in-Some-clause-came : goal.returns-in-Some-clause-came
 returns-in-Some-clause-came g c = λ e beside there.
@@ -99,7 +100,7 @@ returns-in-Some-clause-came g c = λ e beside there.
     (leaving_open o (past (state_at c.open.new.self beside c.open.new.state))) c.open.result) (ap open_lock c.put-in-Child.ensures)
     (came_as (g.O.Outside.account c.args.outside.now) (g.O.Outside.account c.open.new.outside) _ _ (went c.args.plan.now c.open.new.self (state_at c.open.new.self beside c.open.new.state))
     (leaving_open (open_lock c.put-in-Child.new.self.frames) (past (state_at c.open.new.self beside c.open.new.state))) c.open.result
-    (child_next c.args.plan.now c.args.self.now c.args.frame e c.args.state.now (own_at c.args.self.now beside) there c.args.turn c.in-Child.place c.in-Some.child c.round-round.result c.in-Child.is (sym (c.in-Some.ensures e there)) c.round-round.ensures
+    (child_next c.args.plan.now c.args.self.now c.args.frame e c.args.state.now (own_at c.args.self.now beside) there c.args.turn c.in-Child.place c.in-Some.child c.round-round.result c.in-Child.is (sym (c.in-Some.ensures c.args.plan.now.elements e c.requires.stands.links there)) c.round-round.ensures
     (record c.args.self.now { stack = c.put-in-Child.new.self }) (record { group = refl; failure = refl; signal = c.requires.normal }) c.put-in-Child.ensures)
     (c.open.ensures.came beside))
 
@@ -109,7 +110,7 @@ returns-in-Some-clause-lock g c = rw c.put-in-Child.ensures at c.open.ensures.lo
 pub returns-in-Some-clause-lighter : goal.returns-in-Some-clause-lighter
 returns-in-Some-clause-lighter g c = IfOk-weaker c.open.result _ _ (λ w opened old depth takes.
     child_lighter c.args.plan.now.elements c.args.self.now c.open.new.self old c.args.frame c.args.turn c.in-Child.place (record c.args.self.now { stack = c.put-in-Child.new.self }).stack.frames w c.in-Child.is
-    (nests_at c.args.plan.now.elements c.args.frame.depth c.in-Some.child (child_nests c.args.plan.now.elements c.args.frame.depth c.in-Child.place c.in-Some.child c.requires.open.element c.requires.open.below (sym (c.in-Some.ensures c.requires.open.element c.requires.open.there)))).some
+    (nests_at c.args.plan.now.elements c.args.frame.depth c.in-Some.child (child_nests c.args.plan.now.elements c.args.frame.depth c.in-Child.place c.in-Some.child c.requires.open.element c.requires.open.below (sym (c.in-Some.ensures c.args.plan.now.elements c.requires.open.element c.requires.stands.links c.requires.open.there)))).some
     depth takes c.put-in-Child.ensures opened c.open.ensures.rest.0 c.open.ensures.rest.1) c.open.ensures.load
 
 pub returns-in-Some-clause-rounds : goal.returns-in-Some-clause-rounds
@@ -120,7 +121,7 @@ returns-in-Some-clause-index g c = c.open.ensures.index
 
 pub returns-in-None-clause-came : goal.returns-in-None-clause-came
 returns-in-None-clause-came g c = λ e beside there.
-    goes_as _ _ _ (no_child c.args.plan.now c.args.self.now c.args.frame e c.args.state.now (own_at c.args.self.now beside) there c.args.turn c.in-Child.place c.in-Child.is (sym (c.in-None.ensures e there)) (record c.args.self.now { stack = c.put-in-Child.new.self }) (record { group = refl; failure = refl; signal = c.requires.normal }) c.put-in-Child.ensures c.args.self.now.rounds refl)
+    goes_as _ _ _ (no_child c.args.plan.now c.args.self.now c.args.frame e c.args.state.now (own_at c.args.self.now beside) there c.args.turn c.in-Child.place c.in-Child.is (sym (c.in-None.ensures c.args.plan.now.elements e c.requires.stands.links there)) (record c.args.self.now { stack = c.put-in-Child.new.self }) (record { group = refl; failure = refl; signal = c.requires.normal }) c.put-in-Child.ensures c.args.self.now.rounds refl)
 
 pub returns-in-None-clause-lighter : goal.returns-in-None-clause-lighter
 returns-in-None-clause-lighter g c = λ old depth takes.
@@ -129,7 +130,7 @@ returns-in-None-clause-lighter g c = λ old depth takes.
 pub returns-in-Some-clause-cut : goal.returns-in-Some-clause-cut
 returns-in-Some-clause-cut g c = λ e there. on_err_weaker c.open.result (λ cut.
     cut_as c.args.plan.now (λ beside. left_answered c.args.plan.now c.args.self.now c.args.frame e c.args.turn (state_at c.args.self.now beside c.args.state.now)) _ c.open.new.state
-    (λ beside. child_next c.args.plan.now c.args.self.now c.args.frame e c.args.state.now (own_at c.args.self.now beside) there c.args.turn c.in-Child.place c.in-Some.child c.round-round.result c.in-Child.is (sym (c.in-Some.ensures e there)) c.round-round.ensures
+    (λ beside. child_next c.args.plan.now c.args.self.now c.args.frame e c.args.state.now (own_at c.args.self.now beside) there c.args.turn c.in-Child.place c.in-Some.child c.round-round.result c.in-Child.is (sym (c.in-Some.ensures c.args.plan.now.elements e c.requires.stands.links there)) c.round-round.ensures
     (record c.args.self.now { stack = c.put-in-Child.new.self }) (record { group = refl; failure = refl; signal = c.requires.normal }) c.put-in-Child.ensures) cut) c.open.ensures.cut
 
 pub returns-then-self-eq0-clause-later : goal.returns-then-self-eq0-clause-later

@@ -18,12 +18,12 @@ use Rattle.control_machine.proofs.machine.Machine.group_turn.Goals as goal
 pub open-requires-clause-nests : goal.open-requires-clause-nests
 open-requires-clause-nests g c =
     let o = c.requires.stands.group in
-    child_nests c.args.plan.now.elements 30 c.in-Some.place c.in-Some-child_at.child o.element o.below (sym (c.in-Some-child_at.ensures o.element o.there))
+    child_nests c.args.plan.now.elements 30 c.in-Some.place c.in-Some-child_at.child o.element o.below (sym (c.in-Some-child_at.ensures c.args.plan.now.elements o.element c.requires.stands.links o.there))
 
 pub open-requires-clause-apart : goal.open-requires-clause-apart
 open-requires-clause-apart g c =
     let o = c.requires.stands.group in
-    rw c.requires.empty (child_apart c.args.plan.now.elements 30 c.in-Some.place c.in-Some-child_at.child false o.element o.apart (sym (c.in-Some-child_at.ensures o.element o.there)))
+    rw c.requires.empty (child_apart c.args.plan.now.elements 30 c.in-Some.place c.in-Some-child_at.child false o.element o.apart (sym (c.in-Some-child_at.ensures c.args.plan.now.elements o.element c.requires.stands.links o.there)))
 
 pub returns-in-Some-child_at-clause-came : goal.returns-in-Some-child_at-clause-came
 returns-in-Some-child_at-clause-came g c = λ beside.
@@ -33,7 +33,7 @@ returns-in-Some-child_at-clause-came g c = λ beside.
     (leaving_open (open_lock c.args.self.now.stack.frames) (past (state_at c.open.new.self beside c.open.new.state))) c.open.result
     (group_child_next c.args.plan.now c.args.self.now (record c.args.self.now { group = record c.args.self.now.group { pass = c.next_child.new.self } }) c.args.state.now (own_at c.args.self.now beside) c.in-Some.place c.in-Some-child_at.child c.from-round.result c.requires.normal c.requires.empty
     (some_left c.args.self.now.group.pass c.in-Some.place n.0 n.1) (all_of c.args.plan.now.elements c.args.self.now.group.element o.element c.args.self.now.group.pass.children o.there o.pass) n.0
-    (taken_child c.args.plan.now.elements c.args.self.now.group.element o.element c.in-Some.place c.in-Some-child_at.child o.there (sym (c.in-Some-child_at.ensures o.element o.there)))
+    (taken_child c.args.plan.now.elements c.args.self.now.group.element o.element c.in-Some.place c.in-Some-child_at.child o.there (sym (c.in-Some-child_at.ensures c.args.plan.now.elements o.element c.requires.stands.links o.there)))
     (c.from-round.ensures ∙ c.saturating_sub.ensures) (ap (λ p. record c.args.self.now.group { pass = p }) n.2) refl c.requires.empty)
     (c.open.ensures.came beside)
 
@@ -52,12 +52,12 @@ returns-in-Some-child_at-clause-index g c = c.open.ensures.index
 pub returns-in-None-child_at-clause-came : goal.returns-in-None-child_at-clause-came
 returns-in-None-child_at-clause-came g c =
     let o = c.requires.stands.group in
-    absurd (no_such_child c.args.plan.now.elements o.element c.args.self.now.group.pass c.in-Some.place c.in-Some.ensures.1 o.pass (c.in-None-child_at.ensures o.element o.there))
+    absurd (no_such_child c.args.plan.now.elements o.element c.args.self.now.group.pass c.in-Some.place c.in-Some.ensures.1 o.pass (c.in-None-child_at.ensures c.args.plan.now.elements o.element c.requires.stands.links o.there))
 
 pub returns-in-None-child_at-clause-lighter : goal.returns-in-None-child_at-clause-lighter
 returns-in-None-child_at-clause-lighter g c =
     let o = c.requires.stands.group in
-    absurd (no_such_child c.args.plan.now.elements o.element c.args.self.now.group.pass c.in-Some.place c.in-Some.ensures.1 o.pass (c.in-None-child_at.ensures o.element o.there))
+    absurd (no_such_child c.args.plan.now.elements o.element c.args.self.now.group.pass c.in-Some.place c.in-Some.ensures.1 o.pass (c.in-None-child_at.ensures c.args.plan.now.elements o.element c.requires.stands.links o.there))
 
 pub returns-in-None-clause-came : goal.returns-in-None-clause-came
 returns-in-None-clause-came g c = λ beside.
@@ -74,7 +74,7 @@ returns-in-Some-child_at-clause-cut g c = on_err_weaker c.open.result (λ cut.
     cut_as c.args.plan.now (λ beside. left_of c.args.plan.now c.args.self.now (state_at c.args.self.now beside c.args.state.now)) _ c.open.new.state
     (λ beside. group_child_next c.args.plan.now c.args.self.now (record c.args.self.now { group = record c.args.self.now.group { pass = c.next_child.new.self } }) c.args.state.now (own_at c.args.self.now beside) c.in-Some.place c.in-Some-child_at.child c.from-round.result c.requires.normal c.requires.empty
     (some_left c.args.self.now.group.pass c.in-Some.place n.0 n.1) (all_of c.args.plan.now.elements c.args.self.now.group.element o.element c.args.self.now.group.pass.children o.there o.pass) n.0
-    (taken_child c.args.plan.now.elements c.args.self.now.group.element o.element c.in-Some.place c.in-Some-child_at.child o.there (sym (c.in-Some-child_at.ensures o.element o.there)))
+    (taken_child c.args.plan.now.elements c.args.self.now.group.element o.element c.in-Some.place c.in-Some-child_at.child o.there (sym (c.in-Some-child_at.ensures c.args.plan.now.elements o.element c.requires.stands.links o.there)))
     (c.from-round.ensures ∙ c.saturating_sub.ensures) (ap (λ p. record c.args.self.now.group { pass = p }) n.2) refl c.requires.empty) cut) c.open.ensures.cut
 
 pub returns-in-None-child_at-clause-later : goal.returns-in-None-child_at-clause-later

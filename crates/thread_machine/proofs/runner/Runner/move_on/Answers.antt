@@ -2,7 +2,7 @@ use Rattle.std.proofs.Common.{◌≡◌, ◌∙◌, ap, subst, sym, false, None,
 use Rattle.std.proofs.lemmas.Result.{IfOk-weaker, IfErr-weaker}
 use Rattle.control_machine.specs.declared.moves.Move.TheVariants.{RunSampler, TransactionSample, EnterSection, LeaveSection}
 use Rattle.control_machine.specs.Left.{open_lock, IsLock}
-use Rattle.sampler_pipeline.specs.KeptPackages.{Keeps}
+use Rattle.node_table.specs.KeptPackages.{packages_of}
 use Rattle.thread_machine.specs.Standing.{state_in}
 use Rattle.thread_machine.specs.Inside.{standing_of}
 use Rattle.thread_machine.proofs.Steps.{finished, gives_behind, refused_behind, left_section}
@@ -67,8 +67,8 @@ enter-requires-clause-none_open g c = ap (λ r. r.section) c.in-Ok-EnterSection.
 pub enter-requires-clause-held : goal.enter-requires-clause-held
 enter-requires-clause-held g c = (rw c.in-Ok-EnterSection.field-0-is at c.in-Ok-EnterSection.ensures.lock).1
 
-pub enter-requires-clause-keeps : goal.enter-requires-clause-keeps
-enter-requires-clause-keeps g c = subst (λ r. Keeps r.plan.now.elements r.packages) (sym c.in-Ok-EnterSection.ensures.kept) c.requires.moves.keeps
+pub enter-requires-clause-table : goal.enter-requires-clause-table
+enter-requires-clause-table g c = subst (λ r. r.table ≡ packages_of r.plan.now.elements) (sym c.in-Ok-EnterSection.ensures.kept) c.requires.moves.table
 
 pub returns-in-Ok-EnterSection-clause-gives : goal.returns-in-Ok-EnterSection-clause-gives
 returns-in-Ok-EnterSection-clause-gives g c =

@@ -14,8 +14,8 @@ pub returns-then-self-eq0-clause-on : goal.returns-then-self-eq0-clause-on
 returns-then-self-eq0-clause-on g c =
     ends_on c.args.self.now c.end_by.new.self SampleLimit c.end_by.result (tt {0}) c.requires.owed c.requires.entering (let r = c.requires.room in omega (arith, r)) c.end_by.ensures.room c.end_by.ensures.ends
 
-pub run_sampler-requires : goal.run_sampler-requires
-run_sampler-requires g c = c.requires.moves.keeps
+pub run_sampler-requires-clause-table : goal.run_sampler-requires-clause-table
+run_sampler-requires-clause-table g c = c.requires.moves.table
 
 pub returns-in-Some-clause-gives : goal.returns-in-Some-clause-gives
 returns-in-Some-clause-gives g c =
@@ -29,7 +29,7 @@ returns-in-Some-clause-gives g c =
 pub returns-in-Some-clause-on : goal.returns-in-Some-clause-on
 returns-in-Some-clause-on g c =
     sampled_goes c.args.self.now c.requires.moves c.requires.owed c.requires.entering c.requires.last c.requires.begun c.requires.known c.requires.room
-    c.run_sampler.new.self c.put_pause.new.self c.in-Ok.ensures.kept c.put_pause.ensures.kept c.put_pause.ensures.room c.run_sampler.ensures.keeps
+    c.run_sampler.new.self c.put_pause.new.self c.in-Ok.ensures.kept c.put_pause.ensures.kept c.put_pause.ensures.room
     c.tell.new.self c.in-Some.sample (entry_of c.in-Some.sample) c.tell.result c.tell.ensures.step c.tell.ensures.new c.tell.ensures.stands c.tell.ensures.lock
 
 pub returns-in-None-clause-gives : goal.returns-in-None-clause-gives
@@ -44,7 +44,7 @@ returns-in-None-clause-gives g c =
 pub returns-in-None-clause-on : goal.returns-in-None-clause-on
 returns-in-None-clause-on g c =
     null_goes c.args.self.now c.requires.moves c.requires.owed c.requires.entering c.requires.last c.requires.begun c.requires.known c.requires.room
-    c.run_sampler.new.self c.put_pause.new.self c.in-Ok.ensures.kept c.put_pause.ensures.kept c.put_pause.ensures.room c.run_sampler.ensures.keeps c.put.new.self c.put.ensures.room
+    c.run_sampler.new.self c.put_pause.new.self c.in-Ok.ensures.kept c.put_pause.ensures.kept c.put_pause.ensures.room c.put.new.self c.put.ensures.room
 
 pub returns-in-Err-clause-refused : goal.returns-in-Err-clause-refused
 returns-in-Err-clause-refused g c =

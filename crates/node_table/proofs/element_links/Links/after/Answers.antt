@@ -1,0 +1,7 @@
+use Rattle.std.proofs.Common.{ap}
+use Rattle.node_table.specs.declared.element_links.Link.{Link}
+use Rattle.node_table.proofs.LinkLaws.{link_read}
+use Rattle.node_table.proofs.element_links.Links.after.Goals as goal
+
+pub returns : goal.returns
+returns c = λ elements is. ap (λ (l : Link). l.after) (link_read elements _ _ _ _ _ c.index.ensures c.from.ensures c.self.view_is c.requires is)
