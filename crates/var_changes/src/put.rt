@@ -1,6 +1,6 @@
 // Variables that are set.
 
-ghost use Rattle.std.specs.Prelude.{map};
+ghost use Rattle.std.specs.Prelude.{◌≡◌, Some, Ok, map};
 ghost use Rattle.var_functions.specs.Vars.{put_var, Puts};
 ghost use Rattle.var_changes.specs.Changes.{Changes, setting};
 
@@ -32,10 +32,14 @@ pub fn put_all(variables: Vec<Variable>, vars: &mut Vars) -> Result<(), VarError
 /// Sets a variable to copies of a name and a value.
 ///
 /// `ValueLimit` comes where the value would have more than 65,536 bytes, or all names and values together more than
-/// 4,194,304. A call that refuses changes nothing.
+/// 4,194,304. A call that refuses changes nothing. A variable that has this value already takes no memory.
 pub fn put_copy(alloc: Global, name: &[u8], value: &[u8], vars: &mut Vars) -> Result<(), VarError>
     ensures exact { Puts (put_var name.now value.now vars.old) vars.old vars.new result }
+    ensures memory { put_var name.now value.now vars.old ≡ Some vars.old → result ≡ Ok tt }
 {
+    if vars.is_set(name, value) {
+        return Ok(());
+    }
     let name = Text::new(alloc, name)?;
     let value = Text::new(alloc, value)?;
     vars.put(name, value)

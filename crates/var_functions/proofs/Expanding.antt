@@ -77,9 +77,16 @@ pub no_argument : (a b : Account) (run : Run (Expanded (List (List ℕ)))) (befo
 unfolding after_texts
 no_argument a b run before vars rest fns is g = rw is at g
 
-pub count-arguments_of : (args : List Pieces) → count (arguments_of args) ≡ length args
+count-arguments_of : (args : List Pieces) → count (arguments_of args) ≡ length args
 count-arguments_of [] = refl
 count-arguments_of (ps ∷ args) = ap suc (count-arguments_of args)
+
+-- the function that a call of this name takes for that many arguments
+pub names_function : (name bytes : List ℕ) (args : List Pieces) (found which : Option Function) → bytes ≡ name → found ≡ function_named bytes → which ≡ option_and_then (taking (length args)) found
+    → option_and_then (taking (count (arguments_of args))) (function_named name) ≡ which
+names_function name bytes args found which same is took =
+    ap (λ n. option_and_then (taking n) (function_named name)) (count-arguments_of args) ∙ ap (λ n. option_and_then (taking (length args)) (function_named n)) (sym same)
+    ∙ ap (option_and_then (taking (length args))) (sym is) ∙ sym took
 
 pub referred_call : (name : List ℕ) (args : Arguments) (vars : Variables) (fns : Functions)
     → referred (call name args) vars fns ≡ called (option_and_then (taking (count args)) (function_named name)) (after_texts args vars []) (reference_spelling (call name args)) vars fns

@@ -3,3 +3,5 @@ pub mod VarLaws
 pub mod CameLaws
 pub mod LaterLaws
 pub mod Expanding
+pub mod LeftLaws
+pub mod StopLaws

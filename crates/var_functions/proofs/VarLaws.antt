@@ -1,7 +1,10 @@
 -- Variables in an ordered map, and how many bytes they have.
 use Rattle.std.proofs.Common.{◌≡◌, ℕ, ◌+◌, ◌-◌, ◌≤◌, ◌<◌, Vec, Global, List, [], ◌∷◌, map, Bool, true, false, cond, length, Some, None, refl, sym, ap, ◌∙◌, subst, arith}
-use Rattle.std.specs.Prelude.{if◌then◌else◌, nat_le, ◌&&◌}
-use Rattle.std.proofs.lemmas.Bool.Decides.{nat_tests}
+use Rattle.std.specs.Prelude.{if◌then◌else◌, nat_le, nat_eq, ◌&&◌, ◌↔◌, unwrap_or}
+use Rattle.std.specs.Bool.{Decides}
+use Rattle.std.proofs.lemmas.Slice.Eq.{slice_eq-Decides}
+use lib.Pointwise.{pointwise}
+use Rattle.std.proofs.lemmas.Bool.Decides.{nat_tests, Decides-eqb}
 use Rattle.std.specs.declared.cmp.Ordering.{Ordering}
 use Rattle.std.specs.declared.cmp.Ordering.TheVariants.{Less, Equal, Greater}
 use Rattle.std.specs.Ordering.{nat_cmp, is_eq, match_ordering}
@@ -180,3 +183,47 @@ kept_without name vars new bytes kept same sorted = record {
   limit = omega (arith, kept.limit);
   ordered = sorted;
 }
+
+-- ---- a variable that is set to its value
+
+same_step : (name value : List ℕ) (e : List ℕ × List ℕ) (es : Variables) → IsStrictlySortedBy by_bytes (keys_of (e ∷ es))
+    → (value_of name es ≡ Some value → with_var name value es ≡ es) → value_of name (e ∷ es) ≡ Some value
+    → (o : Ordering) → by_bytes name e.0 ≡ o → match_ordering o ((name, value) ∷ e ∷ es) ((e.0, value) ∷ es) (e ∷ with_var name value es) ≡ e ∷ es
+same_step name value e es sorted more found Less is =
+    let none : value_of name (e ∷ es) ≡ None = lookup-none (is_at (by_bytes name)) (e ∷ es) (none_below_head nat_list_cmp_total name e es sorted is) in
+    cc
+same_step name value e es sorted more found Equal is =
+    let has : Some e.1 ≡ Some value = sym (ap (λ o. cond (is_eq o) (Some e.1) (value_of name es)) is) ∙ found in
+    ap (λ v. (e.0, v) ∷ es) (sym (ap (λ o. unwrap_or o value) has))
+same_step name value e es sorted more found Greater is =
+    let rest : value_of name es ≡ Some value = sym (ap (λ o. cond (is_eq o) (Some e.1) (value_of name es)) is) ∙ found in
+    ap (λ l. e ∷ l) (more rest)
+
+-- setting a variable to its value changes nothing
+with_var-same : (name value : List ℕ) (vars : Variables) → IsStrictlySortedBy by_bytes (keys_of vars) → value_of name vars ≡ Some value → with_var name value vars ≡ vars
+with_var-same name value [] sorted found = cc
+with_var-same name value (e ∷ es) sorted found =
+    same_step name value e es sorted (with_var-same name value es (sorted_tail by_bytes e.0 (keys_of es) sorted)) found (by_bytes name e.0) refl
+
+made : (b : Bool) (x y : Variables) → (if b then Some x else None) ≡ Some y → x ≡ y
+made true x y h = ap (λ o. unwrap_or o x) h
+made false x y h = cc
+
+-- that a value is set already, where it is the value of its name
+pub set_already : (name value : List ℕ) (vars : Variables) (bytes : ℕ) (r : Bool) → IsKept bytes vars → length value ≤ most_text → Decides r (value_of name vars ≡ Some value)
+    → (r ≡ true) ↔ (put_var name value vars ≡ Some vars)
+set_already name value vars bytes r kept short d = (λ h. there (d.0 h), λ h. d.1 (back (made _ (with_var name value vars) vars h))) where
+  there : value_of name vars ≡ Some value → put_var name value vars ≡ Some vars
+  there found =
+      let same : with_var name value vars ≡ vars = with_var-same name value vars kept.ordered found in
+      let fits : bytes_of (with_var name value vars) ≤ most_bytes = omega (arith, kept.sum, kept.limit, ap bytes_of same) in
+      room (length value) (bytes_of (with_var name value vars)) (with_var name value vars) short fits ∙ ap Some same
+
+  back : with_var name value vars ≡ vars → value_of name vars ≡ Some value
+  back same = ap (value_of name) (sym same) ∙ value_of-with_var name name value vars ∙ ap (λ b. if b then Some value else value_of name vars) (is_same-refl name)
+
+-- whether the value that is found is this one
+pub found_is : (name value : List ℕ) (vars : Variables) (old : List ℕ) (r : Bool) → value_of name vars ≡ Some old → r ≡ pointwise nat_eq old value → Decides r (value_of name vars ≡ Some value)
+found_is name value vars old r found is =
+    let d : Decides r (old ≡ value) = slice_eq-Decides Decides-eqb old value r is in
+    (λ h. found ∙ ap Some (d.0 h), λ h. d.1 (ap (λ o. unwrap_or o old) (sym found ∙ h)))

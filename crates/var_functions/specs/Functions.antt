@@ -1,5 +1,5 @@
 -- The functions: for each its name, how many arguments it takes, and its value where they have their form.
-use Rattle.std.specs.Prelude.{ℕ, ℤ, ◌==◌, ◌||◌, nat_le, nat_eq, int_le, Bool, true, false, is_some, List, [], ◌∷◌, Option, Some, None, Result, Ok, Err, unwrap_or, slice_get, codes, if◌then◌else◌}
+use Rattle.std.specs.Prelude.{◌≡◌, ◌⊎◌, ℕ, ℤ, ◌==◌, ◌||◌, nat_le, nat_eq, int_le, Bool, true, false, is_some, List, [], ◌∷◌, Option, Some, None, Result, Ok, Err, unwrap_or, slice_get, codes, if◌then◌else◌}
 use Rattle.std.specs.Option.{option_map}
 use Rattle.std.specs.Fmt.{decimal, signed_decimal}
 use lib.Pointwise.{pointwise}
@@ -57,10 +57,11 @@ abbrev pub no_value : Functions → Answer
 no_value fns = (None, fns)
 
 -- `__counter`: its argument is `TRUE` or `true`
+abbrev pub counts : List ℕ → Bool
+counts flag = pointwise nat_eq flag (codes "TRUE") || pointwise nat_eq flag (codes "true")
+
 abbrev pub counter_value : List ℕ → Functions → Answer
-counter_value flag fns =
-    if pointwise nat_eq flag (codes "TRUE") || pointwise nat_eq flag (codes "true") then (Some (decimal (count fns).counted), count fns)
-    else no_value fns
+counter_value flag fns = if counts flag then (Some (decimal (count fns).counted), count fns) else no_value fns
 
 -- `__Random`: its arguments are two numbers, the least first
 abbrev pub random_value : Option ℤ → Option ℤ → Functions → Answer
@@ -95,3 +96,7 @@ value Time args vars fns = reading >>= λ t. over (Some (decimal t), fns)
 value Property args vars fns = over (Some (unwrap_or (property_of (argument 0 args) fns.props) (second_or (codes "1") args)), fns)
 value IsVarDefined args vars fns = over (Some (truth_text (is_some (value_of (argument 0 args) vars))), fns)
 value Condition args vars fns = over (Some (condition_text (condition (argument 0 args))), fns)
+
+-- What functions keep where a value lacked memory for its text: as before it, or as it left them.
+abbrev pub LeftByValue : Functions → Run Answer → Functions → Type 0
+LeftByValue fns run fns' = (fns' ≡ fns) ⊎ ((v : Option (List ℕ)) × (run ≡ over (v, fns')))

@@ -5,3 +5,4 @@ pub mod FunctionState
 pub mod Functions
 pub mod Expansion
 pub mod Came
+pub mod Stops

@@ -9,6 +9,7 @@ ghost use Rattle.var_functions.specs.Vars.{most_text};
 ghost use Rattle.var_functions.specs.Functions.{function_named};
 ghost use Rattle.var_functions.specs.Came.{CameTo};
 ghost use Rattle.var_functions.specs.FunctionState.{IsLater};
+ghost use Rattle.var_functions.specs.Stops.{OutOfMemory, moment, StopsIn, StopsInReference, StopsInTexts, StopsInPiece};
 ghost use Rattle.var_functions.specs.Expansion.{expanded, and_then, appended, limited, taking, function_of_name, referred, after_piece, after_pieces, after_texts, expansion, Grows};
 
 use crate::error::VarError;
@@ -100,6 +101,7 @@ fn write_named<O: Outside>(
 ) -> Result<(), VarError>
     ensures came { CameTo (O.account outside.old) (and_then (referred (variable name.now) vars.now fns.old) (appended out.old.items)) (O.account outside.new)
         (λ _. over (expanded (Some out.new.items) fns.new)) (over (expanded None fns.new)) result }
+    ensures stops { OutOfMemory result (StopsInReference (variable name.now) vars.now (moment fns.old (O.account outside.old)) (moment fns.new (O.account outside.new))) }
     ensures later { IsLater fns.old fns.new }
     ensures short { OnOk result (length out.new.items ≤ most_text) }
 {
@@ -133,6 +135,7 @@ fn write_called<O: Outside>(
 ) -> Result<(), VarError>
     ensures came { CameTo (O.account outside.old) (and_then (referred (call name.now (arguments_of args.now)) vars.now fns.old) (appended out.old.items)) (O.account outside.new)
         (λ _. over (expanded (Some out.new.items) fns.new)) (over (expanded None fns.new)) result }
+    ensures stops { OutOfMemory result (StopsInReference (call name.now (arguments_of args.now)) vars.now (moment fns.old (O.account outside.old)) (moment fns.new (O.account outside.new))) }
     ensures later { IsLater fns.old fns.new }
     ensures short { OnOk result (length out.new.items ≤ most_text) }
 {
@@ -160,6 +163,7 @@ fn argument_texts<O: Outside>(
 ) -> Result<Vec<Text>, VarError>
     ensures came { CameTo (O.account outside.old) (after_texts (arguments_of args.now) vars.now [] fns.old) (O.account outside.new)
         (λ v. over (expanded (Some v.items) fns.new)) (over (expanded None fns.new)) result }
+    ensures stops { OutOfMemory result (StopsInTexts (arguments_of args.now) vars.now (moment fns.old (O.account outside.old)) (moment fns.new (O.account outside.new))) }
     ensures later { IsLater fns.old fns.new }
     ensures short { IfOk result (λ v. All (λ t. length t ≤ most_text) v.items) }
 {
@@ -188,6 +192,7 @@ fn write_piece<O: Outside>(
 ) -> Result<(), VarError>
     ensures came { CameTo (O.account outside.old) (after_piece piece.now vars.now out.old.items fns.old) (O.account outside.new)
         (λ _. over (expanded (Some out.new.items) fns.new)) (over (expanded None fns.new)) result }
+    ensures stops { OutOfMemory result (StopsInPiece piece.now vars.now (moment fns.old (O.account outside.old)) (moment fns.new (O.account outside.new))) }
     ensures later { IsLater fns.old fns.new }
     ensures short { OnOk result (length out.new.items ≤ most_text) }
 {
@@ -211,6 +216,7 @@ fn write_pieces<O: Outside>(
     requires { length out.old.items ≤ most_text }
     ensures came { CameTo (O.account outside.old) (after_pieces template.now vars.now out.old.items fns.old) (O.account outside.new)
         (λ _. over (expanded (Some out.new.items) fns.new)) (over (expanded None fns.new)) result }
+    ensures stops { OutOfMemory result (StopsIn template.now vars.now out.old.items (moment fns.old (O.account outside.old)) (moment fns.new (O.account outside.new))) }
     ensures later { IsLater fns.old fns.new }
     ensures short { OnOk result (length out.new.items ≤ most_text) }
 {
@@ -236,6 +242,9 @@ pub fn expand<O: Outside>(
     // and out of memory some rest of the run is left.
     ensures came { CameTo (O.account outside.old) (expansion template.now state.old.vars state.old.fns) (O.account outside.new)
         (λ t. over (expanded (Some t) state.new.fns)) (over (expanded None state.new.fns)) result }
+    // Out of memory: functions keep what the evaluated part left.
+    ensures stops { OutOfMemory result (StopsIn template.now state.old.vars [] (moment state.old.fns (O.account outside.old))
+        (moment state.new.fns (O.account outside.new))) }
     // After every answer, out of memory included.
     ensures later { IsLater state.old.fns state.new.fns }
     ensures vars { state.new.vars ≡ state.old.vars }

@@ -10,7 +10,7 @@ ghost use Rattle.cond_expr.specs.ConditionGives.{Gives};
 ghost use Rattle.var_functions.specs.Vars.{most_text, value_of};
 ghost use Rattle.var_functions.specs.Came.{LeftOf};
 ghost use Rattle.var_functions.specs.FunctionState.{IsLater};
-ghost use Rattle.var_functions.specs.Functions.{argument, second_or, counter_value, random_value, truth_text, condition_text, value};
+ghost use Rattle.var_functions.specs.Functions.{argument, second_or, counts, counter_value, random_value, truth_text, condition_text, value, LeftByValue};
 
 use crate::function::Function;
 use crate::number::{LIMIT, decimal_text, int_sum, number_within, picked, signed_text};
@@ -51,12 +51,20 @@ fn truth_text(alloc: Global, truth: bool) -> M<Text>
     }
 }
 
+/// Whether the argument of `__counter` is one of those that count.
+fn counts(flag: &[u8]) -> bool
+    ensures { result ≡ counts flag.now }
+{
+    flag == b"TRUE".as_slice() || flag == b"true".as_slice()
+}
+
 /// The value of `__counter`.
 fn counter_value(alloc: Global, flag: &[u8], fns: &mut FnState) -> M<Option<Text>>
     ensures value { IfOk result (λ v. (v, fns.new) ≡ counter_value flag.now fns.old) }
+    ensures left { OnErr result (LeftByValue fns.old (over (counter_value flag.now fns.old)) fns.new) }
     ensures later { IsLater fns.old fns.new }
 {
-    if flag == b"TRUE".as_slice() || flag == b"true".as_slice() {
+    if counts(flag) {
         let text = decimal_text(alloc, fns.count())?;
         return Ok(Some(text));
     }
@@ -71,6 +79,7 @@ fn random_value(
     fns: &mut FnState,
 ) -> M<Option<Text>>
     ensures value { IfOk result (λ v. (v, fns.new) ≡ random_value least most fns.old) }
+    ensures left { OnErr result (LeftByValue fns.old (over (random_value least most fns.old)) fns.new) }
     ensures later { IsLater fns.old fns.new }
 {
     match (least, most) {
@@ -151,6 +160,7 @@ fn kept_value(
     requires time { function ≢ Function.Time }
     requires short { All (λ t. length t ≤ most_text) args.now }
     ensures value { IfOk result (λ v. value function args.now vars.now fns.old ≡ over (v, fns.new)) }
+    ensures left { OnErr result (LeftByValue fns.old (value function args.now vars.now fns.old) fns.new) }
     ensures later { IsLater fns.old fns.new }
 {
     let text = match function {
@@ -183,6 +193,7 @@ pub(crate) fn value<O: Outside>(
     requires { All (λ t. length t ≤ most_text) args.now }
     ensures ok { IfOk result (λ v. Goes (O.account outside.old) (value function args.now vars.now fns.old) [] (over (v, fns.new)) (O.account outside.new)) }
     ensures cut { OnErr result (LeftOf (O.account outside.old) (value function args.now vars.now fns.old) (O.account outside.new)) }
+    ensures left { OnErr result (LeftByValue fns.old (value function args.now vars.now fns.old) fns.new) }
     ensures later { IsLater fns.old fns.new }
 {
     match function {

@@ -1,6 +1,6 @@
 // The variables of a thread.
 
-ghost use Rattle.std.specs.Prelude.{◌≡◌, [], None, Some, ℕ, List, OnOk, if◌then◌else◌};
+ghost use Rattle.std.specs.Prelude.{◌≡◌, ◌↔◌, true, [], None, Some, ℕ, List, OnOk, if◌then◌else◌};
 ghost use Rattle.std.specs.Option.{option_copied};
 ghost use Rattle.var_functions.specs.Vars.{value_of, put_var, without_var, is_same, Puts, bytes_at};
 
@@ -88,6 +88,20 @@ impl Vars {
                 Ok(())
             }
             Err(_) => Err(VarError::NoMemory),
+        }
+    }
+
+    /// Whether a name is defined with this value, so that setting it again changes nothing. The time is that of a search in
+    /// an ordered map. A value of more than 65,536 bytes is none that can be set.
+    pub fn is_set(&self, name: &[u8], value: &[u8]) -> bool
+        ensures { (result ≡ true) ↔ (put_var name.now value.now self.now ≡ Some self.now) }
+    {
+        if value.len() > MOST_TEXT {
+            return false;
+        }
+        match self.pairs.get(name) {
+            Some(old) => old.bytes() == value,
+            None => false,
         }
     }
 

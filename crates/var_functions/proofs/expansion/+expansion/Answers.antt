@@ -1,5 +1,5 @@
 -- What stands in a template weighs less than it, and what a piece or an argument has come to.
-use Rattle.std.proofs.Common.{◌≡◌, ◌≤◌, ◌++◌, [], ◌∷◌, length, get_or, drop, Some, None, Err, Ok, sym, ap, ◌∙◌, subst, arith}
+use Rattle.std.proofs.Common.{◌≡◌, ◌≤◌, ◌++◌, [], ◌∷◌, length, get_or, drop, Some, None, Err, Ok, sym, ap, ◌∙◌, subst, arith, inl, inr}
 use Rattle.std.specs.Option.{option_and_then}
 use Rattle.std.proofs.lemmas.List.{drop_all}
 use Rattle.std.proofs.lemmas.List.Elements.{All-push}
@@ -12,7 +12,8 @@ use Rattle.var_functions.specs.Functions.{function_named}
 use Rattle.var_functions.specs.Came.{by_memory}
 use Rattle.var_functions.specs.Expansion.{taking, count, after_texts, Grows}
 use Rattle.var_functions.proofs.LaterLaws.{later_same, later_then}
-use Rattle.var_functions.proofs.Expanding.{grows-came, one_piece, no_piece, one_argument, no_argument, count-arguments_of, referred_call, called_none, called_refused, called_value, called_cut, piece_weight, weight-positive}
+use Rattle.var_functions.proofs.Expanding.{grows-came, one_piece, no_piece, one_argument, no_argument, names_function, referred_call, called_none, called_refused, called_value, called_cut, piece_weight, weight-positive}
+use Rattle.var_functions.proofs.StopLaws.{out_of_memory, lifted, reference_stops, stops_in_piece, stops_past_piece, texts_before, stops_in_argument, stops_past_argument, arguments_stop, call_stops}
 use Rattle.var_functions.proofs.expansion.+expansion.Goals as goal
 
 pub argument_texts-loop-argument-init : goal.argument_texts-loop-argument-init
@@ -20,6 +21,7 @@ argument_texts-loop-argument-init g t c = record {
   short = rw c.new-texts.ensures.items (λ k d h. absurd (omega (arith, h)));
   goes = rw c.new-texts.ensures.items (goes-nothing _ _);
   later = later_same _;
+  stops = λ to h. h;
 }
 
 pub argument_texts-write_pieces-requires : goal.argument_texts-write_pieces-requires
@@ -50,6 +52,8 @@ argument_texts-loop-argument-preserved g t c =
       goes = rw items (one_argument _ _ _ _ c.loop-argument.texts.items c.write_pieces.new.out.items c.args.vars.now c.args.args.now c.loop-argument.fns c.write_pieces.new.fns c.loop-argument.argument-index c.argument-item.result (Ok tt)
           c.loop-argument-test.true c.argument-item.is c.loop-argument.invariant.goes (rw c.new-text.ensures.items at c.in_default.ensures.came));
       later = later_then _ _ _ c.loop-argument.invariant.later c.write_pieces.ensures.later;
+      stops = λ to h. c.loop-argument.invariant.stops to (stops_past_argument c.args.vars.now c.args.args.now c.loop-argument.argument-index c.argument-item.result c.loop-argument-test.true c.argument-item.is
+          c.write_pieces.new.out.items _ _ to (rw c.new-text.ensures.items at c.in_default.ensures.came) h);
     }
 
 pub argument_texts-returns-clause-came : goal.argument_texts-returns-clause-came
@@ -59,16 +63,14 @@ argument_texts-returns-clause-came g t c =
 pub write_called-returns-in_default-clause-came : goal.write_called-returns-in_default-clause-came
 write_called-returns-in_default-clause-came g t c =
     let which : option_and_then (taking (count (arguments_of c.args.args.now))) (function_named c.args.name.now) ≡ c.taking.result =
-    ap (λ n. option_and_then (taking n) (function_named c.args.name.now)) (count-arguments_of c.args.args.now) ∙ ap (λ n. option_and_then (taking (length c.args.args.now)) (function_named n)) (sym c.bytes.ensures)
-    ∙ ap (option_and_then (taking (length c.args.args.now))) (sym c.function_named.ensures) ∙ sym c.taking.ensures in
+    names_function c.args.name.now _ c.args.args.now _ _ c.bytes.ensures c.function_named.ensures c.taking.ensures in
     called_none _ (after_texts (arguments_of c.args.args.now) c.args.vars.now []) (reference_spelling (call c.args.name.now (arguments_of c.args.args.now))) c.args.out.now.items c.args.vars.now c.args.fns.now _
     (referred_call c.args.name.now (arguments_of c.args.args.now) c.args.vars.now c.args.fns.now) _ c.append_call.new.out.items c.append_call.result (which ∙ c.in_default.is) c.append_call.ensures.grown
 
 pub write_called-returns-in-Ok-Some-clause-came : goal.write_called-returns-in-Ok-Some-clause-came
 write_called-returns-in-Ok-Some-clause-came g t c =
     let which : option_and_then (taking (count (arguments_of c.args.args.now))) (function_named c.args.name.now) ≡ c.taking.result =
-    ap (λ n. option_and_then (taking n) (function_named c.args.name.now)) (count-arguments_of c.args.args.now) ∙ ap (λ n. option_and_then (taking (length c.args.args.now)) (function_named n)) (sym c.bytes.ensures)
-    ∙ ap (option_and_then (taking (length c.args.args.now))) (sym c.function_named.ensures) ∙ sym c.taking.ensures in
+    names_function c.args.name.now _ c.args.args.now _ _ c.bytes.ensures c.function_named.ensures c.taking.ensures in
     called_value _ (after_texts (arguments_of c.args.args.now) c.args.vars.now []) (reference_spelling (call c.args.name.now (arguments_of c.args.args.now))) c.args.out.now.items c.args.vars.now c.args.fns.now _
     (referred_call c.args.name.now (arguments_of c.args.args.now) c.args.vars.now c.args.fns.now) _ _ c.in-Some.function c.in-Ok.texts.items c.argument_texts.new.fns (which ∙ c.in-Some.is) c.in-Ok.ensures.came
     _ (Some c.in-Ok-Some.text) c.value.new.fns c.append.new.out.items c.append.result (rw (c.deref.ensures.value, c.in-Ok-Some.field-0-is) at c.in-Ok-Some.ensures.ok)
@@ -77,8 +79,7 @@ write_called-returns-in-Ok-Some-clause-came g t c =
 pub write_called-returns-in-Ok-None-clause-came : goal.write_called-returns-in-Ok-None-clause-came
 write_called-returns-in-Ok-None-clause-came g t c =
     let which : option_and_then (taking (count (arguments_of c.args.args.now))) (function_named c.args.name.now) ≡ c.taking.result =
-    ap (λ n. option_and_then (taking n) (function_named c.args.name.now)) (count-arguments_of c.args.args.now) ∙ ap (λ n. option_and_then (taking (length c.args.args.now)) (function_named n)) (sym c.bytes.ensures)
-    ∙ ap (option_and_then (taking (length c.args.args.now))) (sym c.function_named.ensures) ∙ sym c.taking.ensures in
+    names_function c.args.name.now _ c.args.args.now _ _ c.bytes.ensures c.function_named.ensures c.taking.ensures in
     called_value _ (after_texts (arguments_of c.args.args.now) c.args.vars.now []) (reference_spelling (call c.args.name.now (arguments_of c.args.args.now))) c.args.out.now.items c.args.vars.now c.args.fns.now _
     (referred_call c.args.name.now (arguments_of c.args.args.now) c.args.vars.now c.args.fns.now) _ _ c.in-Some.function c.in-Ok.texts.items c.argument_texts.new.fns (which ∙ c.in-Some.is) c.in-Ok.ensures.came
     _ None c.value.new.fns c.append_call-in-Ok-None.new.out.items c.append_call-in-Ok-None.result (rw (c.deref.ensures.value, c.in-Ok-None.field-0-is) at c.in-Ok-None.ensures.ok) c.append_call-in-Ok-None.ensures.grown
@@ -86,8 +87,7 @@ write_called-returns-in-Ok-None-clause-came g t c =
 pub write_called-returns-in-Ok-clause-came : goal.write_called-returns-in-Ok-clause-came
 write_called-returns-in-Ok-clause-came g t c =
     let which : option_and_then (taking (count (arguments_of c.args.args.now))) (function_named c.args.name.now) ≡ c.taking.result =
-    ap (λ n. option_and_then (taking n) (function_named c.args.name.now)) (count-arguments_of c.args.args.now) ∙ ap (λ n. option_and_then (taking (length c.args.args.now)) (function_named n)) (sym c.bytes.ensures)
-    ∙ ap (option_and_then (taking (length c.args.args.now))) (sym c.function_named.ensures) ∙ sym c.taking.ensures in
+    names_function c.args.name.now _ c.args.args.now _ _ c.bytes.ensures c.function_named.ensures c.taking.ensures in
     called_cut _ (after_texts (arguments_of c.args.args.now) c.args.vars.now []) (reference_spelling (call c.args.name.now (arguments_of c.args.args.now))) c.args.out.now.items c.args.vars.now c.args.fns.now _
     (referred_call c.args.name.now (arguments_of c.args.args.now) c.args.vars.now c.args.fns.now) _ _ c.in-Some.function c.in-Ok.texts.items c.argument_texts.new.fns (which ∙ c.in-Some.is) c.in-Ok.ensures.came
     _ _ (rw c.deref.ensures.value at c.in-Err-value.ensures.cut)
@@ -95,8 +95,7 @@ write_called-returns-in-Ok-clause-came g t c =
 pub write_called-returns-clause-came : goal.write_called-returns-clause-came
 write_called-returns-clause-came g t c =
     let which : option_and_then (taking (count (arguments_of c.args.args.now))) (function_named c.args.name.now) ≡ c.taking.result =
-    ap (λ n. option_and_then (taking n) (function_named c.args.name.now)) (count-arguments_of c.args.args.now) ∙ ap (λ n. option_and_then (taking (length c.args.args.now)) (function_named n)) (sym c.bytes.ensures)
-    ∙ ap (option_and_then (taking (length c.args.args.now))) (sym c.function_named.ensures) ∙ sym c.taking.ensures in
+    names_function c.args.name.now _ c.args.args.now _ _ c.bytes.ensures c.function_named.ensures c.taking.ensures in
     called_refused _ (after_texts (arguments_of c.args.args.now) c.args.vars.now []) (reference_spelling (call c.args.name.now (arguments_of c.args.args.now))) c.args.out.now.items c.args.vars.now c.args.fns.now _
     (referred_call c.args.name.now (arguments_of c.args.args.now) c.args.vars.now c.args.fns.now) _ _ c.in-Some.function c.argument_texts.new.fns c.in-Err.error (which ∙ c.in-Some.is) c.in-Err.ensures.came
 
@@ -113,6 +112,7 @@ write_pieces-loop-piece-init g t c =
       short = c.requires;
       goes = rw all (goes-nothing _ _);
       later = later_same _;
+      stops = rw all (λ to h. h);
     }
 
 pub write_pieces-write_piece-requires : goal.write_pieces-write_piece-requires
@@ -134,6 +134,8 @@ write_pieces-loop-piece-preserved g t c = record {
   goes = one_piece _ _ _ _ c.loop-piece.out.items c.write_piece.new.out.items c.args.vars.now c.deref-piece-items.result.now c.loop-piece.fns c.write_piece.new.fns c.loop-piece.piece-index c.piece-item.result (Ok tt)
       c.loop-piece-test.true c.piece-item.is c.loop-piece.invariant.goes c.in_default.ensures.came;
   later = later_then _ _ _ c.loop-piece.invariant.later c.write_piece.ensures.later;
+  stops = λ to h. c.loop-piece.invariant.stops to (stops_past_piece c.args.vars.now c.loop-piece.out.items c.deref-piece-items.result.now c.loop-piece.piece-index c.piece-item.result c.loop-piece-test.true c.piece-item.is
+      c.write_piece.new.out.items _ _ to c.in_default.ensures.came h);
 }
 
 pub write_pieces-returns-clause-came : goal.write_pieces-returns-clause-came
@@ -169,3 +171,48 @@ write_piece-returns-in-Text-clause-later g t c = later_same _
 pub write_pieces-returns-in-Err-clause-later : goal.write_pieces-returns-in-Err-clause-later
 write_pieces-returns-in-Err-clause-later g t c =
     later_then _ _ _ c.loop-piece.invariant.later c.write_piece.ensures.later
+
+pub argument_texts-returns-in-Err-clause-stops : goal.argument_texts-returns-in-Err-clause-stops
+argument_texts-returns-in-Err-clause-stops g t c =
+    lifted c.in-Err.error (λ h. c.loop-argument.invariant.stops _ (stops_in_argument c.args.vars.now c.args.args.now c.loop-argument.argument-index c.argument-item.result c.loop-argument-test.true c.argument-item.is _ _ h))
+    (rw c.new-text.ensures.items at c.in-Err.ensures.stops)
+
+pub argument_texts-returns-in_default-push-clause-stops : goal.argument_texts-returns-in_default-push-clause-stops
+argument_texts-returns-in_default-push-clause-stops g t c =
+    c.loop-argument.invariant.stops _ (stops_past_argument c.args.vars.now c.args.args.now c.loop-argument.argument-index c.argument-item.result c.loop-argument-test.true c.argument-item.is
+    c.write_pieces.new.out.items _ _ _ (rw c.new-text.ensures.items at c.in_default.ensures.came) (texts_before _ _ _))
+
+pub write_called-returns-in_default-clause-stops : goal.write_called-returns-in_default-clause-stops
+write_called-returns-in_default-clause-stops g t c = reference_stops _ _ _ _
+
+pub write_called-returns-in-Ok-Some-clause-stops : goal.write_called-returns-in-Ok-Some-clause-stops
+write_called-returns-in-Ok-Some-clause-stops g t c =
+    let which : option_and_then (taking (count (arguments_of c.args.args.now))) (function_named c.args.name.now) ≡ c.taking.result =
+    names_function c.args.name.now _ c.args.args.now _ _ c.bytes.ensures c.function_named.ensures c.taking.ensures in
+    out_of_memory _ (call_stops c.args.name.now (arguments_of c.args.args.now) c.args.vars.now _ _ c.in-Some.function (which ∙ c.in-Some.is) c.in-Ok.texts.items _ c.in-Ok.ensures.came
+    (inr (Some c.in-Ok-Some.text, rw (c.deref.ensures.value, c.in-Ok-Some.field-0-is) at c.in-Ok-Some.ensures.ok)))
+
+pub write_called-returns-in-Ok-None-clause-stops : goal.write_called-returns-in-Ok-None-clause-stops
+write_called-returns-in-Ok-None-clause-stops g t c =
+    let which : option_and_then (taking (count (arguments_of c.args.args.now))) (function_named c.args.name.now) ≡ c.taking.result =
+    names_function c.args.name.now _ c.args.args.now _ _ c.bytes.ensures c.function_named.ensures c.taking.ensures in
+    out_of_memory _ (call_stops c.args.name.now (arguments_of c.args.args.now) c.args.vars.now _ _ c.in-Some.function (which ∙ c.in-Some.is) c.in-Ok.texts.items _ c.in-Ok.ensures.came
+    (inr (None, rw (c.deref.ensures.value, c.in-Ok-None.field-0-is) at c.in-Ok-None.ensures.ok)))
+
+pub write_called-returns-in-Ok-clause-stops : goal.write_called-returns-in-Ok-clause-stops
+write_called-returns-in-Ok-clause-stops g t c =
+    let which : option_and_then (taking (count (arguments_of c.args.args.now))) (function_named c.args.name.now) ≡ c.taking.result =
+    names_function c.args.name.now _ c.args.args.now _ _ c.bytes.ensures c.function_named.ensures c.taking.ensures in
+    call_stops c.args.name.now (arguments_of c.args.args.now) c.args.vars.now _ _ c.in-Some.function (which ∙ c.in-Some.is) c.in-Ok.texts.items _ c.in-Ok.ensures.came
+    (inl (rw c.deref.ensures.value at c.in-Err-value.ensures.left, rw c.deref.ensures.value at c.in-Err-value.ensures.cut))
+
+pub write_called-returns-clause-stops : goal.write_called-returns-clause-stops
+write_called-returns-clause-stops g t c =
+    let which : option_and_then (taking (count (arguments_of c.args.args.now))) (function_named c.args.name.now) ≡ c.taking.result =
+    names_function c.args.name.now _ c.args.args.now _ _ c.bytes.ensures c.function_named.ensures c.taking.ensures in
+    lifted c.in-Err.error (arguments_stop c.args.name.now (arguments_of c.args.args.now) c.args.vars.now _ _ c.in-Some.function (which ∙ c.in-Some.is)) c.in-Err.ensures.stops
+
+pub write_pieces-returns-in-Err-clause-stops : goal.write_pieces-returns-in-Err-clause-stops
+write_pieces-returns-in-Err-clause-stops g t c =
+    lifted c.in-Err.error (λ h. c.loop-piece.invariant.stops _ (stops_in_piece c.args.vars.now c.loop-piece.out.items c.deref-piece-items.result.now c.loop-piece.piece-index c.piece-item.result c.loop-piece-test.true c.piece-item.is _ _ h))
+    c.in-Err.ensures.stops

@@ -4,6 +4,7 @@ use Rattle.template_text.specs.View.{pieces_of, arguments_of, weight, arguments_
 use Rattle.var_functions.specs.Vars.{most_text}
 use Rattle.var_functions.specs.FunctionState.{IsLater}
 use Rattle.var_functions.specs.Expansion.{after_pieces, after_texts}
+use Rattle.var_functions.specs.Stops.{Moment, moment, StopsIn, StopsInTexts}
 use Rattle.var_functions.proofs.expansion.+expansion.Given as goal
 
 abbrev pub invariant-write_pieces-loop-piece : goal.invariant-write_pieces-loop-piece
@@ -13,6 +14,8 @@ invariant-write_pieces-loop-piece g l = record {
   goes : Goes (g.O.Outside.account l.fn.outside) (after_pieces l.template l.vars l.fn.out.items l.fn.fns) []
       (after_pieces (pieces_of (drop l.piece-index l.piece-items)) l.vars l.out.items l.fns) (g.O.Outside.account l.outside);
   later : IsLater l.fn.fns l.fns;
+  stops : (to : Moment) → StopsIn (pieces_of (drop l.piece-index l.piece-items)) l.vars l.out.items (moment l.fns (g.O.Outside.account l.outside)) to
+      → StopsIn l.template l.vars l.fn.out.items (moment l.fn.fns (g.O.Outside.account l.fn.outside)) to;
 }
 
 abbrev pub invariant-argument_texts-loop-argument : goal.invariant-argument_texts-loop-argument
@@ -21,6 +24,8 @@ invariant-argument_texts-loop-argument g l = record {
   goes : Goes (g.O.Outside.account l.fn.outside) (after_texts (arguments_of l.args) l.vars [] l.fn.fns) []
       (after_texts (arguments_of (drop l.argument-index l.args)) l.vars l.texts.items l.fns) (g.O.Outside.account l.outside);
   later : IsLater l.fn.fns l.fns;
+  stops : (to : Moment) → StopsInTexts (arguments_of (drop l.argument-index l.args)) l.vars (moment l.fns (g.O.Outside.account l.outside)) to
+      → StopsInTexts (arguments_of l.args) l.vars (moment l.fn.fns (g.O.Outside.account l.fn.outside)) to;
 }
 
 -- an argument weighs no more than all of them, and a call weighs more than its arguments

@@ -1,4 +1,4 @@
-use Rattle.std.proofs.Common.{◌≡◌, ◌++◌, true, false, [], Some, None, sym, ap, ◌∙◌, subst}
+use Rattle.std.proofs.Common.{◌≡◌, ◌++◌, true, false, [], Some, None, sym, ap, ◌∙◌, subst, inl, inr}
 use Rattle.std.specs.Prelude.{is_some, not, unwrap_or}
 use Rattle.std.specs.Option.{option_and_then}
 use Rattle.jm_base.proofs.RunLaws.{goes-nothing}
@@ -7,6 +7,7 @@ use Rattle.var_functions.specs.Vars.{value_of}
 use Rattle.var_functions.specs.Expansion.{function_of_name, taking, Grows}
 use Rattle.var_functions.proofs.Expanding.{text_came, referred_variable, referred_function, no_texts, called_none, called_value, called_cut}
 use Rattle.var_functions.proofs.LaterLaws.{later_same}
+use Rattle.var_functions.proofs.StopLaws.{out_of_memory, reference_stops, named_stops}
 use Rattle.var_functions.proofs.expansion.write_named.Goals as goal
 
 pub returns-in-Some-clause-came : goal.returns-in-Some-clause-came
@@ -67,3 +68,30 @@ returns-in-None-clause-later g c = later_same _
 
 pub returns-in-None-taking-clause-later : goal.returns-in-None-taking-clause-later
 returns-in-None-taking-clause-later g c = later_same _
+
+pub returns-in-Some-clause-stops : goal.returns-in-Some-clause-stops
+returns-in-Some-clause-stops g c = reference_stops _ _ _ _
+
+pub returns-in-None-clause-stops : goal.returns-in-None-clause-stops
+returns-in-None-clause-stops g c = reference_stops _ _ _ _
+
+pub returns-in-Ok-Some-clause-stops : goal.returns-in-Ok-Some-clause-stops
+returns-in-Ok-Some-clause-stops g c =
+    let named : c.function_of_name-named.result ≡ function_of_name c.args.name.now = c.function_of_name-named.ensures ∙ ap function_of_name c.bytes.ensures in
+    let which : option_and_then (taking 0) (function_of_name c.args.name.now) ≡ Some c.in-Some-taking.function = ap (option_and_then (taking 0)) (sym named) ∙ sym c.taking.ensures ∙ c.in-Some-taking.is in
+    out_of_memory _ (named_stops c.args.name.now c.args.vars.now _ _ c.in-Some-taking.function which (inr (Some c.in-Ok-Some.text, rw c.in-Ok-Some.field-0-is at c.in-Ok-Some.ensures.ok)))
+
+pub returns-in-Ok-None-clause-stops : goal.returns-in-Ok-None-clause-stops
+returns-in-Ok-None-clause-stops g c =
+    let named : c.function_of_name-named.result ≡ function_of_name c.args.name.now = c.function_of_name-named.ensures ∙ ap function_of_name c.bytes.ensures in
+    let which : option_and_then (taking 0) (function_of_name c.args.name.now) ≡ Some c.in-Some-taking.function = ap (option_and_then (taking 0)) (sym named) ∙ sym c.taking.ensures ∙ c.in-Some-taking.is in
+    out_of_memory _ (named_stops c.args.name.now c.args.vars.now _ _ c.in-Some-taking.function which (inr (None, rw c.in-Ok-None.field-0-is at c.in-Ok-None.ensures.ok)))
+
+pub returns-in-Err-clause-stops : goal.returns-in-Err-clause-stops
+returns-in-Err-clause-stops g c =
+    let named : c.function_of_name-named.result ≡ function_of_name c.args.name.now = c.function_of_name-named.ensures ∙ ap function_of_name c.bytes.ensures in
+    let which : option_and_then (taking 0) (function_of_name c.args.name.now) ≡ Some c.in-Some-taking.function = ap (option_and_then (taking 0)) (sym named) ∙ sym c.taking.ensures ∙ c.in-Some-taking.is in
+    named_stops c.args.name.now c.args.vars.now _ _ c.in-Some-taking.function which (inl (c.in-Err.ensures.left, c.in-Err.ensures.cut))
+
+pub returns-in-None-taking-clause-stops : goal.returns-in-None-taking-clause-stops
+returns-in-None-taking-clause-stops g c = reference_stops _ _ _ _
