@@ -1,6 +1,6 @@
 // The whole of one sampler.
 
-ghost use Rattle.std.specs.Prelude.{◌≡◌, Err, IfOk, OnOk, OnErr, IfSome, take};
+ghost use Rattle.std.specs.Prelude.{◌≡◌, ◌++◌, Err, IfOk, OnOk, OnErr, IfSome, take};
 ghost use Rattle.jm_base.specs.Run.{over};
 ghost use Rattle.jm_base.specs.Outside.{Account};
 ghost use Rattle.var_functions.specs.Came.{CameTo};
@@ -285,6 +285,16 @@ pub(crate) fn run_pipeline<'p, O: Outside>(
     }
 }
 
+// Appends a part of an order. Most parts are empty.
+fn list_part(list: &mut Vec<u16>, part: &[u16]) -> M<()>
+    ensures { OnOk result (list.new.items ≡ list.old.items ++ part.now) }
+{
+    if !part.is_empty() {
+        list.extend_from_slice(part)?;
+    }
+    Ok(())
+}
+
 /// Lists the elements that took part, in their order, in place of what the list has. Out of memory, it has a part of them.
 pub(crate) fn list_order(
     list: &mut Vec<u16>,
@@ -295,14 +305,14 @@ pub(crate) fn list_order(
     ensures { OnOk result (list.new.items ≡ order_of scope.now sampler sample.now) }
 {
     list.clear();
-    list.extend_from_slice(scope.config.as_slice())?;
-    list.extend_from_slice(scope.pre.as_slice())?;
-    list.extend_from_slice(scope.timers.as_slice())?;
+    list_part(list, scope.config.as_slice())?;
+    list_part(list, scope.pre.as_slice())?;
+    list_part(list, scope.timers.as_slice())?;
     list.push(sampler)?;
     if sample.is_some() {
-        list.extend_from_slice(scope.post.as_slice())?;
-        list.extend_from_slice(scope.assertions.as_slice())?;
-        list.extend_from_slice(scope.listeners.as_slice())?;
+        list_part(list, scope.post.as_slice())?;
+        list_part(list, scope.assertions.as_slice())?;
+        list_part(list, scope.listeners.as_slice())?;
     }
     Ok(())
 }
