@@ -1,5 +1,5 @@
 -- What an element that was entered comes to.
-use Rattle.std.proofs.Common.{◌≡◌, ℕ, Bool, List, [], Option, Some, None, refl, sym, ap, ◌∙◌, subst}
+use Rattle.std.proofs.Common.{◌≡◌, ℕ, Bool, List, [], Option, Some, refl, sym, ap, ◌∙◌, subst}
 use Rattle.std.specs.Prelude.{Result, slice_get}
 use Rattle.jm_base.specs.declared.types.Method.{Method}
 use Rattle.jm_base.specs.declared.types.ScriptReply.{ScriptReply}

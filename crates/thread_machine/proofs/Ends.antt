@@ -1,5 +1,5 @@
 -- What an ended thread's standing says over each form of an outside, and how each step goes on from the one before.
-use Rattle.std.proofs.Common.{◌≡◌, ℕ, zero, suc, ap₂, append_assoc, Bool, List, [], ◌∷◌, ◌++◌, Option, Some, None, refl, sym, ap, ◌∙◌, subst, inl, inr}
+use Rattle.std.proofs.Common.{◌≡◌, ℕ, zero, suc, ap₂, append_assoc, List, [], ◌∷◌, ◌++◌, Option, Some, None, refl, sym, ap, ◌∙◌, subst, inl, inr}
 use Rattle.std.specs.Prelude.{map, All, MatchOption, IfSome, IsSome}
 use Rattle.std.specs.Option.{option_map}
 use Rattle.std.proofs.lemmas.List.{append-nil, map-append}
@@ -27,7 +27,7 @@ use Rattle.thread_machine.specs.declared.step.Step.{Step}
 use Rattle.thread_machine.specs.declared.step.Step.TheVariants.{Sampled as StepSampled, Null as StepNull, Enter as StepEnter, Leave as StepLeave, Ended as StepEnded}
 use Rattle.thread_machine.specs.SoFar.{StandsAfter, ShowsAPrefix}
 use Rattle.thread_machine.specs.Stepped.{trace_paused, events_paused, events_waited, HasPaused, Begins, Gives, Steps, GivesSample, GivesNone, EntersSection, LeavesSection, IsOver, IsCut, Ends}
-use Rattle.thread_machine.specs.Follows.{FollowsWhole, Follows, HasRun, IsEndedBy, UsesAll, EndsAfter, FollowsStopped, FollowsCut, IsScriptedTo, IsScriptedStop, WasStopped, WasCut}
+use Rattle.thread_machine.specs.Follows.{FollowsWhole, Follows, HasRun, IsEndedBy, UsesAll, EndsAfter, FollowsStopped, FollowsCut, IsScriptedTo, WasStopped, WasCut}
 
 -- From start to now the run has given what the items show, and is over.
 record Ran (start now : Account) (run : Run (Unit {0})) (items : List Item) : Type 0 where

@@ -1,5 +1,5 @@
 -- A thread that goes on after a part of a step.
-use Rattle.std.proofs.Common.{◌≡◌, ℕ, ◌+◌, ◌-◌, ◌≤◌, Bool, true, false, Option, Some, None, refl, sym, ap, ◌∙◌, subst, arith}
+use Rattle.std.proofs.Common.{◌≡◌, ℕ, ◌+◌, ◌-◌, ◌≤◌, true, false, Option, Some, None, refl, sym, ap, ◌∙◌, subst, arith}
 use Rattle.std.specs.Prelude.{IfSome}
 use Rattle.jm_base.specs.declared.types.End.{End}
 use Rattle.jm_base.specs.declared.types.Entry.{Entry}
@@ -11,9 +11,9 @@ use Rattle.control_machine.specs.Hearing.{told}
 use Rattle.control_machine.specs.Left.{StandsIn, IsLock, open_lock}
 use Rattle.thread_machine.specs.declared.runner.Runner.{Runner}
 use Rattle.thread_machine.specs.declared.step.Step.{Step}
-use Rattle.thread_machine.specs.declared.step.Step.TheVariants.{Sampled, Enter, Leave, Ended}
+use Rattle.thread_machine.specs.declared.step.Step.TheVariants.{Sampled, Leave, Ended}
 use Rattle.thread_machine.specs.Recorded.{Recorded}
-use Rattle.thread_machine.specs.Inside.{owed_count, held, IsLimit, MovesOn, GoesOn, HasSettled}
+use Rattle.thread_machine.specs.Inside.{owed_count, held, IsLimit, MovesOn, GoesOn}
 use Rattle.thread_machine.specs.Ran.{GoesOnAfter, EndsBy}
 
 -- ---- more moves

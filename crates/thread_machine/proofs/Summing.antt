@@ -1,5 +1,5 @@
 -- What a transaction's sample makes of a thread.
-use Rattle.std.proofs.Common.{◌≡◌, ℕ, ◌-◌, suc, true, false, [], ◌∷◌, ◌++◌, Some, refl, sym, ap, ◌∙◌, subst, arith, None}
+use Rattle.std.proofs.Common.{◌≡◌, ℕ, ◌-◌, suc, true, false, [], Some, refl, sym, ap, ◌∙◌, subst, arith, None}
 use Rattle.std.specs.Prelude.{slice_get, unwrap_or, IfSome}
 use Rattle.std.specs.Option.{option_map}
 use Rattle.jm_base.specs.declared.types.End.TheVariants.{SampleLimit}

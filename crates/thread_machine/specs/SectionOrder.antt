@@ -1,7 +1,6 @@
 -- The sections of a trace, and its end.
-use Rattle.std.specs.Prelude.{◌≡◌, ℕ, ◌+◌, ◌==◌, List, [], ◌∷◌, ◌++◌, Option, Some, None, if◌then◌else◌}
+use Rattle.std.specs.Prelude.{◌≡◌, ℕ, ◌==◌, List, [], ◌∷◌, ◌++◌, Option, Some, None, if◌then◌else◌}
 use Rattle.std.specs.List.{sum_by}
-use Rattle.jm_base.specs.declared.types.End.{End}
 use Rattle.jm_meaning.specs.declared.item.Item.{Item}
 use Rattle.jm_meaning.specs.declared.item.Item.TheVariants.{Paused as PausedBare, Sampled as SampledBare, Null as NullBare, Entered as EnteredBare, Left as LeftBare, Ended as EndedBare}
 use Rattle.thread_machine.specs.declared.trace.TraceItem.{TraceItem}

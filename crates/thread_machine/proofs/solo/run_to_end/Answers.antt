@@ -1,12 +1,11 @@
-use Rattle.std.proofs.Common.{◌≡◌, ◌≤◌, ◌<◌, ◌+◌, ◌^◌, ◌∷◌, [], ◌++◌, None, Some, length, refl, sym, ap, ◌∙◌, subst, arith}
+use Rattle.std.proofs.Common.{◌<◌, ◌+◌, ◌∷◌, [], ◌++◌, None, Some, length, refl, sym, ap, ◌∙◌, subst, arith}
 use Rattle.std.proofs.lemmas.List.{length-replicate, length-set}
 use Rattle.std.specs.Prelude.{slice_index}
 use Rattle.element_tree.specs.Tree.{Tree}
 use Rattle.element_tree.specs.Names.{locks_of}
 use Rattle.thread_machine.specs.declared.step.Step.TheVariants.{Sampled, Null, Enter, Leave, Ended}
 use Rattle.thread_machine.specs.declared.trace.TraceItem.TheVariants.{Entered as EnteredItem}
-use Rattle.thread_machine.specs.SectionOrder.{PlacedAfter, sections_of, sections_in}
-use Rattle.thread_machine.specs.Standing.{Standing}
+use Rattle.thread_machine.specs.SectionOrder.{PlacedAfter}
 use Rattle.thread_machine.proofs.Ends.{begun_on, noted_on, noted_is, entered_is}
 use Rattle.thread_machine.proofs.Intervals.{counted_noted, counted_entered, counted_behind}
 use Rattle.thread_machine.proofs.Counts.{spent_behind, spent_noted, spent_entered}

@@ -1,7 +1,7 @@
-use Rattle.std.proofs.Common.{◌≡◌, ◌∙◌, ap, subst, sym, false, None, Some}
+use Rattle.std.proofs.Common.{◌≡◌, ◌∙◌, ap, subst, sym, false}
 use Rattle.std.proofs.lemmas.Result.{IfOk-weaker, IfErr-weaker}
-use Rattle.control_machine.specs.declared.moves.Move.TheVariants.{RunSampler, TransactionSample, EnterSection, LeaveSection}
-use Rattle.control_machine.specs.Left.{open_lock, IsLock}
+use Rattle.control_machine.specs.declared.moves.Move.TheVariants.{RunSampler, TransactionSample, EnterSection}
+use Rattle.control_machine.specs.Left.{IsLock}
 use Rattle.node_table.specs.KeptPackages.{packages_of}
 use Rattle.thread_machine.specs.Standing.{state_in}
 use Rattle.thread_machine.specs.Inside.{standing_of}

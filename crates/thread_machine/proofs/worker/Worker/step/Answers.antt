@@ -1,4 +1,4 @@
-use Rattle.std.proofs.Common.{◌≡◌, ◌≤◌, false, true, refl, ap, sym, ◌∙◌, subst}
+use Rattle.std.proofs.Common.{◌≡◌, false, true, refl, ap, sym, ◌∙◌, subst}
 use Rattle.jm_base.specs.declared.types.End.TheVariants.{NoMemory}
 use Rattle.thread_machine.specs.declared.step.Step.TheVariants.{Ended}
 use Rattle.thread_machine.specs.Inside.{standing_of, IsSound}

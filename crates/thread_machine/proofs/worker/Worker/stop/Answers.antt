@@ -1,4 +1,4 @@
-use Rattle.std.proofs.Common.{◌≡◌, ◌≤◌, ◌++◌, ◌∷◌, [], None, false, true, refl, ap, sym, ◌∙◌, subst, arith}
+use Rattle.std.proofs.Common.{◌≡◌, None, false, true, refl, ap, sym, ◌∙◌, subst, arith}
 use Rattle.jm_base.specs.declared.types.End.TheVariants.{Stopped}
 use Rattle.thread_machine.specs.Inside.{standing_of, IsSound}
 use Rattle.thread_machine.proofs.Ends.{was_stopped}
