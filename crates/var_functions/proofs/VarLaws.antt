@@ -1,6 +1,6 @@
 -- Variables in an ordered map, and how many bytes they have.
-use Rattle.std.proofs.Common.{◌≡◌, ℕ, ◌+◌, ◌-◌, ◌≤◌, ◌<◌, Vec, Global, List, [], ◌∷◌, map, Bool, true, false, cond, length, Some, None, refl, sym, ap, ◌∙◌, subst, arith}
-use Rattle.std.specs.Prelude.{if◌then◌else◌, nat_le, nat_eq, ◌&&◌, ◌↔◌, unwrap_or}
+use Rattle.std.proofs.Common.{◌≡◌, ℕ, ◌+◌, ◌-◌, ◌≤◌, ◌<◌, Vec, Global, List, [], ◌∷◌, map, Bool, true, false, cond, length, Option, Some, None, refl, sym, ap, ◌∙◌, subst, arith}
+use Rattle.std.specs.Prelude.{if◌then◌else◌, nat_le, nat_eq, ◌&&◌, ◌↔◌, MatchBool, unwrap_or}
 use Rattle.std.specs.Bool.{Decides}
 use Rattle.std.proofs.lemmas.Slice.Eq.{slice_eq-Decides}
 use lib.Pointwise.{pointwise}
@@ -144,6 +144,15 @@ bytes_at-le name vars = omega (arith, bytes_of-without_var name vars)
 
 -- ---- limits
 
+pub within : (a b : ℕ) → MatchBool (nat_le a b) (a ≤ b) (b < a)
+within a b = elim (nat_le a b) as (λ r. nat_le a b ≡ r → MatchBool r (a ≤ b) (b < a)) [ true ↦ (λ h. grind (arith, nat_tests)) | false ↦ (λ h. grind (arith, nat_tests)) ] refl
+
+is_within : (a b : ℕ) → a ≤ b → nat_le a b ≡ true
+is_within a b h = grind (arith, nat_tests)
+
+pub at_once : (a b : ℕ) (P Q : Type 0) → a ≤ b → P → MatchBool (nat_le a b) P Q
+at_once a b P Q h p = subst (λ r. MatchBool r P Q) (sym (is_within a b h)) p
+
 no_room : (a : ℕ) (b : ℕ) (x : Variables) → most_bytes < b → (if nat_le a most_text && nat_le b most_bytes then Some x else None) ≡ None
 no_room a b x h = grind (arith, nat_tests)
 
@@ -167,6 +176,11 @@ module _ (name value : List ℕ) (vars : Variables) (bytes next : ℕ) (kept : I
 pub entries_with : (k : Vec ℕ Global) (value name : List ℕ) (old new : List Entry) (vars : Variables) → k.items ≡ name → map seen old ≡ vars → new ≡ insert_entry by_items old k value → map seen new ≡ with_var name value vars
 entries_with k value name old new vars key seen_old is =
     ap (map seen) is ∙ insert-seen k value old ∙ ap (λ n. with_var n value (map seen old)) key ∙ ap (with_var name value) seen_old
+
+-- what the map had at a key is the value of its name
+pub old_at : (k : Vec ℕ Global) (name : List ℕ) (es : List Entry) (vars : Variables) (o : Option (List ℕ)) → k.items ≡ name → map seen es ≡ vars
+    → o ≡ lookup (is_at (λ q. slice_cmp nat_cmp k.items q.items)) es → value_of name vars ≡ o
+old_at k name es vars o key seen_old is = ap (λ n. value_of n vars) (sym key) ∙ ap (value_of k.items) (sym seen_old) ∙ sym (lookup-seen k.items es) ∙ sym is
 
 -- the value of a name after one was taken out
 pub value_of-without_var : (q name : List ℕ) (vars : Variables) → IsStrictlySortedBy by_bytes (keys_of vars) → value_of q (without_var name vars) ≡ (if is_same q name then None else value_of q vars)

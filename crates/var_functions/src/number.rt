@@ -100,8 +100,8 @@ pub(crate) fn int_sum(texts: &[Text]) -> Option<i64>
     within(SMALL_LIMIT, sum)
 }
 
-/// The decimal text of a number.
-pub(crate) fn decimal_text(alloc: Global, number: u64) -> M<Text>
+/// The decimal text of a number. `NoMemory` comes where there is no memory for it.
+pub fn decimal_text(alloc: Global, number: u64) -> M<Text>
     ensures { IfOk result (λ t. t ≡ decimal number) }
 {
     let mut buffer = Buffer::new();

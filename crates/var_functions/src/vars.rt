@@ -1,8 +1,8 @@
 // The variables of a thread.
 
-ghost use Rattle.std.specs.Prelude.{◌≡◌, ◌↔◌, true, [], None, Some, ℕ, List, OnOk, if◌then◌else◌};
+ghost use Rattle.std.specs.Prelude.{◌≡◌, ◌↔◌, ◌≤◌, ◌<◌, ◌^◌, ◌-◌, ◌+◌, length, IfSome, MatchBool, true, [], None, Some, ℕ, List, OnOk, if◌then◌else◌};
 ghost use Rattle.std.specs.Option.{option_copied};
-ghost use Rattle.var_functions.specs.Vars.{value_of, put_var, without_var, is_same, Puts, bytes_at};
+ghost use Rattle.var_functions.specs.Vars.{value_of, put_var, without_var, is_same, Puts, bytes_at, bytes_of, bytes_found, most_bytes};
 
 use crate::error::VarError;
 use jm_base::Text;
@@ -34,6 +34,17 @@ impl Model for Vars {
     ghost invariant = { λ v. IsKept v.bytes (map (λ e. (e.0.items, e.1)) v.pairs.entries) };
 }
 
+/// How many bytes a name of that many and its value have, where it is defined.
+fn bytes_found(named: usize, value: &Option<Text>) -> usize
+    requires { IfSome value.now (λ v. length v + named ≤ 2 ^ 64 - 1) }
+    ensures { (name : List ℕ) → length name ≡ named → result ≡ bytes_found name value.now }
+{
+    match value {
+        Some(value) => named + value.bytes().len(),
+        None => 0,
+    }
+}
+
 impl Vars {
     /// No variables. What is put later is kept in memory of `alloc`.
     pub fn new(alloc: Global) -> Vars
@@ -62,6 +73,16 @@ impl Vars {
         }
     }
 
+    /// Whether that many bytes have room in place of those of the name and its value. Only near the limit the name is looked up.
+    fn has_room(&self, name: &[u8], added: usize) -> bool
+        requires { added ≤ 2 ^ 63 + 65536 }
+        ensures { MatchBool result (bytes_of self.now - bytes_at name.now self.now + added ≤ most_bytes)
+            (most_bytes < bytes_of self.now - bytes_at name.now self.now + added) }
+    {
+        let most = self.bytes + added;
+        most <= MOST_BYTES || most - self.bytes_at(name) <= MOST_BYTES
+    }
+
     /// Sets a variable, in place of the value that it had. The time is that of a search in an ordered map. A variable
     /// that is defined already takes no memory.
     ///
@@ -77,14 +98,13 @@ impl Vars {
         if length > MOST_TEXT {
             return Err(VarError::ValueLimit);
         }
-        let added = name.bytes().len() + length;
-        let bytes = self.bytes - self.bytes_at(name.bytes()) + added;
-        if bytes > MOST_BYTES {
+        let named = name.bytes().len();
+        if !self.has_room(name.bytes(), named + length) {
             return Err(VarError::ValueLimit);
         }
         match self.pairs.insert(name.into_vec(), value) {
-            Ok(_) => {
-                self.bytes = bytes;
+            Ok(old) => {
+                self.bytes = self.bytes - bytes_found(named, &old) + (named + length);
                 Ok(())
             }
             Err(_) => Err(VarError::NoMemory),
