@@ -1,5 +1,6 @@
 // Why a run gives no books.
 
+use jm_base::NoMemory;
 use thiserror::Error;
 
 /// Why a run gives no books.
@@ -11,4 +12,15 @@ pub enum RunError {
     /// Out of memory.
     #[error("out of memory")]
     NoMemory,
+}
+
+impl From<NoMemory> for RunError {
+    ghost use Rattle.std.specs.Prelude.{◌≡◌};
+    ghost use Rattle.reporter_loop.specs.declared.error.RunError.TheVariants.{NoMemory};
+
+    ghost from_gives = { λ _ e. e ≡ NoMemory };
+
+    fn from(_: NoMemory) -> RunError {
+        RunError::NoMemory
+    }
 }

@@ -57,13 +57,13 @@ fn team_thread<'p, 's, R: Threads + Wait + Sync, O: Outside + Send>(
 struct Desk<'t, 'k, T, K> {
     ticker: &'t mut T,
     sink: &'k mut K,
-    report: Report,
+    last: Report,
 }
 
 // How the reporter's loop ended, and the desk as it left it.
 struct Reporting<'t, 'k, T, K> {
     seat: ReporterSeat,
-    outcome: Result<(), RunError>,
+    answer: Result<(), RunError>,
     desk: Desk<'t, 'k, T, K>,
 }
 
@@ -89,35 +89,31 @@ fn report_at<'t, 'k, R: Wait, T: Ticker, K: Sink, F: Fn(&Report, u64) -> Verdict
 ) -> Reporting<'t, 'k, T, K>
     requires seat { IsReporter recorder.now seat }
     requires first { ((reports seat).closed ≡ []) × ((reports seat).interval ≡ 0) × ((reports seat).raised ≡ false) }
-    requires rows { length desk.report.rows ≡ (numbers_of recorder.now).labels }
+    requires rows { length desk.last.rows ≡ (numbers_of recorder.now).labels }
     requires labels { (numbers_of recorder.now).labels ≡ length (labels_of rules.now.plan.now.elements) }
     requires kept { Keeps F.Fn rules.now.reporter.now }
     ensures seat { IsReporter recorder.now result.seat }
-    ensures rows { length result.desk.report.rows ≡ (numbers_of recorder.now).labels }
+    ensures rows { length result.desk.last.rows ≡ (numbers_of recorder.now).labels }
     ensures few { (reports result.seat).interval ≤ 16777216 }
     ensures ticker { result.desk.ticker.ghost_name ≡ desk.entry.ticker.ghost_name }
     ensures sink { result.desk.sink.ghost_name ≡ desk.entry.sink.ghost_name }
     ensures ticked { HasTickedWhere (reports result.seat).interval (T.ticks desk.entry.ticker.now) (T.ticks result.desk.ticker.now) }
-    ensures reported { OnOk result.outcome (Reported (report_text rules.now.plan.now) rules.now.limit (reports result.seat) (K.written desk.entry.sink.now) (K.written result.desk.sink.now)) }
-    ensures prefix { OnErr result.outcome (WritesPrefix (report_text rules.now.plan.now) (K.written desk.entry.sink.now) (K.written result.desk.sink.now)) }
+    ensures reported { OnOk result.answer (Reported (report_text rules.now.plan.now) rules.now.limit (reports result.seat) (K.written desk.entry.sink.now) (K.written result.desk.sink.now)) }
+    ensures prefix { OnErr result.answer (WritesPrefix (report_text rules.now.plan.now) (K.written desk.entry.sink.now) (K.written result.desk.sink.now)) }
     ensures joined { (reports result.seat).joined ≡ (reports seat).joined }
-    ensures ok { OnOk result.outcome (K.faults result.desk.sink.now ≡ K.faults desk.entry.sink.now) }
-    ensures cause { IfErr result.outcome (IsCause (K.faults desk.entry.sink.now) (K.faults result.desk.sink.now)) }
+    ensures ok { OnOk result.answer (K.faults result.desk.sink.now ≡ K.faults desk.entry.sink.now) }
+    ensures cause { IfErr result.answer (IsCause (K.faults desk.entry.sink.now) (K.faults result.desk.sink.now)) }
 {
     let Desk {
         ticker,
         sink,
-        mut report,
+        mut last,
     } = desk;
-    let (seat, outcome) = report_until(rt, alloc, recorder, rules, seat, &mut report, ticker, sink);
+    let (seat, answer) = report_until(rt, alloc, recorder, rules, seat, &mut last, ticker, sink);
     Reporting {
         seat,
-        outcome,
-        desk: Desk {
-            ticker,
-            sink,
-            report,
-        },
+        answer,
+        desk: Desk { ticker, sink, last },
     }
 }
 
@@ -168,14 +164,14 @@ pub fn run_beside<
     let desk = Desk {
         ticker: &mut *ticker,
         sink: &mut *sink,
-        report,
+        last: report,
     };
     let Gathered { jobs, end } = thread::scope(
         thread::scope_env(),
         rt,
         move |scope| -> Gathered<O, T, K>
-            requires { All (CanRun recorder.now) jobs.items × IsReporter recorder.now seat × ((reports seat).closed ≡ []) × ((reports seat).interval ≡ 0) × ((reports seat).raised ≡ false) × (length desk.report.rows ≡ (numbers_of recorder.now).labels) × ((numbers_of recorder.now).labels ≡ length (labels_of rules.now.plan.now.elements)) × Keeps F.Fn rules.now.reporter.now × IsSync R.row × IsSend O.row }
-            ensures { AllRan O.account recorder.entry.now jobs.entry.items result.jobs.items × IsReporter recorder.entry.now result.end.seat × (length result.end.desk.report.rows ≡ (numbers_of recorder.entry.now).labels) × ((reports result.end.seat).interval ≤ 16777216) × (result.end.desk.ticker.ghost_name ≡ desk.entry.ticker.ghost_name) × (result.end.desk.sink.ghost_name ≡ desk.entry.sink.ghost_name) × HasTickedWhere (reports result.end.seat).interval (T.ticks desk.entry.ticker.now) (T.ticks result.end.desk.ticker.now) × OnOk result.end.outcome (Reported (report_text rules.entry.now.plan.now) rules.entry.now.limit (reports result.end.seat) (K.written desk.entry.sink.now) (K.written result.end.desk.sink.now)) × OnErr result.end.outcome (WritesPrefix (report_text rules.entry.now.plan.now) (K.written desk.entry.sink.now) (K.written result.end.desk.sink.now)) × ((reports result.end.seat).joined ≡ (reports seat).joined) × OnOk result.end.outcome (K.faults result.end.desk.sink.now ≡ K.faults desk.entry.sink.now) × IfErr result.end.outcome (IsCause (K.faults desk.entry.sink.now) (K.faults result.end.desk.sink.now)) }
+            requires { All (CanRun recorder.now) jobs.items × IsReporter recorder.now seat × ((reports seat).closed ≡ []) × ((reports seat).interval ≡ 0) × ((reports seat).raised ≡ false) × (length desk.last.rows ≡ (numbers_of recorder.now).labels) × ((numbers_of recorder.now).labels ≡ length (labels_of rules.now.plan.now.elements)) × Keeps F.Fn rules.now.reporter.now × IsSync R.row × IsSend O.row }
+            ensures { AllRan O.account recorder.entry.now jobs.entry.items result.jobs.items × IsReporter recorder.entry.now result.end.seat × (length result.end.desk.last.rows ≡ (numbers_of recorder.entry.now).labels) × ((reports result.end.seat).interval ≤ 16777216) × (result.end.desk.ticker.ghost_name ≡ desk.entry.ticker.ghost_name) × (result.end.desk.sink.ghost_name ≡ desk.entry.sink.ghost_name) × HasTickedWhere (reports result.end.seat).interval (T.ticks desk.entry.ticker.now) (T.ticks result.end.desk.ticker.now) × OnOk result.end.answer (Reported (report_text rules.entry.now.plan.now) rules.entry.now.limit (reports result.end.seat) (K.written desk.entry.sink.now) (K.written result.end.desk.sink.now)) × OnErr result.end.answer (WritesPrefix (report_text rules.entry.now.plan.now) (K.written desk.entry.sink.now) (K.written result.end.desk.sink.now)) × ((reports result.end.seat).joined ≡ (reports seat).joined) × OnOk result.end.answer (K.faults result.end.desk.sink.now ≡ K.faults desk.entry.sink.now) × IfErr result.end.answer (IsCause (K.faults desk.entry.sink.now) (K.faults result.end.desk.sink.now)) }
         {
             let promise = TeamOf {
                 recorder,
@@ -199,17 +195,9 @@ pub fn run_beside<
             }
         },
     );
-    let Reporting {
-        seat,
-        outcome,
-        desk,
-    } = end;
-    let Desk {
-        ticker,
-        sink,
-        report,
-    } = desk;
+    let Reporting { seat, answer, desk } = end;
+    let Desk { ticker, sink, last } = desk;
     take_back(ticker);
     take_back(sink);
-    (jobs, seat, outcome, report)
+    (jobs, seat, answer, last)
 }

@@ -163,35 +163,17 @@ pub fn run_threads<
     ensures stopped { IfOk result (λ b. StopHasCause ask.now.limit b.traces (books_of b.books).closed) }
 {
     let (threads, labels) = (ask.plan.threads(), ask.plan.labels());
-    let Ok(room) = Room::new(alloc, labels, threads) else {
-        return Err(RunError::NoMemory);
-    };
-    let Ok((recorder, seat, first)) = Recorder::new(alloc, labels, threads, ask.budget) else {
-        return Err(RunError::NoMemory);
-    };
-    let Ok(seats) = split_all(alloc, &recorder, first, threads) else {
-        return Err(RunError::NoMemory);
-    };
-    let Ok((sections, mut keeper)) = open_sections(alloc, ask.plan, threads) else {
-        return Err(RunError::NoMemory);
-    };
-    let Ok(jobs) = open_all(
-        alloc,
-        &recorder,
-        world,
-        ask,
-        seats,
-        &sections,
-        &mut keeper,
-        threads,
-    ) else {
-        return Err(RunError::NoMemory);
-    };
     let Room {
         report,
         total,
         mut traces,
-    } = room;
+    } = Room::new(alloc, labels, threads)?;
+    let (recorder, seat, writer) = Recorder::new(alloc, labels, threads, ask.budget)?;
+    let seats = split_all(alloc, &recorder, writer, threads)?;
+    let (sections, mut first) = open_sections(alloc, ask.plan, threads)?;
+    let jobs = open_all(
+        alloc, &recorder, world, ask, seats, &sections, &mut first, threads,
+    )?;
     let ended = Ended::new(threads);
     let rules = Rules {
         plan: ask.plan,
@@ -207,13 +189,13 @@ pub fn run_threads<
         ask,
         &mut seat,
         &sections,
-        &mut keeper,
+        &mut first,
         world,
         jobs,
         &mut traces,
         threads,
     );
-    let _book = sections.finish(keeper);
+    let _book = sections.finish(first);
     match outcome {
         Ok(()) => finish_run(alloc, recorder, ask, seat, traces, report, total, reports),
         Err(error) => Err(error),

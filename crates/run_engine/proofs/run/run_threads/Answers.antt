@@ -20,108 +20,93 @@ use Rattle.run_engine.proofs.Stopping.{stopped_books}
 use Rattle.run_engine.proofs.Finishing.{all_among}
 use Rattle.run_engine.proofs.run.run_threads.Goals as goal
 
-pub returns-in_default-split_all-clause-closed : goal.returns-in_default-split_all-clause-closed
-returns-in_default-split_all-clause-closed g c = none_served _ _ _ c.requires.opened
+pub returns-in_err-seats-clause-closed : goal.returns-in_err-seats-clause-closed
+returns-in_err-seats-clause-closed g c = none_served _ _ _ c.requires.opened
+
+pub run_beside-jobs-requires-clause-jobs : goal.run_beside-jobs-requires-clause-jobs
+run_beside-jobs-requires-clause-jobs g c κs within k d lt = (c.in_ok-jobs.ensures.each k d lt).can_run
 
 pub join_all-requires-clause-jobs : goal.join_all-requires-clause-jobs
 join_all-requires-clause-jobs g c κs within =
     let account = g.W.Out.Outside.account in
     let plan = c.args.ask.now.plan.now in let options = options_of c.args.ask.now in
-    let made = c.in-Ok-open_all.ensures in
+    let made = c.in_ok-jobs.ensures in
     let count = c.threads-threads.result in
-    let r = c.in-Ok-new.recorder in let jobs = c.in-Ok-open_all.jobs.items in
+    let r = c.in_ok-recorder.recorder in let jobs = c.in_ok-jobs.jobs.items in
     let fresh = subst (λ (b : Bool). AllFresh account r plan options (g.W.World.identity c.open_all.new.world) b count jobs) (sym made.same.1)
     (subst (λ (k : ℕ). AllFresh account r plan options k (g.W.World.tells c.args.world.now) count jobs) (sym made.same.0) made.each) in
     all_done account r plan options (g.W.World.identity c.open_all.new.world) (g.W.World.tells c.open_all.new.world) count jobs c.run_beside-jobs.result.0.items fresh c.run_beside-jobs.ensures.jobs
 
-pub returns-in_default-open_sections-clause-closed : goal.returns-in_default-open_sections-clause-closed
-returns-in_default-open_sections-clause-closed g c = none_served _ _ _ c.requires.opened
+pub returns-in_err-sections-clause-closed : goal.returns-in_err-sections-clause-closed
+returns-in_err-sections-clause-closed g c = none_served _ _ _ c.requires.opened
 
 pub finish-book-requires-clause-joined : goal.finish-book-requires-clause-joined
 finish-book-requires-clause-joined g c =
-    (all_seats c.in-Ok-open_sections.sections _ c.open_all.new.first c.join_all.new.first c.join_all.new.traces.items c.in-Ok-open_all.ensures.first c.join_all.ensures.taken c.join_all.ensures.ends.0).all
+    (all_seats c.in_ok-sections.sections _ c.open_all.new.first c.join_all.new.first c.join_all.new.traces.items c.in_ok-jobs.ensures.first c.join_all.ensures.taken c.join_all.ensures.ends.0).all
 
 pub join_all-requires-clause-seats : goal.join_all-requires-clause-seats
 join_all-requires-clause-seats g c κs within =
-    all_among g.W.Out.Outside.account c.in-Ok-new.recorder c.in-Ok-open_sections.sections c.in-Ok-open_all.jobs.items c.run_beside-jobs.result.0.items c.in-Ok-open_all.ensures.among c.run_beside-jobs.ensures.jobs
+    all_among g.W.Out.Outside.account c.in_ok-recorder.recorder c.in_ok-sections.sections c.in_ok-jobs.jobs.items c.run_beside-jobs.result.0.items c.in_ok-jobs.ensures.among c.run_beside-jobs.ensures.jobs
 
-pub returns-in-Ok-outcome-clause-places : goal.returns-in-Ok-outcome-clause-places
-returns-in-Ok-outcome-clause-places g c =
-    let seats = all_seats c.in-Ok-open_sections.sections _ c.open_all.new.first c.join_all.new.first c.join_all.new.traces.items c.in-Ok-open_all.ensures.first c.join_all.ensures.taken c.join_all.ensures.ends.0 in
+pub returns-in-Ok-clause-places : goal.returns-in-Ok-clause-places
+returns-in-Ok-clause-places g c =
+    let seats = all_seats c.in_ok-sections.sections _ c.open_all.new.first c.join_all.new.first c.join_all.new.traces.items c.in_ok-jobs.ensures.first c.join_all.ensures.taken c.join_all.ensures.ends.0 in
     if_ok_then c.finish_run.result c.finish_run.ensures.traces (λ b is.
     subst (AreNumbered (length (locks_of c.args.ask.now.plan.now.elements))) (sym is)
-    (numbered_all c.in-Ok-open_sections.sections (length (locks_of c.args.ask.now.plan.now.elements)) c.join_all.new.first c.join_all.new.traces.items c.finish-book.result seats c.in-Ok-open_sections.ensures.locks c.finish-book.ensures.lists c.finish-book.ensures.numbered))
+    (numbered_all c.in_ok-sections.sections (length (locks_of c.args.ask.now.plan.now.elements)) c.join_all.new.first c.join_all.new.traces.items c.finish-book.result seats c.in_ok-sections.ensures.locks c.finish-book.ensures.lists c.finish-book.ensures.numbered))
 
-pub returns-in-Ok-outcome-clause-rising : goal.returns-in-Ok-outcome-clause-rising
-returns-in-Ok-outcome-clause-rising g c =
-    if_ok_then c.finish_run.result c.finish_run.ensures.traces (λ b is. subst AllRise (sym is) c.join_all.ensures.rising)
-
-pub returns-in-Ok-outcome-clause-ends : goal.returns-in-Ok-outcome-clause-ends
-returns-in-Ok-outcome-clause-ends g c =
+pub returns-in-Ok-clause-ends : goal.returns-in-Ok-clause-ends
+returns-in-Ok-clause-ends g c =
     let ends = c.join_all.ensures.ends in
     if_ok_then c.finish_run.result c.finish_run.ensures.traces (λ b is. (ap length is ∙ ends.0 ∙ c.threads-threads.ensures.count, subst AllEnd (sym is) ends.1))
 
-pub returns-in-Ok-outcome-clause-marks : goal.returns-in-Ok-outcome-clause-marks
-returns-in-Ok-outcome-clause-marks g c =
-    if_ok_and c.finish_run.result c.finish_run.ensures.traces c.finish_run.ensures.lists (λ b traces books.
-    subst (λ (r : ReporterView). AllMarked r.joined b.traces) (sym books) (subst (AllMarked (reports c.join_all.new.seat).joined) (sym traces) c.join_all.ensures.marks))
-
-pub returns-in-Ok-outcome-clause-follows : goal.returns-in-Ok-outcome-clause-follows
-returns-in-Ok-outcome-clause-follows g c =
+pub returns-in-Ok-clause-follows : goal.returns-in-Ok-clause-follows
+returns-in-Ok-clause-follows g c =
     if_ok_then c.finish_run.result c.finish_run.ensures.traces (λ b is tells.
     subst (AllFollow c.args.ask.now.plan.now (options_of c.args.ask.now) (g.W.World.told c.join_all.new.world)) (sym is)
-    (c.join_all.ensures.follows (c.in-Ok-open_all.ensures.same.1 ∙ tells)))
+    (c.join_all.ensures.follows (c.in_ok-jobs.ensures.same.1 ∙ tells)))
 
-pub returns-in-Ok-outcome-clause-written : goal.returns-in-Ok-outcome-clause-written
-returns-in-Ok-outcome-clause-written g c =
+pub returns-in-Ok-clause-written : goal.returns-in-Ok-clause-written
+returns-in-Ok-clause-written g c =
     let text = report_text c.args.ask.now.plan.now in let limit = c.args.ask.now.limit in
     let old = g.K.Sink.written c.args.reports.now in let new = g.K.Sink.written c.run_beside-jobs.new.sink in
     let r = reports c.run_beside-jobs.result.1 in let s = reports c.join_all.new.seat in let only = c.join_all.ensures.only in
-    c.finish_run.ensures.written limit old (reported_same text limit r s old new only.interval only.closed only.raised (on_ok c.run_beside-jobs.result.2 c.in-Ok-outcome.is c.run_beside-jobs.ensures.reported))
+    c.finish_run.ensures.written limit old (reported_same text limit r s old new only.interval only.closed only.raised (on_ok c.run_beside-jobs.result.2 c.in-Ok.is c.run_beside-jobs.ensures.reported))
 
-pub returns-in-Ok-outcome-clause-prefix : goal.returns-in-Ok-outcome-clause-prefix
-returns-in-Ok-outcome-clause-prefix g c =
+pub returns-in-Ok-clause-prefix : goal.returns-in-Ok-clause-prefix
+returns-in-Ok-clause-prefix g c =
     let text = report_text c.args.ask.now.plan.now in let limit = c.args.ask.now.limit in
     let old = g.K.Sink.written c.args.reports.now in let new = g.K.Sink.written c.run_beside-jobs.new.sink in
     let r = reports c.run_beside-jobs.result.1 in let s = reports c.join_all.new.seat in let only = c.join_all.ensures.only in
     err_then c.finish_run.result c.finish_run.ensures.prefix (λ prefix.
-    prefix limit old (reported_same text limit r s old new only.interval only.closed only.raised (on_ok c.run_beside-jobs.result.2 c.in-Ok-outcome.is c.run_beside-jobs.ensures.reported)))
+    prefix limit old (reported_same text limit r s old new only.interval only.closed only.raised (on_ok c.run_beside-jobs.result.2 c.in-Ok.is c.run_beside-jobs.ensures.reported)))
 
-pub returns-in-Ok-outcome-clause-unlimited : goal.returns-in-Ok-outcome-clause-unlimited
-returns-in-Ok-outcome-clause-unlimited g c =
+pub returns-in-Ok-clause-unlimited : goal.returns-in-Ok-clause-unlimited
+returns-in-Ok-clause-unlimited g c =
     let limit = c.args.ask.now.limit in
-    let h = on_ok c.run_beside-jobs.result.2 c.in-Ok-outcome.is c.run_beside-jobs.ensures.reported in
+    let h = on_ok c.run_beside-jobs.result.2 c.in-Ok.is c.run_beside-jobs.ensures.reported in
     let r = reports c.run_beside-jobs.result.1 in let only = c.join_all.ensures.only in
     if_ok_then c.finish_run.result c.finish_run.ensures.lists (λ b is most.
     ap (λ (q : ReporterView). q.raised) is ∙ only.raised ∙ h.raised ∙ quiet limit r.closed most h.bounds)
 
-pub returns-in-Ok-outcome-clause-stopped : goal.returns-in-Ok-outcome-clause-stopped
-returns-in-Ok-outcome-clause-stopped g c =
+pub returns-in-Ok-clause-stopped : goal.returns-in-Ok-clause-stopped
+returns-in-Ok-clause-stopped g c =
     let limit = c.args.ask.now.limit in
-    let h = on_ok c.run_beside-jobs.result.2 c.in-Ok-outcome.is c.run_beside-jobs.ensures.reported in
+    let h = on_ok c.run_beside-jobs.result.2 c.in-Ok.is c.run_beside-jobs.ensures.reported in
     let s = reports c.join_all.new.seat in let only = c.join_all.ensures.only in
     let raised : s.raised ≡ any_over limit s.closed = only.raised ∙ h.raised ∙ ap (any_over limit) (sym only.closed) in
     stopped_books limit s c.join_all.new.traces.items c.join_all.ensures.marks raised c.finish_run.result c.finish_run.ensures.traces c.finish_run.ensures.lists c.finish_run.ensures.stop
 
-pub returns-in_default-clause-heard : goal.returns-in_default-clause-heard
-returns-in_default-clause-heard g c = λ tells. none_follow _ _ _ _ c.requires.opened
+pub returns-in_err-jobs-clause-heard : goal.returns-in_err-jobs-clause-heard
+returns-in_err-jobs-clause-heard g c =
+    λ tells. untold_follow _ _ _ _ (subst (λ (b : Bool). AreUntold b (g.W.World.opened c.open_all.new.world) (g.W.World.told c.open_all.new.world)) tells c.in_err-jobs.ensures.untold)
 
-pub returns-in_default-split_all-clause-heard : goal.returns-in_default-split_all-clause-heard
-returns-in_default-split_all-clause-heard g c = λ tells. none_follow _ _ _ _ c.requires.opened
-
-pub returns-in_default-open_sections-clause-heard : goal.returns-in_default-open_sections-clause-heard
-returns-in_default-open_sections-clause-heard g c = λ tells. none_follow _ _ _ _ c.requires.opened
-
-pub returns-in_default-open_all-clause-heard : goal.returns-in_default-open_all-clause-heard
-returns-in_default-open_all-clause-heard g c =
-    λ tells. untold_follow _ _ _ _ (subst (λ (b : Bool). AreUntold b (g.W.World.opened c.open_all.new.world) (g.W.World.told c.open_all.new.world)) tells c.in_default-open_all.ensures.untold)
-
-pub returns-in-Ok-outcome-clause-heard : goal.returns-in-Ok-outcome-clause-heard
-returns-in-Ok-outcome-clause-heard g c =
-    λ tells. all_follow _ _ _ _ c.threads-threads.result c.join_all.new.traces.items (c.join_all.ensures.same.2 ∙ c.in-Ok-open_all.ensures.opened) c.join_all.ensures.ends.0
-    (c.join_all.ensures.follows (c.in-Ok-open_all.ensures.same.1 ∙ tells))
+pub returns-in-Ok-clause-heard : goal.returns-in-Ok-clause-heard
+returns-in-Ok-clause-heard g c =
+    λ tells. all_follow _ _ _ _ c.threads-threads.result c.join_all.new.traces.items (c.join_all.ensures.same.2 ∙ c.in_ok-jobs.ensures.opened) c.join_all.ensures.ends.0
+    (c.join_all.ensures.follows (c.in_ok-jobs.ensures.same.1 ∙ tells))
 
 pub returns-in-Err-clause-heard : goal.returns-in-Err-clause-heard
 returns-in-Err-clause-heard g c =
-    λ tells. all_follow _ _ _ _ c.threads-threads.result c.join_all.new.traces.items (c.join_all.ensures.same.2 ∙ c.in-Ok-open_all.ensures.opened) c.join_all.ensures.ends.0
-    (c.join_all.ensures.follows (c.in-Ok-open_all.ensures.same.1 ∙ tells))
+    λ tells. all_follow _ _ _ _ c.threads-threads.result c.join_all.new.traces.items (c.join_all.ensures.same.2 ∙ c.in_ok-jobs.ensures.opened) c.join_all.ensures.ends.0
+    (c.join_all.ensures.follows (c.in_ok-jobs.ensures.same.1 ∙ tells))
