@@ -34,12 +34,20 @@ class IntervalLine(NamedTuple):
     errors: int
 
 
-class RowLine(NamedTuple):
-    """`row`: a label in an interval."""
+class RowLine(Sums):
+    """`row`: a label in an interval, with its sums."""
 
-    number: int
-    label: str
-    sums: Sums
+    __slots__ = ("number", "label")
+
+    def __init__(self, number, label, count, errors, total, size, least, greatest):  # all at once, since most lines are rows
+        self.number = number
+        self.label = label
+        self.count = count
+        self.errors = errors
+        self.total = total
+        self.size = size
+        self.least = least
+        self.greatest = greatest
 
 
 class TotalLine(NamedTuple):
@@ -103,12 +111,16 @@ class Reports:
     def __iter__(self):
         labels = self._labels
         for fields in self.records:
-            if len(fields) == ROW and fields[0] == "row":
+            if len(fields) == ROW and fields[0] == "row":  # most lines, so without a call of its own
                 _, number, label, *texts = fields
                 if number != self._text or label in labels:
                     self._refuse_row(number, label)
                 labels.add(label)
-                yield RowLine(self._number, label, Sums(*self._numbers(texts)))
+                try:
+                    line = RowLine(self._number, label, *map(value_of, texts))
+                except ValueError:
+                    raise self._no_numbers(texts) from None
+                yield line
                 continue
             first = fields[0] if fields else ""
             width, kind = self._kinds.get(first, (None, None))
@@ -129,7 +141,10 @@ class Reports:
         try:
             return list(map(value_of, texts))
         except ValueError:
-            raise self.fault(f"numbers are to stand here: {shown(','.join(texts), 80)}") from None
+            raise self._no_numbers(texts) from None
+
+    def _no_numbers(self, texts):
+        return self.fault(f"numbers are to stand here: {shown(','.join(texts), 80)}")
 
     def _once(self, label):
         if label in self._labels:
@@ -146,13 +161,14 @@ class Reports:
         self.stage = stage
 
     def _interval(self, fields):
-        self._go_on(Stage.INTERVALS, (Stage.START, Stage.INTERVALS))
-        number, count, errors = self._numbers(fields[1:])
-        if number != self._number + 1:
-            raise self.misplaced(f"interval {number} stands where interval {self._number + 1} is to stand")
-        self._number, self._text = number, str(number)
+        if self.stage is not Stage.INTERVALS:
+            self._go_on(Stage.INTERVALS, (Stage.START,))
+        number, text = self._number + 1, str(self._number + 1)
+        if fields[1] != text and self._numbers(fields[1:])[0] != number:  # digits are read where they aren't those expected
+            raise self.misplaced(f"interval {value_of(fields[1])} stands where interval {number} is to stand")
+        self._number, self._text = number, text
         self._labels.clear()
-        return IntervalLine(number, count, errors)
+        return IntervalLine(number, *self._numbers(fields[2:]))
 
     def _refuse_row(self, number, label):
         if self.stage is not Stage.INTERVALS:

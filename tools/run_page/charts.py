@@ -41,12 +41,12 @@ class Charts:
             below.set_xlabel("interval", labelpad=2)
             below.set_xlim(self.edges[0], self.edges[-1])
             below.xaxis.set_major_locator(MaxNLocator(nbins=6, integer=True, min_n_ticks=1))
-            nothing = [0] * (len(self.edges) - 1)
+            nothing, edges = [0], [self.edges[0], self.edges[-1]]  # `draw` sets both; many edges would be gone through here
             self.above, self.below = above, below
-            self.samples = above.stairs(nothing, self.edges, fill=True, color=SAMPLES, clip_on=False)
-            self.errors = above.stairs(nothing, self.edges, fill=True, color=ERRORS, clip_on=False)
-            self.greatest = below.stairs(nothing, self.edges, color=GREATEST, linestyle=(0, (4, 1.5)), **LINE)
-            self.mean = below.stairs(nothing, self.edges, color=MEAN, **LINE)
+            self.samples = above.stairs(nothing, edges, fill=True, color=SAMPLES, clip_on=False)
+            self.errors = above.stairs(nothing, edges, fill=True, color=ERRORS, clip_on=False)
+            self.greatest = below.stairs(nothing, edges, color=GREATEST, linestyle=(0, (4, 1.5)), **LINE)
+            self.mean = below.stairs(nothing, edges, color=MEAN, **LINE)
 
     def draw(self, line):
         """The chart of a line, which is the sums of each part, as the text of an SVG element."""
@@ -66,7 +66,7 @@ class Charts:
 def prepare(axes, title):
     """Axes with a grid of lines across, whole numbers, and no frame."""
     axes.patch.set_visible(False)
-    axes.set_title(title, loc="left", fontsize=12, pad=5)
+    axes.set_title(title, loc="left", fontsize=12, pad=5, y=1.0)  # without `y` it is sought anew for each chart
     axes.grid(axis="y", linewidth=0.8)
     axes.set_axisbelow(True)
     axes.tick_params(left=False, bottom=False)

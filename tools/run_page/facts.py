@@ -5,7 +5,7 @@ import heapq
 
 from run_files.reports import EndLine, IntervalLine, RowLine, TotalLine, reports_of
 from run_files.results import BYTES, ELAPSED, INTERVAL, LABEL, SUCCESS, THREAD, Results, sample_of
-from run_files.sums import over_all
+from run_files.sums import Sums, over_all
 from run_files.texts import many, shown
 from run_files.values import value_of
 from run_page.timeline import Timeline
@@ -76,16 +76,17 @@ class OpenInterval:
 
     def __init__(self, line):
         self.line = line
-        self.rows = {}
+        self.rows = []
 
     def is_whole(self):
         """Whether the rows are all there."""
-        sums = over_all(self.rows)
+        sums = Sums()
+        for row in self.rows:
+            sums.add(row)
         return (sums.count, sums.errors) == (self.line.count, self.line.errors)
 
     def add_to(self, timeline):
         """Adds it to the timeline."""
-        timeline.begin(self.line.number)
         timeline.add(self.line.number, self.rows)
 
 
@@ -95,12 +96,14 @@ def read_reports(facts, path):
     with reports_of(path) as reports:
         for line in reports:
             if isinstance(line, RowLine):
-                interval.rows[line.label] = line.sums
+                interval.rows.append(line)
                 continue
             if interval:
                 interval.add_to(facts.timeline)
-            interval = OpenInterval(line) if isinstance(line, IntervalLine) else None
-            if isinstance(line, TotalLine):
+                interval = None
+            if isinstance(line, IntervalLine):
+                interval = OpenInterval(line)
+            elif isinstance(line, TotalLine):
                 facts.totals[line.label] = line.sums
             elif isinstance(line, EndLine):
                 facts.ends.append((line.thread, line.end))
@@ -128,9 +131,7 @@ def read_results(facts, path):
             failures[kind] += 1
             labels.setdefault(kind, {})[sample.label] = True
         if with_intervals:
-            interval = value_of(row[INTERVAL])
-            facts.timeline.begin(interval)
-            facts.timeline.of(interval, row[LABEL]).add_sample(elapsed, failed, value_of(row[BYTES]))
+            facts.timeline.add_sample(value_of(row[INTERVAL]), row[LABEL], elapsed, failed, value_of(row[BYTES]))
     facts.slowest = slowest.all()
     facts.failures = [Failure(*kind, count, list(labels[kind])) for kind, count in failures.most_common(FAILURES)]
     facts.other_failures = max(0, len(failures) - FAILURES)

@@ -4,9 +4,9 @@ from run_files.sums import Sums, over_all
 MOST = 600  # parts that are told apart
 
 
-def add_all(into, rows):
+def add_all(into, by_label):
     """Adds sums by label to others."""
-    for label, sums in rows.items():
+    for label, sums in by_label.items():
         if label not in into:
             into[label] = Sums()
         into[label].add(sums)
@@ -24,24 +24,31 @@ class Timeline:
         self.intervals = 0
         self.parts = []  # of each the sums by label
 
-    def begin(self, number):
-        """Goes on up to the interval of this number, with no sample in it so far."""
-        self.intervals = max(self.intervals, number + 1)
-        while number // self.width >= MOST:
-            self._halve()
-        while len(self.parts) <= number // self.width:
-            self.parts.append({})
-
-    def of(self, number, label):
-        """The sums of a label in an interval that was begun, to be added to."""
-        part = self.parts[number // self.width]
-        if label not in part:
-            part[label] = Sums()
-        return part[label]
+    def part(self, number):
+        """The sums by label of the part with the interval of this number, to be added to; it goes on up to there."""
+        at = number // self.width
+        if number >= self.intervals:
+            self.intervals = number + 1
+            while (at := number // self.width) >= MOST:
+                self._halve()
+            while len(self.parts) <= at:
+                self.parts.append({})
+        return self.parts[at]
 
     def add(self, number, rows):
-        """Adds the sums of labels to an interval that was begun."""
-        add_all(self.parts[number // self.width], rows)
+        """Adds the rows of an interval."""
+        part = self.part(number)
+        for row in rows:
+            if (sums := part.get(row.label)) is None:
+                part[row.label] = sums = Sums()
+            sums.add(row)
+
+    def add_sample(self, number, label, elapsed, failed, size):
+        """Adds one sample to an interval."""
+        part = self.part(number)
+        if (sums := part.get(label)) is None:
+            part[label] = sums = Sums()
+        sums.add_sample(elapsed, failed, size)
 
     def labels(self):
         """For each label its sums over all intervals."""
