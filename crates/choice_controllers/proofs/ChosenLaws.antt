@@ -5,8 +5,6 @@ use Rattle.std.proofs.lemmas.List.FromFn.{length-range_with_len}
 use Rattle.jm_base.specs.Run.{over}
 use Rattle.jm_base.specs.Outside.{Account, Goes}
 use Rattle.template_text.specs.Pieces.{Pieces}
-use Rattle.element_tree.specs.declared.kinds.Element.{Element}
-use Rattle.element_tree.specs.declared.kinds.Kind.TheVariants.{Switch}
 use Rattle.element_tree.specs.declared.package.Turn.{Turn}
 use Rattle.element_tree.specs.declared.package.Turn.TheVariants.{Child, Over}
 use Rattle.var_functions.specs.declared.error.VarError.{VarError}
@@ -89,7 +87,3 @@ pub switch-refused : (a b : Account) (value : Pieces) (names : List (List ℕ)) 
     → Refused a (switch_enters value names c old) b (past_limit c new) error
 switch-refused a b value names c old new error refused same =
     text-refused a b value old new error c (λ text state. answers tt (record { element = c.element; chosen = picks text names }) state) refused same
-
--- a Switch's template is one template
-pub same-value : (d e : Element) (u t : Pieces) → d ≡ e → d.kind ≡ Switch u → e.kind ≡ Switch t → u ≡ t
-same-value d e u t de h k = let i : Switch u ≡ Switch t = sym h ∙ ap (λ e. e.kind) de ∙ k in cc

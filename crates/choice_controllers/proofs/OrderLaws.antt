@@ -1,10 +1,10 @@
 -- How an order is made, word by word.
-use Rattle.std.proofs.Common.{◌≡◌, ℕ, zero, suc, ◌+◌, ◌-◌, ◌%◌, ◌<◌, List, [], ◌∷◌, ◌++◌, length, get_or, Some, refl, sym, ap, ◌∙◌, arith}
+use Rattle.std.proofs.Common.{◌≡◌, ℕ, zero, suc, ◌+◌, ◌-◌, ◌%◌, ◌<◌, ◌≤◌, List, [], ◌∷◌, ◌++◌, length, get_or, Some, refl, sym, ap, ◌∙◌, arith}
 use Rattle.std.specs.Prelude.{swap, slice_get, All, IsPermutation}
 use Rattle.std.specs.List.{range_with_len}
 use Rattle.std.proofs.lemmas.List.FromFn.{length-range_with_len, get_or-range_with_len}
 use Rattle.std.proofs.lemmas.Option.{slice_get_within, get_or_from_slice_get}
-use Rattle.std.proofs.lemmas.List.Sorted.{All-permutation}
+use Rattle.std.proofs.lemmas.List.Sorted.{All-permutation, length_permutation}
 use Rattle.var_functions.specs.FunctionState.{Functions, drawn, draw}
 use Rattle.choice_controllers.specs.RandomOrderController.{shuffled, places}
 
@@ -42,3 +42,13 @@ get-below n i order place all is =
     let within : i < length order = slice_get_within order i place (sym is) in
     let same : get_or order i 0 ≡ place = get_or_from_slice_get order i place 0 (sym is) in
     omega (arith, all i 0 within, same)
+
+-- an order has as many places as there are children
+pub order-length : (n : ℕ) (order : List ℕ) → IsPermutation (places n) order → length order ≤ n
+order-length n order h =
+    let l = length_permutation (places n) order h in
+    let m = length-range_with_len 0 n in omega (arith, l, m)
+
+-- after a place that is there fewer are left
+pub fewer-left : (i : ℕ) (order : List ℕ) (place : ℕ) → Some place ≡ slice_get order i → length order - (i + 1) < length order - i
+fewer-left i order place is = let within : i < length order = slice_get_within order i place (sym is) in omega (arith, within)

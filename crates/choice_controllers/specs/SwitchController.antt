@@ -9,9 +9,11 @@ use Rattle.jm_base.specs.Run.{Run}
 use Rattle.template_text.specs.Pieces.{Pieces}
 use Rattle.var_functions.specs.declared.state.UserState.{UserState}
 use Rattle.element_tree.specs.declared.kinds.Element.{Element}
+use Rattle.element_tree.specs.declared.kinds.Kind.{Kind}
+use Rattle.element_tree.specs.declared.kinds.Kind.TheVariants as kinds
 use Rattle.element_tree.specs.declared.package.Turn.{Turn}
 use Rattle.choice_controllers.specs.declared.switch_cursor.SwitchCursor.{SwitchCursor}
-use Rattle.cursor_steps.specs.CursorStep.{Step, answers, expanding}
+use Rattle.cursor_steps.specs.CursorStep.{Step, answers, past_limit, expanding}
 use Rattle.cursor_steps.specs.RunningChildren.{runs_of}
 use Rattle.cursor_steps.specs.Numeral.{is_decimal}
 use Rattle.choice_controllers.specs.Chosen.{turn_of}
@@ -55,6 +57,11 @@ picks text names =
 abbrev pub switch_enters : Pieces → List (List ℕ) → SwitchCursor → UserState → Run (Step (Unit {0}) SwitchCursor)
 switch_enters value names c state =
     expanding value c state (λ text state. answers tt (record c { chosen = picks text names }) state)
+
+-- at an element of its kind
+abbrev pub switch_enters_at : Kind → List (List ℕ) → SwitchCursor → UserState → Run (Step (Unit {0}) SwitchCursor)
+switch_enters_at (kinds.Switch value) names c state = switch_enters value names c state
+switch_enters_at kind names c state = past_limit c state
 
 -- the child that was picked is run, and then the pass is over
 abbrev pub switch_next : SwitchCursor → UserState → Run (Step Turn SwitchCursor)

@@ -1,14 +1,11 @@
 // The cursor of an Interleave Controller.
 
-ghost use Rattle.std.specs.Prelude.{◌≡◌, ◌<◌, ℕ, slice_get, Some, None, Ok, IfSome, IsOkAnd};
-ghost use Rattle.element_tree.specs.declared.kinds.Element.{Element};
-ghost use Rattle.cursor_steps.specs.CursorStep.{StepsTo, IsThere};
-ghost use Rattle.cursor_steps.specs.RunningChildren.{IsAmong, run_count};
-ghost use Rattle.choice_controllers.specs.InterleaveController.{interleaved, interleave_enters, interleave_next};
+ghost use Rattle.std.specs.Prelude.{◌≡◌, ◌<◌, IfSome};
+ghost use Rattle.choice_controllers.specs.InterleaveController.{interleaved};
 
 use crate::chosen::take_turn;
-use cursor_steps::run_count;
-use element_tree::{Kind, Plan, Turn};
+use cursor_steps::{Controller, run_count};
+use element_tree::{Plan, Turn};
 use jm_base::Outside;
 use std::alloc::Global;
 use var_functions::{UserState, VarError};
@@ -25,11 +22,38 @@ pub struct InterleaveCursor {
     pub chosen: Option<u16>,
 }
 
-impl InterleaveCursor {
-    /// The cursor of this element, before its first `enter`. Its first pass runs the first child.
-    pub fn new(element: u16) -> InterleaveCursor
-        ensures { result ≡ record { element = element; place = 0; chosen = None } }
-    {
+impl Controller for InterleaveCursor {
+    ghost use Rattle.std.specs.Prelude.{◌≡◌, ◌<◌, slice_get, None, Ok, IfSome, ⊤};
+    ghost use Rattle.element_tree.specs.declared.kinds.Kind.TheVariants as kinds;
+    ghost use Rattle.cursor_steps.specs.CursorStep.{at_element};
+    ghost use Rattle.cursor_steps.specs.RunningChildren.{run_count};
+    ghost use Rattle.choice_controllers.specs.Chosen.{waiting, RunsChosen};
+    ghost use Rattle.choice_controllers.specs.InterleaveController.{interleaved, interleave_enters, interleave_next};
+
+    ghost serves = { λ kind. kind ≡ kinds.Interleave };
+
+    ghost place = { λ c. c.element };
+
+    ghost fresh = { λ n. record { element = n; place = 0; chosen = None } };
+
+    ghost enters = { λ elements c state. at_element (slice_get elements c.element) c state (λ e. interleave_enters (run_count elements e) c state) };
+
+    ghost entered = { λ children c state result d after. (d ≡ interleaved children c) × IfSome d.chosen (λ place. place < children) × (after ≡ state) × (result ≡ Ok tt) };
+
+    ghost needs = { λ elements c. ⊤ };
+
+    ghost turns = { λ elements round c state. interleave_next c state };
+
+    ghost turned = { λ elements c state result d after. RunsChosen c.chosen result × (d ≡ record c { chosen = None }) × (after ≡ state) };
+
+    ghost among = { λ children c. IfSome c.chosen (λ place. place < children) };
+
+    ghost begun = { λ c. 0 };
+
+    ghost left = { λ c. waiting c.chosen };
+
+    // Its first pass runs the first child.
+    fn new(element: u16) -> InterleaveCursor {
         InterleaveCursor {
             element,
             place: 0,
@@ -37,25 +61,15 @@ impl InterleaveCursor {
         }
     }
 
-    /// Begins a pass: chooses the child at the place, and moves the place on. Without children nothing is chosen. It
-    /// takes no memory.
-    pub fn enter<O: Outside>(
+    // Begins a pass: chooses the child at the place, and moves the place on. Without children nothing is chosen. It takes
+    // no memory.
+    fn enter<O: Outside>(
         &mut self,
         _alloc: Global,
         plan: &Plan,
-        state: &mut UserState,
-        outside: &mut O,
-    ) -> Result<(), VarError>
-        requires { (e : Element) × IsThere plan.now.elements self.old.element e Kind.Interleave }
-        ensures came { (e : Element) → IsThere plan.now.elements self.old.element e Kind.Interleave
-            → StepsTo (O.account outside.old) (interleave_enters (run_count plan.now.elements e) self.old state.old)
-            (O.account outside.new) self.new state.new result }
-        ensures moved { (e : Element) → slice_get plan.now.elements self.old.element ≡ Some e → self.new ≡ interleaved (run_count plan.now.elements e) self.old }
-        ensures child { (e : Element) → slice_get plan.now.elements self.old.element ≡ Some e → IfSome self.new.chosen (λ place. place < run_count plan.now.elements e) }
-        ensures same { self.new.element ≡ self.old.element }
-        ensures state { state.new ≡ state.old }
-        ensures done { result ≡ Ok tt }
-    {
+        _state: &mut UserState,
+        _outside: &mut O,
+    ) -> Result<(), VarError> {
         let Some(element) = plan.element(self.element) else {
             unreachable!();
         };
@@ -63,6 +77,20 @@ impl InterleaveCursor {
         Ok(())
     }
 
+    // The child that was chosen, where it is still to be run, or `Over`. It takes no memory.
+    fn next<O: Outside>(
+        &mut self,
+        _alloc: Global,
+        _plan: &Plan,
+        _round: u64,
+        _state: &mut UserState,
+        _outside: &mut O,
+    ) -> Result<Turn, VarError> {
+        Ok(take_turn(&mut self.chosen))
+    }
+}
+
+impl InterleaveCursor {
     // Chooses among this many children.
     fn choose(&mut self, children: u16)
         ensures moved { self.new ≡ interleaved children self.old }
@@ -75,23 +103,5 @@ impl InterleaveCursor {
         }
         self.chosen = Some(self.place % children);
         self.place = ((u32::from(self.place) + 1) % u32::from(children)) as u16;
-    }
-
-    /// The child that was chosen, where it is still to be run, or `Over`. It takes no memory.
-    pub fn next<O: Outside>(
-        &mut self,
-        _alloc: Global,
-        _plan: &Plan,
-        _round: u64,
-        state: &mut UserState,
-        outside: &mut O,
-    ) -> Result<Turn, VarError>
-        ensures came { StepsTo (O.account outside.old) (interleave_next self.old state.old) (O.account outside.new) self.new state.new result }
-        ensures child { (children : ℕ) → IfSome self.old.chosen (λ place. place < children) → IsOkAnd result (λ turn. IsAmong children turn) }
-        ensures taken { self.new ≡ record self.old { chosen = None } }
-        ensures same { self.new.element ≡ self.old.element }
-        ensures state { state.new ≡ state.old }
-    {
-        Ok(take_turn(&mut self.chosen))
     }
 }

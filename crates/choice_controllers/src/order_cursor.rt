@@ -1,14 +1,11 @@
 // The cursor of a Random Order Controller.
 
-ghost use Rattle.std.specs.Prelude.{◌≡◌, ◌+◌, ◌-◌, ◌^◌, ◌<◌, ℕ, slice_get, unwrap_or, [], length, All, Some, None, Ok, Err, OnOk, OnErr, OnSome, IfSome, IfNone, IfOk, IsOkAnd, IsOkUnless, IsPermutation};
-ghost use Rattle.element_tree.specs.declared.kinds.Element.{Element};
+ghost use Rattle.std.specs.Prelude.{◌≡◌, ◌+◌, ◌-◌, ◌^◌, ◌<◌, ℕ, slice_get, unwrap_or, [], length, All, Some, OnSome, IfSome, IfNone, IfOk, IsPermutation};
 ghost use Rattle.var_functions.specs.FunctionState.{IsLater};
-ghost use Rattle.cursor_steps.specs.CursorStep.{StepsTo, IsThere};
-ghost use Rattle.cursor_steps.specs.RunningChildren.{IsAmong, run_count};
-ghost use Rattle.choice_controllers.specs.RandomOrderController.{shuffled, places, random_order, order_of, order_enters, order_next};
+ghost use Rattle.choice_controllers.specs.RandomOrderController.{shuffled, places, order_of};
 
-use cursor_steps::run_count;
-use element_tree::{Kind, Plan, Turn};
+use cursor_steps::{Controller, run_count};
+use element_tree::{Plan, Turn};
 use jm_base::{Items, M, Outside};
 use std::alloc::Global;
 use var_functions::{FnState, UserState, VarError};
@@ -60,11 +57,36 @@ fn place_at(order: &Option<Items<u16>>, index: usize) -> Option<u16>
     }
 }
 
-impl OrderCursor {
-    /// The cursor of this element, before its first `enter`.
-    pub fn new(element: u16) -> OrderCursor
-        ensures { result ≡ record { element = element; order = None; next = 0 } }
-    {
+impl Controller for OrderCursor {
+    ghost use Rattle.std.specs.Prelude.{◌≡◌, ◌≤◌, ◌-◌, slice_get, length, None, ⊤};
+    ghost use Rattle.element_tree.specs.declared.kinds.Kind.TheVariants as kinds;
+    ghost use Rattle.cursor_steps.specs.CursorStep.{at_element};
+    ghost use Rattle.cursor_steps.specs.RunningChildren.{run_count};
+    ghost use Rattle.choice_controllers.specs.RandomOrderController.{order_of, order_enters, order_next, OrderEntered, RunsOrdered};
+
+    ghost serves = { λ kind. kind ≡ kinds.RandomOrder };
+
+    ghost place = { λ c. c.element };
+
+    ghost fresh = { λ n. record { element = n; order = None; next = 0 } };
+
+    ghost enters = { λ elements c state. at_element (slice_get elements c.element) c state (λ e. order_enters (run_count elements e) c state) };
+
+    ghost entered = { OrderEntered };
+
+    ghost needs = { λ elements c. ⊤ };
+
+    ghost turns = { λ elements round c state. order_next c state };
+
+    ghost turned = { λ elements c state result d after. RunsOrdered (order_of c) result × (d.order ≡ c.order) × (after ≡ state) };
+
+    ghost among = { λ children c. length (order_of c) ≤ children };
+
+    ghost begun = { λ c. 0 };
+
+    ghost left = { λ c. length (order_of c) - c.next };
+
+    fn new(element: u16) -> OrderCursor {
         OrderCursor {
             element,
             order: None,
@@ -72,37 +94,19 @@ impl OrderCursor {
         }
     }
 
-    /// Begins a pass: puts the children in a random order. For i from n - 1 down to 1, where n is the number of children,
-    /// it draws a random word w and exchanges the children at i and at `w mod (i + 1)`. So it draws n - 1 words, and none
-    /// where there are no children.
-    ///
-    /// The memory for the order is taken before the first word is drawn: a call that refuses, which it does where it runs out
-    /// of memory alone, leaves the cursor and the thread's state as they were.
-    pub fn enter<O: Outside>(
+    // Begins a pass: puts the children in a random order. For i from n - 1 down to 1, where n is the number of children, it
+    // draws a random word w and exchanges the children at i and at `w mod (i + 1)`. So it draws n - 1 words, and none where
+    // there are no children.
+    //
+    // The memory for the order is taken before the first word is drawn: a call that refuses, which it does where it runs out
+    // of memory alone, leaves the cursor and the thread's state as they were.
+    fn enter<O: Outside>(
         &mut self,
         alloc: Global,
         plan: &Plan,
         state: &mut UserState,
-        outside: &mut O,
-    ) -> Result<(), VarError>
-        requires { (e : Element) × IsThere plan.now.elements self.old.element e Kind.RandomOrder }
-        ensures came { (e : Element) → IsThere plan.now.elements self.old.element e Kind.RandomOrder
-            → StepsTo (O.account outside.old) (order_enters (run_count plan.now.elements e) self.old state.old)
-            (O.account outside.new) self.new state.new result }
-        ensures order { (e : Element) → slice_get plan.now.elements self.old.element ≡ Some e
-            → OnOk result (self.new ≡ record self.old { order = Some (random_order (run_count plan.now.elements e) state.old.fns).0; next = 0 }) }
-        ensures draws { (e : Element) → slice_get plan.now.elements self.old.element ≡ Some e
-            → OnOk result (state.new ≡ record state.old { fns = (random_order (run_count plan.now.elements e) state.old.fns).1 }) }
-        ensures once { (e : Element) → slice_get plan.now.elements self.old.element ≡ Some e
-            → OnOk result (IsPermutation (places (run_count plan.now.elements e)) (order_of self.new)) }
-        ensures child { (e : Element) → slice_get plan.now.elements self.old.element ≡ Some e
-            → OnOk result (All (λ place. place < run_count plan.now.elements e) (order_of self.new)) }
-        ensures same { self.new.element ≡ self.old.element }
-        ensures kept { OnErr result ((self.new ≡ self.old) × (state.new ≡ state.old)) }
-        ensures memory { IsOkUnless result VarError.NoMemory }
-        ensures vars { state.new.vars ≡ state.old.vars }
-        ensures later { IsLater state.old.fns state.new.fns }
-    {
+        _outside: &mut O,
+    ) -> Result<(), VarError> {
         let Some(element) = plan.element(self.element) else {
             unreachable!();
         };
@@ -113,6 +117,23 @@ impl OrderCursor {
         Ok(())
     }
 
+    // The next child in the order of the pass, or `Over` after the last one. It takes no memory.
+    fn next<O: Outside>(
+        &mut self,
+        _alloc: Global,
+        _plan: &Plan,
+        _round: u64,
+        _state: &mut UserState,
+        _outside: &mut O,
+    ) -> Result<Turn, VarError> {
+        match self.next_place() {
+            Some(place) => Ok(Turn::Child(place)),
+            None => Ok(Turn::Over),
+        }
+    }
+}
+
+impl OrderCursor {
     // Puts these places in a random order, to be run from the first on.
     fn begin(&mut self, places: Vec<u16>, fns: &mut FnState)
         ensures order { self.new ≡ record self.old { order = Some (shuffled (length places.items - 1) places.items fns.old).0; next = 0 } }
@@ -132,30 +153,10 @@ impl OrderCursor {
         ensures moved { OnSome result (self.new ≡ record self.old { next = self.old.next + 1 }) }
         ensures over { IfNone result (self.new ≡ self.old) }
         ensures child { (children : ℕ) → All (λ place. place < children) (order_of self.old) → IfSome result (λ place. place < children) }
+        ensures pass { OnSome result (length (order_of self.new) - self.new.next < length (order_of self.old) - self.old.next) }
     {
         let place = place_at(&self.order, self.next)?;
         self.next += 1;
         Some(place)
-    }
-
-    /// The next child in the order of the pass, or `Over` after the last one. It takes no memory.
-    pub fn next<O: Outside>(
-        &mut self,
-        _alloc: Global,
-        _plan: &Plan,
-        _round: u64,
-        state: &mut UserState,
-        outside: &mut O,
-    ) -> Result<Turn, VarError>
-        ensures came { StepsTo (O.account outside.old) (order_next self.old state.old) (O.account outside.new) self.new state.new result }
-        ensures child { (children : ℕ) → All (λ place. place < children) (order_of self.old) → IsOkAnd result (λ turn. IsAmong children turn) }
-        ensures order { self.new.order ≡ self.old.order }
-        ensures same { self.new.element ≡ self.old.element }
-        ensures state { state.new ≡ state.old }
-    {
-        match self.next_place() {
-            Some(place) => Ok(Turn::Child(place)),
-            None => Ok(Turn::Over),
-        }
     }
 }

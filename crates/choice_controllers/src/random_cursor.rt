@@ -1,15 +1,12 @@
 // The cursor of a Random Controller.
 
-ghost use Rattle.std.specs.Prelude.{◌≡◌, ◌<◌, ℕ, slice_get, Some, None, Ok, IfSome, IsOkAnd};
-ghost use Rattle.element_tree.specs.declared.kinds.Element.{Element};
+ghost use Rattle.std.specs.Prelude.{◌≡◌, ◌<◌, IfSome};
 ghost use Rattle.var_functions.specs.FunctionState.{IsLater};
-ghost use Rattle.cursor_steps.specs.CursorStep.{StepsTo, IsThere};
-ghost use Rattle.cursor_steps.specs.RunningChildren.{IsAmong, run_count};
-ghost use Rattle.choice_controllers.specs.RandomController.{random_place, random_fns, random_enters, random_next};
+ghost use Rattle.choice_controllers.specs.RandomController.{random_place, random_fns};
 
 use crate::chosen::take_turn;
-use cursor_steps::run_count;
-use element_tree::{Kind, Plan, Turn};
+use cursor_steps::{Controller, run_count};
+use element_tree::{Plan, Turn};
 use jm_base::Outside;
 use std::alloc::Global;
 use var_functions::{FnState, UserState, VarError};
@@ -37,38 +34,53 @@ pub fn random_place(children: u16, fns: &mut FnState) -> Option<u16>
     Some((fns.draw() % u64::from(children)) as u16)
 }
 
-impl RandomCursor {
-    /// The cursor of this element, before its first `enter`.
-    pub fn new(element: u16) -> RandomCursor
-        ensures { result ≡ record { element = element; chosen = None } }
-    {
+impl Controller for RandomCursor {
+    ghost use Rattle.std.specs.Prelude.{◌≡◌, ◌<◌, slice_get, None, Ok, IfSome, ⊤};
+    ghost use Rattle.element_tree.specs.declared.kinds.Kind.TheVariants as kinds;
+    ghost use Rattle.cursor_steps.specs.CursorStep.{at_element};
+    ghost use Rattle.cursor_steps.specs.RunningChildren.{run_count};
+    ghost use Rattle.choice_controllers.specs.Chosen.{waiting, RunsChosen};
+    ghost use Rattle.choice_controllers.specs.RandomController.{random_place, random_fns, random_enters, random_next};
+
+    ghost serves = { λ kind. kind ≡ kinds.Random };
+
+    ghost place = { λ c. c.element };
+
+    ghost fresh = { λ n. record { element = n; chosen = None } };
+
+    ghost enters = { λ elements c state. at_element (slice_get elements c.element) c state (λ e. random_enters (run_count elements e) c state) };
+
+    ghost entered = { λ children c state result d after. (d.chosen ≡ random_place children state.fns) × (after.fns ≡ random_fns children state.fns)
+        × IfSome d.chosen (λ place. place < children) × (result ≡ Ok tt) };
+
+    ghost needs = { λ elements c. ⊤ };
+
+    ghost turns = { λ elements round c state. random_next c state };
+
+    ghost turned = { λ elements c state result d after. RunsChosen c.chosen result × (d ≡ record c { chosen = None }) × (after ≡ state) };
+
+    ghost among = { λ children c. IfSome c.chosen (λ place. place < children) };
+
+    ghost begun = { λ c. 0 };
+
+    ghost left = { λ c. waiting c.chosen };
+
+    fn new(element: u16) -> RandomCursor {
         RandomCursor {
             element,
             chosen: None,
         }
     }
 
-    /// Begins a pass: draws a random word w, and chooses the child at `w mod n`, where n is the number of children.
-    /// Without children nothing is drawn and nothing chosen. It takes no memory.
-    pub fn enter<O: Outside>(
+    // Begins a pass: draws a random word w, and chooses the child at `w mod n`, where n is the number of children. Without
+    // children nothing is drawn and nothing chosen. It takes no memory.
+    fn enter<O: Outside>(
         &mut self,
         _alloc: Global,
         plan: &Plan,
         state: &mut UserState,
-        outside: &mut O,
-    ) -> Result<(), VarError>
-        requires { (e : Element) × IsThere plan.now.elements self.old.element e Kind.Random }
-        ensures came { (e : Element) → IsThere plan.now.elements self.old.element e Kind.Random
-            → StepsTo (O.account outside.old) (random_enters (run_count plan.now.elements e) self.old state.old)
-            (O.account outside.new) self.new state.new result }
-        ensures chosen { (e : Element) → slice_get plan.now.elements self.old.element ≡ Some e → self.new.chosen ≡ random_place (run_count plan.now.elements e) state.old.fns }
-        ensures draws { (e : Element) → slice_get plan.now.elements self.old.element ≡ Some e → state.new.fns ≡ random_fns (run_count plan.now.elements e) state.old.fns }
-        ensures child { (e : Element) → slice_get plan.now.elements self.old.element ≡ Some e → IfSome self.new.chosen (λ place. place < run_count plan.now.elements e) }
-        ensures same { self.new.element ≡ self.old.element }
-        ensures vars { state.new.vars ≡ state.old.vars }
-        ensures later { IsLater state.old.fns state.new.fns }
-        ensures done { result ≡ Ok tt }
-    {
+        _outside: &mut O,
+    ) -> Result<(), VarError> {
         let Some(element) = plan.element(self.element) else {
             unreachable!();
         };
@@ -76,21 +88,15 @@ impl RandomCursor {
         Ok(())
     }
 
-    /// The child that was chosen, where it is still to be run, or `Over`. It takes no memory.
-    pub fn next<O: Outside>(
+    // The child that was chosen, where it is still to be run, or `Over`. It takes no memory.
+    fn next<O: Outside>(
         &mut self,
         _alloc: Global,
         _plan: &Plan,
         _round: u64,
-        state: &mut UserState,
-        outside: &mut O,
-    ) -> Result<Turn, VarError>
-        ensures came { StepsTo (O.account outside.old) (random_next self.old state.old) (O.account outside.new) self.new state.new result }
-        ensures child { (children : ℕ) → IfSome self.old.chosen (λ place. place < children) → IsOkAnd result (λ turn. IsAmong children turn) }
-        ensures taken { self.new ≡ record self.old { chosen = None } }
-        ensures same { self.new.element ≡ self.old.element }
-        ensures state { state.new ≡ state.old }
-    {
+        _state: &mut UserState,
+        _outside: &mut O,
+    ) -> Result<Turn, VarError> {
         Ok(take_turn(&mut self.chosen))
     }
 }

@@ -1,15 +1,13 @@
 // The cursor of a Switch Controller.
 
-ghost use Rattle.std.specs.Prelude.{◌≡◌, ◌<◌, ℕ, slice_get, Some, None, IfSome, OnOk, OnErr, IsOkAnd};
-ghost use Rattle.template_text.specs.Pieces.{Pieces};
-ghost use Rattle.element_tree.specs.declared.kinds.Element.{Element};
+ghost use Rattle.std.specs.Prelude.{◌≡◌, ◌<◌, IfSome, OnOk, OnErr};
 ghost use Rattle.var_functions.specs.FunctionState.{IsLater};
-ghost use Rattle.cursor_steps.specs.CursorStep.{StepsTo, IsThere};
-ghost use Rattle.cursor_steps.specs.RunningChildren.{IsAmong, run_count};
-ghost use Rattle.choice_controllers.specs.SwitchController.{name_at, run_names, is_name, place_named, index_among, picks, switch_enters, switch_next};
+ghost use Rattle.cursor_steps.specs.CursorStep.{StepsTo};
+ghost use Rattle.cursor_steps.specs.RunningChildren.{run_count};
+ghost use Rattle.choice_controllers.specs.SwitchController.{name_at, run_names, is_name, place_named, index_among, picks, switch_enters};
 
 use crate::chosen::take_turn;
-use cursor_steps::{decimal_number, is_run_at, run_count};
+use cursor_steps::{Controller, decimal_number, is_run_at, run_count};
 use element_tree::{Element, Kind, Plan, Turn};
 use jm_base::Outside;
 use std::alloc::Global;
@@ -99,41 +97,53 @@ pub fn picks(plan: &Plan, element: &Element, text: &[u8]) -> Option<u16>
     }
 }
 
-impl SwitchCursor {
-    /// The cursor of this element, before its first `enter`.
-    pub fn new(element: u16) -> SwitchCursor
-        ensures { result ≡ record { element = element; chosen = None } }
-    {
+impl Controller for SwitchCursor {
+    ghost use Rattle.std.specs.Prelude.{◌≡◌, ◌<◌, slice_get, None, OnOk, IfSome, ⊤};
+    ghost use Rattle.template_text.specs.Pieces.{Pieces};
+    ghost use Rattle.element_tree.specs.declared.kinds.Kind.TheVariants as kinds;
+    ghost use Rattle.cursor_steps.specs.CursorStep.{at_element};
+    ghost use Rattle.choice_controllers.specs.Chosen.{waiting, RunsChosen};
+    ghost use Rattle.choice_controllers.specs.SwitchController.{run_names, switch_enters_at, switch_next};
+
+    ghost serves = { λ kind. (value : Pieces) × (kind ≡ kinds.Switch value) };
+
+    ghost place = { λ c. c.element };
+
+    ghost fresh = { λ n. record { element = n; chosen = None } };
+
+    ghost enters = { λ elements c state. at_element (slice_get elements c.element) c state (λ e. switch_enters_at e.kind (run_names elements e) c state) };
+
+    ghost entered = { λ children c state result d after. OnOk result (IfSome d.chosen (λ place. place < children)) };
+
+    ghost needs = { λ elements c. ⊤ };
+
+    ghost turns = { λ elements round c state. switch_next c state };
+
+    ghost turned = { λ elements c state result d after. RunsChosen c.chosen result × (d ≡ record c { chosen = None }) × (after ≡ state) };
+
+    ghost among = { λ children c. IfSome c.chosen (λ place. place < children) };
+
+    ghost begun = { λ c. 0 };
+
+    ghost left = { λ c. waiting c.chosen };
+
+    fn new(element: u16) -> SwitchCursor {
         SwitchCursor {
             element,
             chosen: None,
         }
     }
 
-    /// Begins a pass: expands `value`, and chooses the child that its text picks. Decimal digits pick the child of that
-    /// index, from 0; an index out of range, or an empty text, picks the first child. Another text picks the first child
-    /// of that name, case significant; where no child has it, the first one named `default`, in capitals or not; else
-    /// none.
-    ///
-    /// `ValueLimit` comes where the expansion would be past its limit. A call that refuses leaves the cursor as it was.
-    pub fn enter<O: Outside>(
+    // Begins a pass: expands `value`, and chooses the child that its text picks. Decimal digits pick the child of that
+    // index, from 0; an index out of range, or an empty text, picks the first child. Another text picks the first child of
+    // that name, case significant; where no child has it, the first one named `default`, in capitals or not; else none.
+    fn enter<O: Outside>(
         &mut self,
         alloc: Global,
         plan: &Plan,
         state: &mut UserState,
         outside: &mut O,
-    ) -> Result<(), VarError>
-        requires { (e : Element) × (value : Pieces) × IsThere plan.now.elements self.old.element e (Kind.Switch value) }
-        ensures came { (e : Element) (value : Pieces) → IsThere plan.now.elements self.old.element e (Kind.Switch value)
-            → StepsTo (O.account outside.old) (switch_enters value (run_names plan.now.elements e) self.old state.old)
-            (O.account outside.new) self.new state.new result }
-        ensures child { (e : Element) → slice_get plan.now.elements self.old.element ≡ Some e
-            → OnOk result (IfSome self.new.chosen (λ place. place < run_count plan.now.elements e)) }
-        ensures same { self.new.element ≡ self.old.element }
-        ensures kept { OnErr result (self.new ≡ self.old) }
-        ensures vars { state.new.vars ≡ state.old.vars }
-        ensures later { IsLater state.old.fns state.new.fns }
-    {
+    ) -> Result<(), VarError> {
         let Some(element) = plan.element(self.element) else {
             unreachable!();
         };
@@ -143,6 +153,20 @@ impl SwitchCursor {
         self.begin(alloc, plan, element, value, state, outside)
     }
 
+    // The child that was chosen, where it is still to be run, or `Over`. It takes no memory.
+    fn next<O: Outside>(
+        &mut self,
+        _alloc: Global,
+        _plan: &Plan,
+        _round: u64,
+        _state: &mut UserState,
+        _outside: &mut O,
+    ) -> Result<Turn, VarError> {
+        Ok(take_turn(&mut self.chosen))
+    }
+}
+
+impl SwitchCursor {
     // Expands the text, which picks a child of this element.
     fn begin<O: Outside>(
         &mut self,
@@ -168,23 +192,5 @@ impl SwitchCursor {
             }
             Err(error) => Err(error),
         }
-    }
-
-    /// The child that was chosen, where it is still to be run, or `Over`. It takes no memory.
-    pub fn next<O: Outside>(
-        &mut self,
-        _alloc: Global,
-        _plan: &Plan,
-        _round: u64,
-        state: &mut UserState,
-        outside: &mut O,
-    ) -> Result<Turn, VarError>
-        ensures came { StepsTo (O.account outside.old) (switch_next self.old state.old) (O.account outside.new) self.new state.new result }
-        ensures child { (children : ℕ) → IfSome self.old.chosen (λ place. place < children) → IsOkAnd result (λ turn. IsAmong children turn) }
-        ensures taken { self.new ≡ record self.old { chosen = None } }
-        ensures same { self.new.element ≡ self.old.element }
-        ensures state { state.new ≡ state.old }
-    {
-        Ok(take_turn(&mut self.chosen))
     }
 }

@@ -3,6 +3,7 @@
 use crate::outsides::Silence;
 use anyhow::bail;
 use choice_controllers::{InterleaveCursor, OrderCursor, RandomCursor, SwitchCursor};
+use cursor_steps::Controller as Cursor;
 use element_tree::{Kind, Plan, Turn};
 use logic_controllers::{EachCursor, IfCursor, LoopCursor, OnceCursor, SimpleCursor, WhileCursor};
 use std::alloc::Global;

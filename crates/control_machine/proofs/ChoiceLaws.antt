@@ -1,5 +1,5 @@
 -- What the controllers that choose are goes on as their cursors' entries and steps say.
-use Rattle.std.proofs.Common.{◌≡◌, ℕ, zero, suc, ◌+◌, Bool, true, false, List, [], ◌∷◌, length, drop, Option, Some, None, refl, sym, ap, ◌∙◌, add-one}
+use Rattle.std.proofs.Common.{◌≡◌, ℕ, zero, suc, ◌+◌, Bool, true, false, List, [], ◌∷◌, length, drop, Option, Some, None, refl, sym, ap, ◌∙◌, subst, add-one}
 use mathlib.Core.Path.{fun_ext}
 use Rattle.std.specs.Prelude.{slice_get, ◌==◌}
 use Rattle.std.proofs.Math.Seq.{drop-cons}
@@ -7,6 +7,8 @@ use Rattle.std.proofs.lemmas.List.{set-get_or}
 use Rattle.std.proofs.lemmas.Option.{slice_get_within, get_or_from_slice_get}
 use Rattle.jm_base.specs.Run.{Run, over, give, read, wait, ask, ◌>>=◌}
 use Rattle.template_text.specs.Pieces.{Pieces}
+use Rattle.element_tree.specs.declared.kinds.Kind.{Kind}
+use Rattle.element_tree.specs.declared.kinds.Kind.TheVariants as kinds
 use Rattle.var_functions.specs.declared.state.UserState.{UserState}
 use Rattle.cursor_steps.specs.CursorStep.{answers}
 use Rattle.choice_controllers.specs.declared.interleave_cursor.InterleaveCursor.{InterleaveCursor}
@@ -16,7 +18,7 @@ use Rattle.choice_controllers.specs.declared.switch_cursor.SwitchCursor.{SwitchC
 use Rattle.choice_controllers.specs.InterleaveController.{interleaved, interleave_enters, interleave_next}
 use Rattle.choice_controllers.specs.RandomController.{random_enters, random_next}
 use Rattle.choice_controllers.specs.RandomOrderController.{order_of, order_enters, order_next}
-use Rattle.choice_controllers.specs.SwitchController.{picks, switch_enters, switch_next}
+use Rattle.choice_controllers.specs.SwitchController.{picks, switch_enters, switch_enters_at, switch_next}
 use Rattle.jm_meaning.specs.declared.signal.Signal.{Signal}
 use Rattle.jm_meaning.specs.declared.signal.Signal.TheVariants.{Normal, NextLoop, Stop}
 use Rattle.jm_meaning.specs.State.{State, Own, Ending, state_of, normal, on_normal, and_then, text, at_places, place_of, with_place, with_fns}
@@ -124,3 +126,9 @@ pub switch-enter : (names : List (List ℕ)) (value : Pieces) (below : Below) (r
 switch-enter names value below round children c s =
     text-law value c s (λ t u. answers tt (record { element = c.element; chosen = picks t names }) u) (begun (switch_left below round children) s.own)
     (λ x. chosen below round children (picks x names)) (λ u. refl) (λ t u. refl)
+
+pub switch-enter-in : (k : Kind) (names : List (List ℕ)) (value : Pieces) (below : Below) (round : ℕ) (children : List ℕ) (c : SwitchCursor) (s : State) → k ≡ kinds.Switch value
+    → switch below round names children (text value) s ≡ (switch_enters_at k names c s.user >>= begun (switch_left below round children) s.own)
+switch-enter-in k names value below round children c s is =
+    subst (λ k. switch below round names children (text value) s ≡ (switch_enters_at k names c s.user >>= begun (switch_left below round children) s.own)) (sym is)
+    (switch-enter names value below round children c s)

@@ -1,9 +1,10 @@
 -- An element that is left: what its move is.
-use Rattle.std.proofs.Common.{◌≡◌, ℕ, ◌<◌, Bool, true, false, List, length, Option, refl, subst, arith}
+use Rattle.std.proofs.Common.{◌≡◌, ℕ, ◌<◌, Bool, true, false, List, ◌∷◌, length, Option, refl, subst, arith}
 use Rattle.std.specs.Prelude.{◌&&◌, nat_lt, if◌then◌else◌}
 use Rattle.element_tree.specs.declared.kinds.Element.{Element}
 use Rattle.element_tree.specs.declared.kinds.Kind.{Kind}
 use Rattle.element_tree.specs.declared.kinds.Kind.TheVariants as kinds
+use Rattle.element_tree.specs.Tree.{Tree}
 use Rattle.jm_meaning.specs.declared.signal.Signal.{Signal}
 use Rattle.jm_meaning.specs.declared.transaction.Tally.{Tally}
 use Rattle.jm_meaning.specs.Children.{children_of}
@@ -12,12 +13,13 @@ use Rattle.control_machine.specs.declared.cursor.Cursor.{Cursor}
 use Rattle.control_machine.specs.declared.cursor.Cursor.TheVariants.{Transaction}
 use Rattle.control_machine.specs.declared.stack.Frame.{Frame}
 use Rattle.control_machine.specs.declared.machine.Group.{Group}
+use Rattle.control_machine.specs.declared.machine.Machine.{Machine}
 use Rattle.control_machine.specs.declared.machine.Went.{Went}
 use Rattle.control_machine.specs.declared.machine.Went.TheVariants.{On, To}
 use Rattle.control_machine.specs.declared.moves.Move.TheVariants.{LeaveSection, TransactionSample}
 use Rattle.control_machine.specs.Cursors.{Shut, Plain, Summing, Leaving, shut_of, lock_in, FitsKind}
-use Rattle.control_machine.specs.Left.{KeepsLock, IsAlone, IsOpen}
-use Rattle.control_machine.specs.Turns.{IsWent, Lightens, IsNormalOn, IsRoundless, IsRoundIn, MovesLockOn, closing_move, closing_of}
+use Rattle.control_machine.specs.Left.{KeepsLock, IsAlone, IsOpen, StandsIn, open_lock}
+use Rattle.control_machine.specs.Turns.{IsWent, Lightens, IsNormalOn, IsRoundless, IsRoundIn, MovesLockOn, TakesTurn, closing_move, closing_of}
 
 -- what holds of going on, of a transaction's sample and of a section that is left holds of an element that is left
 by_closing : (P : Went → Type 0) (element : ℕ) (o : Shut) (gives : Bool) → P On → ((tally : Tally) → o ≡ Summing tally → P (To (TransactionSample element tally)))
@@ -73,3 +75,15 @@ lock_after element (Leaving lock) gives outer alone = (refl, alone)
 -- the section that is open, where the element is left inside this
 pub closed_lock : (signal : Signal) (f : Frame) (outer : Option ℕ) → IsAlone (shut_of f.cursor) outer → MovesLockOn (closing_of signal f) (lock_in (shut_of f.cursor) outer) outer
 closed_lock signal f outer alone = lock_after f.element (shut_of f.cursor) (gives_sample signal) outer alone
+
+-- a machine out of whose open elements one was taken, after that is left
+pub closed_turn : (plan : Tree) (limit : ℕ) (m : Machine) (f : Frame) → IsOpen plan.elements limit m.rounds f → IsAlone (shut_of f.cursor) (open_lock m.stack.frames) → StandsIn plan m
+    → TakesTurn plan m.rounds (open_lock (f ∷ m.stack.frames)) m (closing_of m.signal f)
+closed_turn plan limit m f o alone stands = record {
+  given = closed_given plan.elements limit m.rounds m.signal f o;
+  stands = stands;
+  normal = closed_normal m.signal f m.signal;
+  lock = closed_lock m.signal f (open_lock m.stack.frames) alone;
+  rounds = closed_rounds m.signal f m.rounds;
+  index = closed_index m.signal f m.group;
+}

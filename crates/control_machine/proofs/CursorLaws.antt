@@ -24,9 +24,9 @@ use Rattle.logic_controllers.specs.ControllerRounds.{round_begun, opened_vars, o
 use Rattle.logic_controllers.specs.SimpleController.{simple_next}
 use Rattle.logic_controllers.specs.OnceOnlyController.{once_next}
 use Rattle.logic_controllers.specs.LoopController.{round_begins, loop_goes, loop_next}
-use Rattle.logic_controllers.specs.IfController.{is_true, if_runs, if_next}
-use Rattle.logic_controllers.specs.WhileController.{last_ok, goes_on, while_goes, while_next}
-use Rattle.logic_controllers.specs.ForEachController.{Row, kind_of, value_at, output_vars, each_decides, each_goes, each_next}
+use Rattle.logic_controllers.specs.IfController.{is_true, if_runs, if_next, if_next_at}
+use Rattle.logic_controllers.specs.WhileController.{last_ok, goes_on, while_goes, while_next, while_next_at}
+use Rattle.logic_controllers.specs.ForEachController.{Row, kind_of, value_at, output_vars, each_decides, each_goes, each_next, each_next_at}
 use Rattle.jm_meaning.specs.State.{State, Own, Ending, Part, state_of, normal, and_then, with_round, on_came, tried, text, with_vars}
 use Rattle.jm_meaning.specs.Rounds.{Turns, where_begun, where_so, rounds, set_index, loop_turns, while_goes as while_goes_by, while_turns, each_turns}
 use Rattle.jm_meaning.specs.Children.{Below, in_order, if_each}
@@ -245,21 +245,21 @@ each-law name row output below children c s all bound =
 -- ---- at an element of the cursor's kind
 
 pub if-law-in : (k : Kind) (all : Bool) (condition : Pieces) (below : Below) (round : ℕ) (children : List ℕ) (c : IfCursor) (s : State) → k ≡ kinds.If all condition → c.pass.children ≤ length children
-    → if_left_in k below round children c s ≡ (if_next all condition c s.user >>= stepped below (λ d. round) children (if_left_in k below round children) s.own)
+    → if_left_in k below round children c s ≡ (if_next_at k c s.user >>= stepped below (λ d. round) children (if_left_in k below round children) s.own)
 if-law-in k all condition below round children c s is few =
-    subst (λ k. if_left_in k below round children c s ≡ (if_next all condition c s.user >>= stepped below (λ d. round) children (if_left_in k below round children) s.own)) (sym is)
+    subst (λ k. if_left_in k below round children c s ≡ (if_next_at k c s.user >>= stepped below (λ d. round) children (if_left_in k below round children) s.own)) (sym is)
     (if-law all condition below round children c s few)
 
 pub while-law-in : (k : Kind) (name : List ℕ) (condition : Pieces) (below : Below) (children : List ℕ) (c : WhileCursor) (s : State) → k ≡ kinds.While condition
     → c.rounds.pass.children ≡ length children → c.rounds.begun + s.own.rounds ≤ max_rounds
-    → while_left_in k name below children c s ≡ (while_next name condition c s.user >>= stepped below (λ d. d.rounds.begun - 1) children (while_left_in k name below children) s.own)
+    → while_left_in k name below children c s ≡ (while_next_at k name c s.user >>= stepped below (λ d. d.rounds.begun - 1) children (while_left_in k name below children) s.own)
 while-law-in k name condition below children c s is all bound =
-    subst (λ k. while_left_in k name below children c s ≡ (while_next name condition c s.user >>= stepped below (λ d. d.rounds.begun - 1) children (while_left_in k name below children) s.own)) (sym is)
+    subst (λ k. while_left_in k name below children c s ≡ (while_next_at k name c s.user >>= stepped below (λ d. d.rounds.begun - 1) children (while_left_in k name below children) s.own)) (sym is)
     (while-law name condition below children c s all bound)
 
 pub each-law-in : (k : Kind) (name : List ℕ) (row : Row) (output : List ℕ) (below : Below) (children : List ℕ) (c : EachCursor) (s : State) → k ≡ kind_of row output
     → c.rounds.pass.children ≡ length children → c.rounds.begun + s.own.rounds ≤ max_rounds
-    → each_left_in k name below children c s ≡ (each_next name row output c s.user >>= stepped below (λ d. d.rounds.begun - 1) children (each_left_in k name below children) s.own)
+    → each_left_in k name below children c s ≡ (each_next_at k name c s.user >>= stepped below (λ d. d.rounds.begun - 1) children (each_left_in k name below children) s.own)
 each-law-in k name row output below children c s is all bound =
-    subst (λ k. each_left_in k name below children c s ≡ (each_next name row output c s.user >>= stepped below (λ d. d.rounds.begun - 1) children (each_left_in k name below children) s.own)) (sym is)
+    subst (λ k. each_left_in k name below children c s ≡ (each_next_at k name c s.user >>= stepped below (λ d. d.rounds.begun - 1) children (each_left_in k name below children) s.own)) (sym is)
     (each-law name row output below children c s all bound)

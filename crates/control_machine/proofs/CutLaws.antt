@@ -1,6 +1,6 @@
 -- Where a machine was refused on its way.
 use Rattle.std.proofs.Common.{◌≡◌, inl, inr, ℕ, List, [], ◌∷◌, Some, None, refl, sym, ap, ◌∙◌, subst}
-use Rattle.std.specs.Prelude.{Result, Ok, Err, OnErr, ◌⊎◌, slice_get}
+use Rattle.std.specs.Prelude.{Result, Ok, Err, IfOk, OnErr, ◌⊎◌, slice_get}
 use Rattle.jm_base.specs.Run.{Run, over}
 use Rattle.jm_base.specs.Outside.{Account, Goes}
 use Rattle.jm_base.proofs.RunLaws.{goes-append, goes-nothing}
@@ -39,10 +39,14 @@ use Rattle.control_machine.specs.MachineCut.{Place, between_turns, left_at, IsCu
 use Rattle.control_machine.proofs.Following.{left_normal}
 use Rattle.control_machine.proofs.StackLaws.{left_by, innermost}
 
--- what holds anyway holds after a refusal
-pub on_err : {X E : Type 0} (r : Result X E) (P : Type 0) → P → OnErr r P
-on_err (Ok x) P p = tt
-on_err (Err e) P p = p
+-- a refusal is no answer
+pub no_refusal : {X E : Type 0} (error : E) (x : X) → Err error ≡ Ok x → ⊥
+no_refusal error x is = subst (λ r. IfOk r (λ y. ⊥)) is tt
+
+-- what follows from any refusal holds after one
+pub on_refusal : {X E : Type 0} (r : Result X E) (P : Result X E → Type 0) (Q : Type 0) → ((error : E) → P (Err error) → Q) → P r → OnErr r Q
+on_refusal (Ok x) P Q h p = tt
+on_refusal (Err e) P Q h p = h e p
 
 -- ---- a machine
 

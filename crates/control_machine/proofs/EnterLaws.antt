@@ -17,8 +17,8 @@ use Rattle.cursor_steps.specs.RunningChildren.{pass_over, none_left, is_left}
 use Rattle.logic_controllers.specs.ControllerRounds.{before_rounds}
 use Rattle.logic_controllers.specs.SimpleController.{simple_enters}
 use Rattle.logic_controllers.specs.OnceOnlyController.{once_enters}
-use Rattle.logic_controllers.specs.LoopController.{loops_of, loop_enters}
-use Rattle.logic_controllers.specs.IfController.{is_true, if_enters}
+use Rattle.logic_controllers.specs.LoopController.{loops_of, loop_enters, loop_enters_at}
+use Rattle.logic_controllers.specs.IfController.{is_true, if_enters, if_enters_at}
 use Rattle.logic_controllers.specs.WhileController.{while_enters}
 use Rattle.logic_controllers.specs.ForEachController.{Row, kind_of, each_enters}
 use Rattle.jm_meaning.specs.State.{State, state_of, normal, tried, text}
@@ -104,10 +104,17 @@ each-enter name row output below children n c s = before-first (each_turns name 
 
 -- ---- at an element of the cursor's kind
 
+pub loop-enter-in : (k : Kind) (name : List ℕ) (loops : Pieces) (below : Below) (children : List ℕ) (n : ℕ) (c : LoopCursor) (s : State) → k ≡ kinds.Loop loops
+    → tried (text loops) s (λ x. rounds max_rounds (loop_turns name (loops_of x)) (λ i. in_order below i children) 0)
+    ≡ (loop_enters_at k n c s.user >>= begun (loop_left name below children) s.own)
+loop-enter-in k name loops below children n c s is =
+    subst (λ k. tried (text loops) s (λ x. rounds max_rounds (loop_turns name (loops_of x)) (λ i. in_order below i children) 0) ≡ (loop_enters_at k n c s.user >>= begun (loop_left name below children) s.own)) (sym is)
+    (loop-enter name loops below children n c s)
+
 pub if-enter-in : (k : Kind) (all : Bool) (condition : Pieces) (below : Below) (round : ℕ) (children : List ℕ) (n : ℕ) (c : IfCursor) (s : State) → k ≡ kinds.If all condition → n ≡ length children
-    → if_part all below round children (text condition) s ≡ (if_enters all condition n c s.user >>= begun (if_left_in k below round children) s.own)
+    → if_part all below round children (text condition) s ≡ (if_enters_at k n c s.user >>= begun (if_left_in k below round children) s.own)
 if-enter-in k all condition below round children n c s is count =
-    subst (λ k. if_part all below round children (text condition) s ≡ (if_enters all condition n c s.user >>= begun (if_left_in k below round children) s.own)) (sym is)
+    subst (λ k. if_part all below round children (text condition) s ≡ (if_enters_at k n c s.user >>= begun (if_left_in k below round children) s.own)) (sym is)
     (if-enter all condition below round children n c s count)
 
 pub while-enter-in : (k : Kind) (name : List ℕ) (condition : Pieces) (below : Below) (children : List ℕ) (n : ℕ) (c : WhileCursor) (s : State) → k ≡ kinds.While condition

@@ -1,6 +1,5 @@
 -- Ways out: an open element is left, or the way out is over.
-use Rattle.std.proofs.Common.{◌≡◌, ℕ, List, [], ◌∷◌, refl, sym, ap, ◌∙◌, subst}
-use Rattle.std.specs.Prelude.{Result, Ok, Err, IfOk}
+use Rattle.std.proofs.Common.{◌≡◌, ◌⊎◌, inl, inr, ℕ, List, [], ◌∷◌, refl, sym, ap, ◌∙◌, subst}
 use Rattle.jm_base.specs.declared.types.End.{End}
 use Rattle.jm_base.specs.Run.{over}
 use Rattle.element_tree.specs.declared.kinds.Element.{Element}
@@ -12,12 +11,10 @@ use Rattle.jm_meaning.specs.State.{Own, state_of, at_rounds, normal}
 use Rattle.control_machine.specs.declared.stack.Frame.{Frame}
 use Rattle.control_machine.specs.declared.machine.Group.{Group}
 use Rattle.control_machine.specs.declared.machine.Machine.{Machine}
-use Rattle.control_machine.specs.declared.machine.Went.{Went}
-use Rattle.control_machine.specs.declared.machine.Went.TheVariants.{On, To}
 use Rattle.control_machine.specs.declared.moves.Move.{Move}
 use Rattle.control_machine.specs.declared.moves.Move.TheVariants.{Iteration, RunSampler, EnterSection, LeaveSection, TransactionSample, Finished}
 use Rattle.control_machine.specs.Left.{here_in, left_in, left_of, ended, AreOpen, AreApart, GroupIsOpen, IsOut, StandsIn}
-use Rattle.control_machine.specs.Turns.{went, closing_of, IsNormalAt, IsNormalOn}
+use Rattle.control_machine.specs.Turns.{went, closing_of, IsNormalAt}
 use Rattle.control_machine.proofs.Answered.{out, out_of_one, all_out, next_loop, round_over}
 
 pub stop_same : (plan : Tree) (m : Machine) (end : End) (user : UserState) (own : Own) → m.stack.frames ≡ [] → m.signal ≡ Stop end → StandsIn plan m → own.rounds ≡ m.rounds
@@ -68,10 +65,6 @@ at_normal (LeaveSection lock) signal is = tt
 at_normal (TransactionSample element tally) signal is = tt
 at_normal (Finished end) signal is = tt
 
-normal_on : (w : Went) (signal : Signal) → signal ≡ Normal → IsNormalOn w signal
-normal_on On signal is = tt
-normal_on (To move) signal is = at_normal move signal is
-
-pub of_normal : {E : Type 0} (res : Result Went E) (signal : Signal) → signal ≡ Normal → IfOk res (λ w. IsNormalOn w signal)
-of_normal (Ok w) signal is = normal_on w signal is
-of_normal (Err e) signal is = tt
+pub not_normal : (signal : Signal) → (signal ≡ NextLoop) ⊎ ((end : End) × (signal ≡ Stop end)) → signal ≡ Normal → ⊥
+not_normal signal (inl is) h = let i : NextLoop ≡ Normal = sym is ∙ h in cc
+not_normal signal (inr s) h = let i : Stop s.0 ≡ Normal = sym s.1 ∙ h in cc

@@ -4,7 +4,6 @@ pub mod CursorLaws
 pub mod EnterLaws
 pub mod ShuffleLaws
 pub mod ChoiceLaws
-pub mod ChoicePass
 pub mod ClosingLaws
 pub mod Closed
 pub mod HearingLaws
@@ -12,7 +11,8 @@ pub mod StackLaws
 pub mod Opening
 pub mod LoadLaws
 pub mod Following
-pub mod CameSteps
+pub mod CursorCalls
+pub mod AtElement
 pub mod FitLaws
 pub mod OpenLaws
 pub mod Turning
@@ -20,8 +20,8 @@ pub mod Answered
 pub mod Standing
 pub mod Lightening
 pub mod Rounding
-pub mod Grouping
+pub mod GroupChild
 pub mod Leaving
-pub mod Ways
 pub mod CutLaws
+pub mod Coming
 pub mod Starting

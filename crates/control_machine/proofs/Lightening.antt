@@ -7,7 +7,8 @@ use Rattle.control_machine.specs.declared.stack.Frame.{Frame}
 use Rattle.control_machine.specs.declared.machine.Machine.{Machine}
 use Rattle.control_machine.specs.declared.machine.Went.{Went}
 use Rattle.control_machine.specs.declared.machine.Went.TheVariants.{On, To}
-use Rattle.control_machine.specs.Load.{children_count, scale, remaining, children_left, TakesChild, load, load_of}
+use Rattle.control_machine.specs.Load.{children_count, scale, remaining, children_left, load, load_of}
+use Rattle.cursor_steps.specs.RunningChildren.{TakesChild}
 use Rattle.control_machine.specs.Turns.{Lightens, IsOpened, load_in}
 use Rattle.control_machine.proofs.LoadLaws.{left_light, child_light, plain_light, round_light, group_light}
 

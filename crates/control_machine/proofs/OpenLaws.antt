@@ -17,7 +17,7 @@ use Rattle.jm_meaning.specs.Children.{Below}
 use Rattle.jm_meaning.specs.Meaning.{Here, kind_meaning}
 use Rattle.jm_base.proofs.RunLaws.{goes-nothing}
 use Rattle.control_machine.specs.Left.{kind_part, IsSamplerKind}
-use Rattle.control_machine.proofs.CameSteps.{same_element}
+use Rattle.control_machine.proofs.CursorCalls.{same_element}
 
 -- the kind of the element at this number
 pub kind_is : (elements : List Element) (n : ℕ) (d e : Element) (k : Kind) → Some d ≡ slice_get elements n → slice_get elements n ≡ Some e → d.kind ≡ k → e.kind ≡ k

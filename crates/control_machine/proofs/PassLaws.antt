@@ -1,6 +1,6 @@
 -- The children that are left in a pass.
-use Rattle.std.proofs.Common.{◌≡◌, ℕ, zero, suc, ◌+◌, ◌≤◌, ◌<◌, true, false, List, [], ◌∷◌, length, drop, Option, Some, None, refl, ap, ◌∙◌, arith, add-one}
-use Rattle.std.specs.Prelude.{slice_get, take, unwrap_or, Result, Ok, Err, IfOk, IsOkAnd}
+use Rattle.std.proofs.Common.{◌≡◌, ℕ, zero, suc, ◌+◌, ◌≤◌, ◌<◌, true, false, List, [], ◌∷◌, length, drop, Option, Some, None, refl, sym, ap, ◌∙◌, subst, arith, add-one}
+use Rattle.std.specs.Prelude.{slice_get, take, unwrap_or}
 use Rattle.std.specs.List.{filter}
 use Rattle.std.specs.Option.{option_map}
 use Rattle.std.proofs.Math.Seq.{drop-cons}
@@ -15,7 +15,8 @@ use Rattle.cursor_steps.specs.RunningChildren.{is_left, after_child, is_run_at, 
 use Rattle.jm_meaning.specs.Children.{children_of}
 use Rattle.node_table.specs.ElementLinks.{child_of}
 use Rattle.control_machine.specs.Moves.{pass_left}
-use Rattle.control_machine.specs.Load.{remaining, TakesChild}
+use Rattle.control_machine.specs.Load.{remaining}
+use Rattle.cursor_steps.specs.RunningChildren.{TakesChild}
 
 left_means : (p : Pass) → is_left p ≡ true → p.next < p.children
 left_means p h = grind (arith, h)
@@ -73,11 +74,13 @@ passes_fewer old new (Child place) p = let n = ap (λ q. remaining q) p.2 in ome
 passes_fewer old new Round p = tt
 passes_fewer old new Over p = tt
 
--- what holds of an answer that always comes
-pub of_answer : {A E : Type 0} (res : Result A E) (P Q : A → Type 0) → ((x : A) → P x → Q x) → IsOkAnd res P → IfOk res Q
-of_answer (Ok x) P Q h p = h x p
-of_answer (Err e) P Q h p = tt
-
 -- what the links say of the children of an element
 pub runs_there : (elements : List Element) (n place : ℕ) (e : Element) → slice_get elements n ≡ Some e → child_of elements n place ≡ slice_get (runs_of elements e) place
 runs_there elements n place e there = ap (λ (o : Option Element). slice_get (filter (is_run_at elements) (unwrap_or (option_map (λ (x : Element). x.children) o) [])) place) there
+
+-- what is among the children that an element runs is among all of them that run
+pub counted : (P : ℕ → Type 0) (elements : List Element) (e : Element) → P (run_count elements e) → P (length (children_of elements e))
+counted P elements e h = subst P (sym (count-is elements e)) h
+
+pub counted_back : (P : ℕ → Type 0) (elements : List Element) (e : Element) → P (length (children_of elements e)) → P (run_count elements e)
+counted_back P elements e h = subst P (count-is elements e) h

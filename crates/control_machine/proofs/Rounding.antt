@@ -1,4 +1,4 @@
--- The group after the last child of a round.
+-- The group after the last child of a round, and the rounds that moves take.
 use Rattle.std.proofs.Common.{◌≡◌, ℕ, ◌+◌, ◌-◌, ◌≤◌, true, false, List, [], length, Some, sym, ap, ◌∙◌, arith}
 use Rattle.std.specs.Prelude.{slice_get, unwrap_or}
 use Rattle.std.specs.Option.{option_map}
@@ -15,7 +15,10 @@ use Rattle.jm_meaning.specs.State.{Own, state_of, at_rounds, normal}
 use Rattle.jm_meaning.specs.Rounds.{round_start}
 use Rattle.jm_meaning.specs.Children.{children_of}
 use Rattle.control_machine.specs.declared.machine.Machine.{Machine}
+use Rattle.control_machine.specs.declared.moves.Move.{Move}
+use Rattle.control_machine.specs.declared.moves.Move.TheVariants.{Iteration, RunSampler, EnterSection, LeaveSection, TransactionSample, Finished}
 use Rattle.control_machine.specs.Left.{here_in, left_in, left_of, left_after, children_at, ended, GroupIsOpen}
+use Rattle.control_machine.specs.Turns.{TakesRound}
 use Rattle.control_machine.proofs.Following.{left_normal, rounds_over, rounds_stop, round_begun, next_group}
 
 none_means : (p : Pass) → p.children ≤ p.next → is_left p ≡ false
@@ -48,3 +51,12 @@ module _ (plan : Tree) (m : Machine) (user : UserState) (own : Own) (open' : Gro
       ∙ round_begun (here_in plan m) m.group user own (m.rounds - 1) (none_means m.group.pass past_all) within begins
       (all_of plan.elements m.group.element open'.element m.group.pass.children open'.there open'.pass) (omega (arith, same, some))
       ∙ ap (λ fs. left_in (here_in plan m) (next_group m.group) fs (round_start plan.elements m.group.element (state_of user (at_rounds own (m.rounds - 1))))) (sym empty)
+
+-- no move gives a round back
+pub later_rounds : (move : Move) (a b c : ℕ) → b ≤ a → TakesRound move b c → TakesRound move a c
+later_rounds (Iteration index) a b c h k = omega (arith, h, k)
+later_rounds (RunSampler number) a b c h k = omega (arith, h, k)
+later_rounds (EnterSection lock) a b c h k = omega (arith, h, k)
+later_rounds (LeaveSection lock) a b c h k = omega (arith, h, k)
+later_rounds (TransactionSample element tally) a b c h k = omega (arith, h, k)
+later_rounds (Finished end) a b c h k = omega (arith, h, k)

@@ -1,6 +1,6 @@
 -- What goes on inside the open elements goes on in the whole.
 use Rattle.std.proofs.Common.{◌≡◌, ℕ, Bool, true, false, List, [], ◌∷◌, Option, Some, None, refl, sym, ap, ◌∙◌, subst}
-use Rattle.std.specs.Prelude.{◌&&◌, nat_lt, if◌then◌else◌, slice_get, Result}
+use Rattle.std.specs.Prelude.{◌&&◌, nat_lt, if◌then◌else◌, slice_get}
 use Rattle.jm_base.specs.declared.types.End.{End}
 use Rattle.jm_base.specs.declared.types.End.TheVariants.{ValueLimit}
 use Rattle.jm_base.specs.declared.types.Sample.{Sample}
@@ -10,8 +10,7 @@ use Rattle.jm_base.proofs.RunLaws.{goes-bind}
 use Rattle.element_tree.specs.declared.kinds.Element.{Element}
 use Rattle.element_tree.specs.Tree.{Tree}
 use Rattle.var_functions.specs.declared.error.VarError.{VarError}
-use Rattle.var_functions.specs.Came.{CameTo, Refused, by_limit, by_memory}
-use Rattle.var_functions.proofs.CameLaws.{came-first}
+use Rattle.var_functions.specs.Came.{Refused, by_limit, by_memory}
 use Rattle.jm_meaning.specs.declared.signal.Signal.{Signal}
 use Rattle.jm_meaning.specs.declared.signal.Signal.TheVariants.{Normal, NextLoop, Stop}
 use Rattle.jm_meaning.specs.declared.transaction.Tally.{Tally}
@@ -187,16 +186,6 @@ pub framed_goes : (here : Here) (g : Group) (fs : List Frame) (f : Frame) (e : E
 framed_goes here g fs f e s a m x there go =
     subst (λ r. Goes a r [] (left_in here g fs (closed here f x)) m) (sym (innermost here g f fs e s there))
     (goes_left here g fs (goes_closing (label_at here.plan.elements f.element) (shut_of f.cursor) go))
-
--- the answer of the innermost open element, in the whole
-pub framed_came : {B : Type 0} (here : Here) (g : Group) (fs : List Frame) (f : Frame) (e : Element) (s : State) (a m b : Account) (x : Run Ending)
-    (on : B → Run Ending) (limit : Run Ending) (res : Result B VarError) → slice_get here.plan.elements f.element ≡ Some e
-    → Goes a (left_by here f e s) [] x m → CameTo m (left_in here g fs (closed here f x)) b on limit res
-    → CameTo a (left_in here g (f ∷ fs) (over (normal s))) b on limit res
-framed_came here g fs f e s a m b x on limit res there go h =
-    subst (λ r. CameTo a r b on limit res) (sym (innermost here g f fs e s there))
-    (came-first a m b (left_in here g fs (closed here f (left_by here f e s))) (left_in here g fs (closed here f x)) on limit res
-    (goes_left here g fs (goes_closing (label_at here.plan.elements f.element) (shut_of f.cursor) go)) h)
 
 refused_framed : (here : Here) (g : Group) (fs : List Frame) (f : Frame) (e : Element) (s t : State) (a b : Account) {error : VarError}
     → slice_get here.plan.elements f.element ≡ Some e → AreApart here.plan.elements (f ∷ fs)

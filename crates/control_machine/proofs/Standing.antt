@@ -9,7 +9,7 @@ use Rattle.element_tree.specs.declared.package.Turn.{Turn}
 use Rattle.element_tree.specs.declared.package.Turn.TheVariants.{Child, Round, Over}
 use Rattle.element_tree.specs.Types.{is_section}
 use Rattle.element_tree.specs.Tree.{Tree, Nests, Apart}
-use Rattle.logic_controllers.specs.ControllerRounds.{begun_after}
+use Rattle.cursor_steps.specs.RunningChildren.{begun_after}
 use Rattle.jm_meaning.specs.Children.{children_of}
 use Rattle.jm_meaning.specs.Beginning.{max_rounds}
 use Rattle.control_machine.specs.declared.cursor.Cursor.{Cursor}
@@ -19,12 +19,15 @@ use Rattle.control_machine.specs.declared.machine.Group.{Group}
 use Rattle.control_machine.specs.Cursors.{Shut, Plain, Summing, Leaving, shut_of, lock_in, FitsKind, begun_of}
 use Rattle.control_machine.specs.declared.machine.Machine.{Machine}
 use Rattle.control_machine.specs.declared.machine.Went.{Went}
+use Rattle.control_machine.specs.declared.machine.Went.TheVariants.{On, To}
+use Rattle.control_machine.specs.declared.moves.Move.TheVariants.{EnterSection}
 use Rattle.var_functions.specs.declared.error.VarError.{VarError}
 use Rattle.var_functions.specs.declared.error.VarError.TheVariants.{NoMemory}
 use Rattle.cursor_steps.specs.RunningChildren.{is_run_at, runs_of}
-use Rattle.control_machine.specs.Load.{children_count, waiting, children_left}
+use Rattle.choice_controllers.specs.Chosen.{waiting}
+use Rattle.control_machine.specs.Load.{children_count, children_left}
 use Rattle.control_machine.specs.Left.{KeepsLock, open_lock, IsAlone, IsApart, AreApart, IsOpen, AreOpen, GroupIsOpen, IsOut, StandsIn}
-use Rattle.control_machine.specs.Turns.{IsWent, IsOpened, IsRoundless, IsRoundIn, IsNormalOn, MovesLockOn, opening_move}
+use Rattle.control_machine.specs.Turns.{IsWent, IsOpened, IsRoundless, IsRoundIn, IsNormalOn, MovesLockOn, TakesTurn, SameRest, opening_move}
 use Rattle.control_machine.proofs.LoadLaws.{few_runs}
 
 -- with fewer rounds left
@@ -177,20 +180,41 @@ opened_apart elements fs n round depth c e there fits free below =
 abbrev pub Pushed : Machine → Machine → Frame → Result Went VarError → Type 0
 Pushed m m' f res = MatchResult res (λ w. (w ≡ opening_move (shut_of f.cursor)) × (m'.stack.frames ≡ f ∷ m.stack.frames)) (λ e. e ≡ NoMemory)
 
-abbrev pub IsRest : Machine → Machine → Type 0
-IsRest m m' = (m'.group ≡ m.group) × (m'.rounds ≡ m.rounds) × (m'.at_failure ≡ m.at_failure) × (m'.signal ≡ m.signal) × (m'.links ≡ m.links)
+-- what holds of going on and of a section that is entered holds of an element that is opened
+by_opening : (P : Went → Type 0) (o : Shut) → P On → ((lock : ℕ) → o ≡ Leaving lock → P (To (EnterSection lock))) → P (opening_move o)
+by_opening P Plain on enters = on
+by_opening P (Summing tally) on enters = on
+by_opening P (Leaving lock) on enters = enters lock refl
 
-pub pushed_stands : (plan : Tree) (m m' : Machine) (f : Frame) (res : Result Went VarError) → Pushed m m' f res → IsRest m m' → IsOpen plan.elements max_rounds m.rounds f
-    → IsApart plan.elements m.stack.frames f → StandsIn plan m → IfOk res (λ w. StandsIn plan m')
-pushed_stands plan m m' f (Ok w) pushed rest open' apart stands = record {
-  group = fewer_group plan.elements m'.rounds m.rounds m.group m'.group rest.0 (let r = rest.1 in omega (arith, r)) stands.group;
-  open_ = subst (λ fs. AreOpen plan.elements m'.rounds fs) (sym pushed.1) (subst (λ n. AreOpen plan.elements n (f ∷ m.stack.frames)) (sym rest.1) (open', stands.open_));
-  apart = subst (AreApart plan.elements) (sym pushed.1) (apart, stands.apart);
-  failure = subst IsOut (sym rest.2) stands.failure;
-  signal = subst IsOut (sym rest.3) stands.signal;
-  links = rest.4 ∙ stands.links;
-}
-pushed_stands plan m m' f (Err e) pushed rest open' apart stands = tt
+opening_given : (elements : List Element) (n : ℕ) (e : Element) (o : Shut) → slice_get elements n ≡ Some e → KeepsLock elements e.kind o → IsWent elements (opening_move o)
+opening_given elements n e Plain there keeps = tt
+opening_given elements n e (Summing tally) there keeps = tt
+opening_given elements n e (Leaving lock) there keeps = record { number = n; element = e; there = there; name = keeps.0; kind = keeps.1; lock_is = keeps.2 }
+
+-- a section that is entered is the one that is open then
+opening_lock : (o : Shut) (outer : Option ℕ) → IsAlone o outer → MovesLockOn (opening_move o) outer (lock_in o outer)
+opening_lock Plain outer alone = refl
+opening_lock (Summing tally) outer alone = refl
+opening_lock (Leaving lock) outer alone = (alone, refl)
+
+pub pushed_turn : (plan : Tree) (m m' : Machine) (f : Frame) (res : Result Went VarError) → Pushed m m' f res → SameRest m m' → IsOpen plan.elements max_rounds m.rounds f
+    → IsApart plan.elements m.stack.frames f → StandsIn plan m → IfOk res (TakesTurn plan m.rounds (open_lock m.stack.frames) m')
+pushed_turn plan m m' f (Ok w) pushed rest open' apart stands = rw pushed.0 (record {
+  given = opening_given plan.elements f.element open'.element (shut_of f.cursor) open'.there open'.lock;
+  stands = record {
+    group = fewer_group plan.elements m'.rounds m.rounds m.group m'.group rest.group (omega (arith, rest.rounds)) stands.group;
+    open_ = subst (λ fs. AreOpen plan.elements m'.rounds fs) (sym pushed.1) (subst (λ n. AreOpen plan.elements n (f ∷ m.stack.frames)) (sym rest.rounds) (open', stands.open_));
+    apart = subst (AreApart plan.elements) (sym pushed.1) (apart, stands.apart);
+    failure = subst IsOut (sym rest.failure) stands.failure;
+    signal = subst IsOut (sym rest.signal) stands.signal;
+    links = rest.links ∙ stands.links;
+  };
+  normal = by_opening (λ w. IsNormalOn w m'.signal) (shut_of f.cursor) tt (λ lock is. tt);
+  lock = rw pushed.1 (opening_lock (shut_of f.cursor) (open_lock m.stack.frames) apart.alone);
+  rounds = by_opening (λ w. IsRoundless w m.rounds m'.rounds) (shut_of f.cursor) (omega (arith, rest.rounds)) (λ lock is. omega (arith, rest.rounds));
+  index = by_opening (λ w. IsRoundIn w m'.group) (shut_of f.cursor) tt (λ lock is. tt);
+})
+pushed_turn plan m m' f (Err e) pushed rest open' apart stands = tt
 
 pub pushed_opens : (plan : Tree) (m m' : Machine) (n round depth : ℕ) (c : Cursor) (e : Element) → slice_get plan.elements n ≡ Some e → FitsKind n (length (children_of plan.elements e)) e.kind c → (res : Result Went VarError)
     → Pushed m m' (record { element = n; round = round; depth = depth - 1; cursor = c }) res → IfOk res (λ w. IsOpened plan.elements depth m.stack.frames m'.stack.frames)
@@ -199,46 +223,3 @@ pushed_opens plan m m' n round depth c e there fits (Ok w) pushed =
     let r = few_runs plan.elements n e there in
     inr (record { element = n; round = round; depth = depth - 1; cursor = c }, pushed.1, refl, omega (arith, p, r))
 pushed_opens plan m m' n round depth c e there fits (Err error) pushed = tt
-
-pub pushed_rounds : (m m' : Machine) (f : Frame) (res : Result Went VarError) → Pushed m m' f res → m'.rounds ≡ m.rounds → IfOk res (λ w. IsRoundless w m.rounds m'.rounds)
-pushed_rounds m m' f (Ok w) pushed same = rw pushed.0 (by_shut (shut_of f.cursor)) where
-  by_shut : (o : Shut) → IsRoundless (opening_move o) m.rounds m'.rounds
-  by_shut Plain = omega (arith, same)
-  by_shut (Summing tally) = omega (arith, same)
-  by_shut (Leaving lock) = omega (arith, same)
-pushed_rounds m m' f (Err e) pushed same = tt
-
-pub pushed_begins : (m m' : Machine) (f : Frame) (res : Result Went VarError) → Pushed m m' f res → IfOk res (λ w. IsRoundIn w m'.group)
-pushed_begins m m' f (Ok w) pushed = rw pushed.0 (by_shut (shut_of f.cursor)) where
-  by_shut : (o : Shut) → IsRoundIn (opening_move o) m'.group
-  by_shut Plain = tt
-  by_shut (Summing tally) = tt
-  by_shut (Leaving lock) = tt
-pushed_begins m m' f (Err e) pushed = tt
-
-pub pushed_normal : (m m' : Machine) (f : Frame) (res : Result Went VarError) → Pushed m m' f res → IfOk res (λ w. IsNormalOn w m'.signal)
-pushed_normal m m' f (Ok w) pushed = rw pushed.0 (by_shut (shut_of f.cursor)) where
-  by_shut : (o : Shut) → IsNormalOn (opening_move o) m'.signal
-  by_shut Plain = tt
-  by_shut (Summing tally) = tt
-  by_shut (Leaving lock) = tt
-pushed_normal m m' f (Err e) pushed = tt
-
--- a section that is entered is the one that is open then
-pub pushed_lock : (m m' : Machine) (f : Frame) (res : Result Went VarError) → Pushed m m' f res → IsAlone (shut_of f.cursor) (open_lock m.stack.frames)
-    → IfOk res (λ w. MovesLockOn w (open_lock m.stack.frames) (open_lock m'.stack.frames))
-pushed_lock m m' f (Ok w) pushed alone = rw (pushed.0, pushed.1) (by_shut (shut_of f.cursor) alone) where
-  by_shut : (o : Shut) → IsAlone o (open_lock m.stack.frames) → MovesLockOn (opening_move o) (open_lock m.stack.frames) (lock_in o (open_lock m.stack.frames))
-  by_shut Plain alone = refl
-  by_shut (Summing tally) alone = refl
-  by_shut (Leaving lock) alone = (alone, refl)
-pushed_lock m m' f (Err e) pushed alone = tt
-
-pub pushed_given : (elements : List Element) (n : ℕ) (e : Element) (m m' : Machine) (f : Frame) (res : Result Went VarError) → slice_get elements n ≡ Some e → KeepsLock elements e.kind (shut_of f.cursor)
-    → Pushed m m' f res → IfOk res (IsWent elements)
-pushed_given elements n e m m' f (Ok w) there keeps pushed = rw pushed.0 (by_shut (shut_of f.cursor) keeps) where
-  by_shut : (o : Shut) → KeepsLock elements e.kind o → IsWent elements (opening_move o)
-  by_shut Plain keeps = tt
-  by_shut (Summing tally) keeps = tt
-  by_shut (Leaving lock) keeps = record { number = n; element = e; there = there; name = keeps.0; kind = keeps.1; lock_is = keeps.2 }
-pushed_given elements n e m m' f (Err error) there keeps pushed = tt

@@ -23,7 +23,7 @@ use Rattle.control_machine.specs.Opened.{Opened}
 use Rattle.control_machine.specs.declared.machine.Machine.{Machine}
 use Rattle.control_machine.specs.Left.{left_in, rest_of, left_of, children_at, AreOpen, AreApart, IsOut, StandsIn}
 use Rattle.control_machine.proofs.PassLaws.{none-left, count-is}
-use Rattle.control_machine.proofs.CameSteps.{same_element}
+use Rattle.control_machine.proofs.CursorCalls.{same_element}
 
 -- the machine of this group
 abbrev pub first_of : ℕ → Loops → ℕ → Opened → List ℕ → Signal → List Link → Machine

@@ -1,9 +1,8 @@
 -- How many turns the open elements can still take, at most: the measure of the machine's search for its next move.
-use Rattle.std.specs.Prelude.{ℕ, zero, suc, ◌+◌, ◌-◌, ◌*◌, ◌<◌, List, [], ◌∷◌, length, Option, Some, None}
+use Rattle.std.specs.Prelude.{ℕ, zero, suc, ◌+◌, ◌-◌, ◌*◌, List, [], ◌∷◌, length}
 use Rattle.element_tree.specs.declared.kinds.Element.{Element}
-use Rattle.element_tree.specs.declared.package.Turn.{Turn}
-use Rattle.element_tree.specs.declared.package.Turn.TheVariants as turns
 use Rattle.cursor_steps.specs.declared.pass.Pass.{Pass}
+use Rattle.choice_controllers.specs.Chosen.{waiting}
 use Rattle.choice_controllers.specs.RandomOrderController.{order_of}
 use Rattle.control_machine.specs.declared.cursor.Cursor.{Cursor}
 use Rattle.control_machine.specs.declared.cursor.Cursor.TheVariants.{Simple, Once, Loop, If, While, Each, Interleave, Random, Order, Switch, Transaction, Section}
@@ -24,11 +23,6 @@ scale children (suc depth) = (children + 2) * scale children depth
 abbrev pub remaining : Pass → ℕ
 remaining p = p.children - p.next
 
--- the child that was chosen
-abbrev pub waiting : Option ℕ → ℕ
-waiting None = 0
-waiting (Some place) = 1
-
 abbrev pub children_left : Cursor → ℕ
 children_left (Simple c) = remaining c.pass
 children_left (Once c) = remaining c.pass
@@ -42,12 +36,6 @@ children_left (Order c) = length (order_of c) - c.next
 children_left (Switch c) = waiting c.chosen
 children_left (Transaction c) = remaining c.children.pass
 children_left (Section c) = remaining c.children.pass
-
--- an element that answers a child has fewer of them left
-abbrev pub TakesChild : ℕ → ℕ → Turn → Type 0
-TakesChild old new (turns.Child place) = new < old
-TakesChild old new turns.Round = Unit {0}
-TakesChild old new turns.Over = Unit {0}
 
 -- the load of the open elements
 unfoldable pub load : ℕ → List Frame → ℕ

@@ -1,7 +1,7 @@
 -- What an open element answers, and what is left after the answer.
 use Rattle.std.specs.Prelude.{ℕ, List, drop, take, Some, None, slice_get}
 use Rattle.jm_base.specs.declared.types.End.TheVariants.{ValueLimit}
-use Rattle.jm_base.specs.Run.{Run, over}
+use Rattle.jm_base.specs.Run.{Run, over, ◌>>=◌}
 use Rattle.element_tree.specs.declared.package.Turn.{Turn}
 use Rattle.element_tree.specs.declared.package.Turn.TheVariants.{Child, Round, Over}
 use Rattle.cursor_steps.specs.declared.pass.Pass.{Pass}
@@ -36,3 +36,11 @@ begun left own step = elim step.answer [
   | None ↦ past (state_of step.state own)
   | Some u ↦ left step.cursor (state_of step.state own)
 ]
+
+-- a call of a cursor, and what is left after it
+abbrev pub stepping : {C : Type 0} → Below → (C → ℕ) → List ℕ → (C → Part) → Own → Run (Step Turn C) → Run Ending
+stepping below round children left own call = call >>= stepped below round children left own
+
+-- the same where an element is entered
+abbrev pub beginning : {C : Type 0} → (C → Part) → Own → Run (Step (Unit {0}) C) → Run Ending
+beginning left own call = call >>= begun left own

@@ -1,15 +1,20 @@
 -- What one turn of a machine comes to.
-use Rattle.std.specs.Prelude.{◌≡◌, ◌⊎◌, ℕ, ◌+◌, ◌-◌, ◌*◌, ◌<◌, ◌≤◌, List, ◌∷◌, Option, Some, None, Bool, ◌&&◌, nat_lt, if◌then◌else◌}
+use Rattle.std.specs.Prelude.{◌≡◌, ◌⊎◌, ℕ, ◌+◌, ◌-◌, ◌*◌, ◌<◌, ◌≤◌, List, ◌∷◌, Option, Some, None, Bool, ◌&&◌, nat_lt, if◌then◌else◌, Result, OnErr}
 use Rattle.jm_base.specs.declared.types.End.TheVariants.{StopThread, StopTest}
 use Rattle.jm_base.specs.Run.{Run}
+use Rattle.jm_base.specs.Outside.{Account}
 use Rattle.element_tree.specs.declared.kinds.Element.{Element}
 use Rattle.element_tree.specs.declared.package.Turn.{Turn}
 use Rattle.element_tree.specs.Tree.{Tree}
+use Rattle.var_functions.specs.declared.error.VarError.{VarError}
+use Rattle.var_functions.specs.declared.state.UserState.{UserState}
+use Rattle.var_functions.specs.Came.{CameTo}
 use Rattle.jm_meaning.specs.declared.signal.Signal.{Signal}
 use Rattle.jm_meaning.specs.declared.signal.Signal.TheVariants.{Normal, NextLoop, Stop}
 use Rattle.jm_meaning.specs.State.{State, Ending}
 use Rattle.jm_meaning.specs.Children.{children_of}
 use Rattle.jm_meaning.specs.Meaning.{meaning}
+use Rattle.jm_meaning.specs.Sections.{leaving_open}
 use Rattle.control_machine.specs.declared.stack.Frame.{Frame}
 use Rattle.control_machine.specs.declared.machine.Group.{Group}
 use Rattle.control_machine.specs.declared.machine.Machine.{Machine}
@@ -20,9 +25,10 @@ use Rattle.control_machine.specs.declared.moves.Move.TheVariants.{Iteration, Run
 use Rattle.control_machine.specs.declared.moves.Leave.{Leave}
 use Rattle.control_machine.specs.declared.moves.Leave.TheVariants as leaves
 use Rattle.jm_meaning.specs.Transactions.{gives_sample}
-use Rattle.control_machine.specs.Moves.{turned}
+use Rattle.control_machine.specs.Moves.{turned, past}
 use Rattle.control_machine.specs.Cursors.{cursor_left, round_in, Shut, Plain, Summing, Leaving, shut_of}
-use Rattle.control_machine.specs.Left.{left_of, left_in, left_after, closed, here_in, moved, IsMove}
+use Rattle.control_machine.specs.Left.{Beside, StandsIn, left_of, left_in, left_after, closed, here_in, state_at, moved, IsMove, open_lock}
+use Rattle.control_machine.specs.MachineCut.{IsCut}
 use Rattle.control_machine.specs.Load.{children_count, scale, load, remaining, children_left}
 
 -- what is left after a turn
@@ -119,3 +125,38 @@ MovesLock move old new = new ≡ old
 abbrev pub MovesLockOn : Went → Option ℕ → Option ℕ → Type 0
 MovesLockOn On old new = new ≡ old
 MovesLockOn (To move) old new = MovesLock move old new
+
+-- ---- a turn
+
+-- what is left of a thread's rounds before a turn, by what is kept beside the machine
+abbrev pub left_before : Tree → Machine → UserState → Beside → Run Ending
+left_before plan m user beside = left_of plan m (state_at m beside user)
+
+-- Between two moments of the outside a machine came from this run to what is left after its turn; or past a limit, where the
+-- section of this lock is left. Where it was refused, it was cut on its way.
+pub record Turns (plan : Tree) (before : Account) (run : Beside → Run Ending) (section : Option ℕ) (after : Account) (new : Machine) (user : UserState) (result : Result Went VarError) : Type 0 where
+  pub came : (beside : Beside) → CameTo before (run beside) after (went plan new (state_at new beside user)) (leaving_open section (past (state_at new beside user))) result
+  pub cut : OnErr result (IsCut plan before run after user)
+
+-- A machine after a turn that was not refused: it stands in its plan, and so does what it names; it is on no way out where it
+-- names a sampler or the begin of a round; the section that is open is the one that the move leaves open; no round is given
+-- back, and a round that begins is named by its index. Before the turn this many rounds were left, and this section was open.
+pub record TakesTurn (plan : Tree) (left : ℕ) (section : Option ℕ) (new : Machine) (w : Went) : Type 0 where
+  pub given : IsWent plan.elements w
+  pub stands : StandsIn plan new
+  pub normal : IsNormalOn w new.signal
+  pub lock : MovesLockOn w section (open_lock new.stack.frames)
+  pub rounds : IsRoundless w left new.rounds
+  pub index : IsRoundIn w new.group
+
+-- the same thread: its group, and what a failed sample leads to
+abbrev pub SameThread : Machine → Machine → Type 0
+SameThread old new = (new.group.element ≡ old.group.element) × (new.at_failure ≡ old.at_failure)
+
+-- the same but for the open elements and the places of the Interleave Controllers
+pub record SameRest (old new : Machine) : Type 0 where
+  pub group : new.group ≡ old.group
+  pub rounds : new.rounds ≡ old.rounds
+  pub failure : new.at_failure ≡ old.at_failure
+  pub signal : new.signal ≡ old.signal
+  pub links : new.links ≡ old.links

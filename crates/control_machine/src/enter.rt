@@ -1,11 +1,9 @@
 // Elements that are entered.
 
-ghost use Rattle.std.specs.Prelude.{◌≡◌, slice_get, length, Some, ℕ, List, Bool, IfOk, OnErr};
-ghost use Rattle.template_text.specs.Pieces.{Pieces};
+ghost use Rattle.std.specs.Prelude.{◌≡◌, slice_get, length, Some, ℕ, List, IfOk, OnErr};
 ghost use Rattle.element_tree.specs.declared.kinds.Element.{Element};
 ghost use Rattle.var_functions.specs.Came.{CameTo};
 ghost use Rattle.cursor_steps.specs.CursorStep.{IsThere};
-ghost use Rattle.logic_controllers.specs.ForEachController.{Row, kind_of};
 ghost use Rattle.jm_meaning.specs.State.{Own, State, state_of, at_places};
 ghost use Rattle.jm_meaning.specs.Children.{Below, children_of};
 ghost use Rattle.jm_meaning.specs.Meaning.{kind_meaning};
@@ -15,10 +13,11 @@ ghost use Rattle.control_machine.specs.Moves.{past};
 ghost use Rattle.control_machine.specs.Entering.{here_with, entered, EnteredFits, EntersLock};
 
 use crate::cursor::Cursor;
+use crate::opens::Enters;
 use crate::section::OpenSection;
 use crate::transaction::OpenTransaction;
 use choice_controllers::{InterleaveCursor, OrderCursor, RandomCursor, SwitchCursor};
-use cursor_steps::{Pass, run_count};
+use cursor_steps::{Controller, Pass, run_count};
 use element_tree::{Element, Kind, Plan};
 use jm_base::Outside;
 use jm_meaning::{Places, Tally};
@@ -37,138 +36,32 @@ pub enum Entered {
     Open(Cursor),
 }
 
-fn enter_simple<O: Outside>(
+// Enters an element that cursors of this type serve.
+fn enter_as<C: Enters, O: Outside>(
     alloc: Global,
     plan: &Plan,
     child: u16,
     state: &mut UserState,
     outside: &mut O,
 ) -> Result<Entered, VarError>
-    requires there { (e : Element) × IsThere plan.now.elements child e (Kind.Simple) }
-    ensures came { (e : Element) (failure : Signal) (below : Below) (round : ℕ) (own : Own) → IsThere plan.now.elements child e (Kind.Simple)
-        → CameTo (O.account outside.old) (kind_meaning (here_with plan.now failure) below child e (Kind.Simple) round (state_of state.old own)) (O.account outside.new)
+    requires there { (e : Element) × (slice_get plan.now.elements child ≡ Some e) × C.serves e.kind }
+    ensures came { (e : Element) (failure : Signal) (below : Below) (round : ℕ) (own : Own) → slice_get plan.now.elements child ≡ Some e
+        → CameTo (O.account outside.old) (kind_meaning (here_with plan.now failure) below child e e.kind round (state_of state.old own)) (O.account outside.new)
         (entered (here_with plan.now failure) below child round e (state_of state.new own)) (past (state_of state.new own)) result }
     ensures fits { IfOk result (λ x. (e : Element) → slice_get plan.now.elements child ≡ Some e
         → EnteredFits child (length (children_of plan.now.elements e)) e.kind x) }
     ensures stands { StandsLater state.old state.new }
 {
-    let mut cursor = SimpleCursor::new(child);
+    C::laws();
+    C::means();
+    let mut cursor = C::new(child);
     match cursor.enter(alloc, plan, state, outside) {
-        Ok(()) => Ok(Entered::Open(Cursor::Simple(cursor))),
+        Ok(()) => Ok(Entered::Open(cursor.open())),
         Err(error) => Err(error),
     }
 }
 
-fn enter_once<O: Outside>(
-    alloc: Global,
-    plan: &Plan,
-    child: u16,
-    state: &mut UserState,
-    outside: &mut O,
-) -> Result<Entered, VarError>
-    requires there { (e : Element) × IsThere plan.now.elements child e (Kind.OnceOnly) }
-    ensures came { (e : Element) (failure : Signal) (below : Below) (round : ℕ) (own : Own) → IsThere plan.now.elements child e (Kind.OnceOnly)
-        → CameTo (O.account outside.old) (kind_meaning (here_with plan.now failure) below child e (Kind.OnceOnly) round (state_of state.old own)) (O.account outside.new)
-        (entered (here_with plan.now failure) below child round e (state_of state.new own)) (past (state_of state.new own)) result }
-    ensures fits { IfOk result (λ x. (e : Element) → slice_get plan.now.elements child ≡ Some e
-        → EnteredFits child (length (children_of plan.now.elements e)) e.kind x) }
-    ensures stands { StandsLater state.old state.new }
-{
-    let mut cursor = OnceCursor::new(child);
-    match cursor.enter(alloc, plan, state, outside) {
-        Ok(()) => Ok(Entered::Open(Cursor::Once(cursor))),
-        Err(error) => Err(error),
-    }
-}
-
-fn enter_loop<O: Outside>(
-    alloc: Global,
-    plan: &Plan,
-    child: u16,
-    state: &mut UserState,
-    outside: &mut O,
-) -> Result<Entered, VarError>
-    requires there { (e : Element) × (loops : Pieces) × IsThere plan.now.elements child e (Kind.Loop loops) }
-    ensures came { (e : Element) (loops : Pieces) (failure : Signal) (below : Below) (round : ℕ) (own : Own) → IsThere plan.now.elements child e (Kind.Loop loops)
-        → CameTo (O.account outside.old) (kind_meaning (here_with plan.now failure) below child e (Kind.Loop loops) round (state_of state.old own)) (O.account outside.new)
-        (entered (here_with plan.now failure) below child round e (state_of state.new own)) (past (state_of state.new own)) result }
-    ensures fits { IfOk result (λ x. (e : Element) → slice_get plan.now.elements child ≡ Some e
-        → EnteredFits child (length (children_of plan.now.elements e)) e.kind x) }
-    ensures stands { StandsLater state.old state.new }
-{
-    let mut cursor = LoopCursor::new(child);
-    match cursor.enter(alloc, plan, state, outside) {
-        Ok(()) => Ok(Entered::Open(Cursor::Loop(cursor))),
-        Err(error) => Err(error),
-    }
-}
-
-fn enter_if<O: Outside>(
-    alloc: Global,
-    plan: &Plan,
-    child: u16,
-    state: &mut UserState,
-    outside: &mut O,
-) -> Result<Entered, VarError>
-    requires there { (e : Element) × (all : Bool) × (condition : Pieces) × IsThere plan.now.elements child e (Kind.If all condition) }
-    ensures came { (e : Element) (all : Bool) (condition : Pieces) (failure : Signal) (below : Below) (round : ℕ) (own : Own) → IsThere plan.now.elements child e (Kind.If all condition)
-        → CameTo (O.account outside.old) (kind_meaning (here_with plan.now failure) below child e (Kind.If all condition) round (state_of state.old own)) (O.account outside.new)
-        (entered (here_with plan.now failure) below child round e (state_of state.new own)) (past (state_of state.new own)) result }
-    ensures fits { IfOk result (λ x. (e : Element) → slice_get plan.now.elements child ≡ Some e
-        → EnteredFits child (length (children_of plan.now.elements e)) e.kind x) }
-    ensures stands { StandsLater state.old state.new }
-{
-    let mut cursor = IfCursor::new(child);
-    match cursor.enter(alloc, plan, state, outside) {
-        Ok(()) => Ok(Entered::Open(Cursor::If(cursor))),
-        Err(error) => Err(error),
-    }
-}
-
-fn enter_while<O: Outside>(
-    alloc: Global,
-    plan: &Plan,
-    child: u16,
-    state: &mut UserState,
-    outside: &mut O,
-) -> Result<Entered, VarError>
-    requires there { (e : Element) × (condition : Pieces) × IsThere plan.now.elements child e (Kind.While condition) }
-    ensures came { (e : Element) (condition : Pieces) (failure : Signal) (below : Below) (round : ℕ) (own : Own) → IsThere plan.now.elements child e (Kind.While condition)
-        → CameTo (O.account outside.old) (kind_meaning (here_with plan.now failure) below child e (Kind.While condition) round (state_of state.old own)) (O.account outside.new)
-        (entered (here_with plan.now failure) below child round e (state_of state.new own)) (past (state_of state.new own)) result }
-    ensures fits { IfOk result (λ x. (e : Element) → slice_get plan.now.elements child ≡ Some e
-        → EnteredFits child (length (children_of plan.now.elements e)) e.kind x) }
-    ensures stands { StandsLater state.old state.new }
-{
-    let mut cursor = WhileCursor::new(child);
-    match cursor.enter(alloc, plan, state, outside) {
-        Ok(()) => Ok(Entered::Open(Cursor::While(cursor))),
-        Err(error) => Err(error),
-    }
-}
-
-fn enter_each<O: Outside>(
-    alloc: Global,
-    plan: &Plan,
-    child: u16,
-    state: &mut UserState,
-    outside: &mut O,
-) -> Result<Entered, VarError>
-    requires there { (e : Element) × (row : Row) × (output : List ℕ) × IsThere plan.now.elements child e (kind_of row output) }
-    ensures came { (e : Element) (row : Row) (output : List ℕ) (failure : Signal) (below : Below) (round : ℕ) (own : Own) → IsThere plan.now.elements child e (kind_of row output)
-        → CameTo (O.account outside.old) (kind_meaning (here_with plan.now failure) below child e (kind_of row output) round (state_of state.old own)) (O.account outside.new)
-        (entered (here_with plan.now failure) below child round e (state_of state.new own)) (past (state_of state.new own)) result }
-    ensures fits { IfOk result (λ x. (e : Element) → slice_get plan.now.elements child ≡ Some e
-        → EnteredFits child (length (children_of plan.now.elements e)) e.kind x) }
-    ensures stands { StandsLater state.old state.new }
-{
-    let mut cursor = EachCursor::new(child);
-    match cursor.enter(alloc, plan, state, outside) {
-        Ok(()) => Ok(Entered::Open(Cursor::Each(cursor))),
-        Err(error) => Err(error),
-    }
-}
-
+// Enters an Interleave, whose place moves on.
 fn enter_interleave<O: Outside>(
     alloc: Global,
     plan: &Plan,
@@ -196,72 +89,6 @@ fn enter_interleave<O: Outside>(
             places.set(child, cursor.place);
             Ok(Entered::Open(Cursor::Interleave(cursor)))
         }
-        Err(error) => Err(error),
-    }
-}
-
-fn enter_random<O: Outside>(
-    alloc: Global,
-    plan: &Plan,
-    child: u16,
-    state: &mut UserState,
-    outside: &mut O,
-) -> Result<Entered, VarError>
-    requires there { (e : Element) × IsThere plan.now.elements child e (Kind.Random) }
-    ensures came { (e : Element) (failure : Signal) (below : Below) (round : ℕ) (own : Own) → IsThere plan.now.elements child e (Kind.Random)
-        → CameTo (O.account outside.old) (kind_meaning (here_with plan.now failure) below child e (Kind.Random) round (state_of state.old own)) (O.account outside.new)
-        (entered (here_with plan.now failure) below child round e (state_of state.new own)) (past (state_of state.new own)) result }
-    ensures fits { IfOk result (λ x. (e : Element) → slice_get plan.now.elements child ≡ Some e
-        → EnteredFits child (length (children_of plan.now.elements e)) e.kind x) }
-    ensures stands { StandsLater state.old state.new }
-{
-    let mut cursor = RandomCursor::new(child);
-    match cursor.enter(alloc, plan, state, outside) {
-        Ok(()) => Ok(Entered::Open(Cursor::Random(cursor))),
-        Err(error) => Err(error),
-    }
-}
-
-fn enter_order<O: Outside>(
-    alloc: Global,
-    plan: &Plan,
-    child: u16,
-    state: &mut UserState,
-    outside: &mut O,
-) -> Result<Entered, VarError>
-    requires there { (e : Element) × IsThere plan.now.elements child e (Kind.RandomOrder) }
-    ensures came { (e : Element) (failure : Signal) (below : Below) (round : ℕ) (own : Own) → IsThere plan.now.elements child e (Kind.RandomOrder)
-        → CameTo (O.account outside.old) (kind_meaning (here_with plan.now failure) below child e (Kind.RandomOrder) round (state_of state.old own)) (O.account outside.new)
-        (entered (here_with plan.now failure) below child round e (state_of state.new own)) (past (state_of state.new own)) result }
-    ensures fits { IfOk result (λ x. (e : Element) → slice_get plan.now.elements child ≡ Some e
-        → EnteredFits child (length (children_of plan.now.elements e)) e.kind x) }
-    ensures stands { StandsLater state.old state.new }
-{
-    let mut cursor = OrderCursor::new(child);
-    match cursor.enter(alloc, plan, state, outside) {
-        Ok(()) => Ok(Entered::Open(Cursor::Order(cursor))),
-        Err(error) => Err(error),
-    }
-}
-
-fn enter_switch<O: Outside>(
-    alloc: Global,
-    plan: &Plan,
-    child: u16,
-    state: &mut UserState,
-    outside: &mut O,
-) -> Result<Entered, VarError>
-    requires there { (e : Element) × (value : Pieces) × IsThere plan.now.elements child e (Kind.Switch value) }
-    ensures came { (e : Element) (value : Pieces) (failure : Signal) (below : Below) (round : ℕ) (own : Own) → IsThere plan.now.elements child e (Kind.Switch value)
-        → CameTo (O.account outside.old) (kind_meaning (here_with plan.now failure) below child e (Kind.Switch value) round (state_of state.old own)) (O.account outside.new)
-        (entered (here_with plan.now failure) below child round e (state_of state.new own)) (past (state_of state.new own)) result }
-    ensures fits { IfOk result (λ x. (e : Element) → slice_get plan.now.elements child ≡ Some e
-        → EnteredFits child (length (children_of plan.now.elements e)) e.kind x) }
-    ensures stands { StandsLater state.old state.new }
-{
-    let mut cursor = SwitchCursor::new(child);
-    match cursor.enter(alloc, plan, state, outside) {
-        Ok(()) => Ok(Entered::Open(Cursor::Switch(cursor))),
         Err(error) => Err(error),
     }
 }
@@ -324,16 +151,16 @@ fn enter_other<O: Outside>(
     match &element.kind {
         Kind::Script { .. } => Ok(Entered::Sampler),
         Kind::Http { .. } => Ok(Entered::Sampler),
-        Kind::Simple => enter_simple(alloc, plan, child, state, outside),
-        Kind::OnceOnly => enter_once(alloc, plan, child, state, outside),
-        Kind::Loop { .. } => enter_loop(alloc, plan, child, state, outside),
-        Kind::If { .. } => enter_if(alloc, plan, child, state, outside),
-        Kind::While { .. } => enter_while(alloc, plan, child, state, outside),
-        Kind::ForEach { .. } => enter_each(alloc, plan, child, state, outside),
+        Kind::Simple => enter_as::<SimpleCursor, O>(alloc, plan, child, state, outside),
+        Kind::OnceOnly => enter_as::<OnceCursor, O>(alloc, plan, child, state, outside),
+        Kind::Loop { .. } => enter_as::<LoopCursor, O>(alloc, plan, child, state, outside),
+        Kind::If { .. } => enter_as::<IfCursor, O>(alloc, plan, child, state, outside),
+        Kind::While { .. } => enter_as::<WhileCursor, O>(alloc, plan, child, state, outside),
+        Kind::ForEach { .. } => enter_as::<EachCursor, O>(alloc, plan, child, state, outside),
         Kind::Interleave => enter_interleave(alloc, plan, child, places, state, outside),
-        Kind::Random => enter_random(alloc, plan, child, state, outside),
-        Kind::RandomOrder => enter_order(alloc, plan, child, state, outside),
-        Kind::Switch { .. } => enter_switch(alloc, plan, child, state, outside),
+        Kind::Random => enter_as::<RandomCursor, O>(alloc, plan, child, state, outside),
+        Kind::RandomOrder => enter_as::<OrderCursor, O>(alloc, plan, child, state, outside),
+        Kind::Switch { .. } => enter_as::<SwitchCursor, O>(alloc, plan, child, state, outside),
         Kind::Transaction => Ok(enter_transaction(plan, child, element)),
         _ => Ok(Entered::Nothing),
     }

@@ -1,13 +1,14 @@
 //! The machine of a thread's plan: it goes from one move to the next, through the thread's rounds and their open elements.
 #![tactic(auto)]
 
-pub mod cursor;
-pub mod enter;
+mod cursor;
+mod enter;
 pub mod machine;
 pub mod moves;
-pub mod section;
+mod opens;
+mod section;
 pub mod stack;
-pub mod transaction;
+mod transaction;
 mod turns;
 
 pub use cursor::Cursor;

@@ -11,7 +11,7 @@ ghost use Rattle.jm_meaning.specs.Meaning.{group_part, here_at, failure_of};
 ghost use Rattle.jm_meaning.specs.Beginning.{max_rounds, first_places};
 ghost use Rattle.control_machine.specs.Moves.{past};
 ghost use Rattle.control_machine.specs.Left.{Beside, StandsIn, left_of, state_at, moved, IsMove, open_lock};
-ghost use Rattle.control_machine.specs.Turns.{Lightens, TakesRound, IsRoundless, IsNormalAt, IsNormalOn, IsRoundOf, IsRoundIn, MovesLock, MovesLockOn, went, IsWent, signal_left};
+ghost use Rattle.control_machine.specs.Turns.{Lightens, TakesRound, IsNormalAt, IsRoundOf, MovesLock, TakesTurn, Turns, SameThread, left_before, signal_left};
 ghost use Rattle.control_machine.specs.Load.{load_of};
 ghost use Rattle.control_machine.specs.Hearing.{told};
 ghost use Rattle.control_machine.specs.MachineCut.{IsCut};
@@ -172,20 +172,12 @@ impl Machine {
         outside: &mut O,
     ) -> Result<Went, VarError>
         requires { StandsIn plan.now self.old }
-        ensures came { (beside : Beside)
-            → CameTo (O.account outside.old) (left_of plan.now self.old (state_at self.old beside state.old)) (O.account outside.new)
-            (went plan.now self.new (state_at self.new beside state.new))
-            (leaving_open (open_lock self.old.stack.frames) (past (state_at self.new beside state.new))) result }
-        ensures given { IfOk result (IsWent plan.now.elements) }
-        ensures stands { IfOk result (λ w. StandsIn plan.now self.new) }
+        ensures turns { Turns plan.now (O.account outside.old) (left_before plan.now self.old state.old)
+            (open_lock self.old.stack.frames) (O.account outside.new) self.new state.new result }
         ensures lighter { IfOk result (λ w. Lightens w (load_of plan.now.elements self.old) (load_of plan.now.elements self.new)) }
-        ensures normal { IfOk result (λ w. IsNormalOn w self.new.signal) }
-        ensures lock { IfOk result (λ w. MovesLockOn w (open_lock self.old.stack.frames) (open_lock self.new.stack.frames)) }
-        ensures rounds { IfOk result (λ w. IsRoundless w self.old.rounds self.new.rounds) }
-        ensures index { IfOk result (λ w. IsRoundIn w self.new.group) }
-        ensures thread { (self.new.group.element ≡ self.old.group.element) × (self.new.at_failure ≡ self.old.at_failure) }
+        ensures goes { IfOk result (TakesTurn plan.now self.old.rounds (open_lock self.old.stack.frames) self.new) }
+        ensures thread { SameThread self.old self.new }
         ensures later { IsLater state.old.fns state.new.fns }
-        ensures cut { OnErr result (IsCut plan.now (O.account outside.old) (λ beside. left_of plan.now self.old (state_at self.old beside state.old)) (O.account outside.new) state.new) }
     {
         match self.signal {
             Signal::Normal => self.go_on(alloc, plan, state, outside),

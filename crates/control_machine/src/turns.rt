@@ -1,26 +1,22 @@
 // The turns of a machine.
 
-ghost use Rattle.std.specs.Prelude.{◌≡◌, is_some, ◌+◌, ◌-◌, ◌≤◌, ◌<◌, slice_get, Some, List, [], ◌∷◌, IfOk, OnErr, MatchResult};
+ghost use Rattle.std.specs.Prelude.{◌≡◌, is_some, ◌+◌, ◌-◌, ◌≤◌, ◌<◌, slice_get, Some, List, [], ◌∷◌, IfOk, MatchResult};
 ghost use Rattle.element_tree.specs.declared.kinds.Element.{Element};
 ghost use Rattle.element_tree.specs.Tree.{Tree, Nests, Apart};
 ghost use Rattle.jm_base.specs.Run.{over};
-ghost use Rattle.var_functions.specs.Came.{CameTo};
 ghost use Rattle.var_functions.specs.FunctionState.{IsLater};
-ghost use Rattle.logic_controllers.specs.ControllerRounds.{begun_after};
+ghost use Rattle.cursor_steps.specs.RunningChildren.{begun_after, TakesChild};
 ghost use Rattle.jm_meaning.specs.State.{normal};
 ghost use Rattle.jm_meaning.specs.Children.{children_of};
 ghost use Rattle.jm_meaning.specs.Meaning.{meaning};
-ghost use Rattle.jm_meaning.specs.Sections.{leaving_open};
 ghost use Rattle.jm_meaning.specs.Transactions;
 ghost use Rattle.jm_meaning.specs.Beginning.{max_rounds};
 ghost use Rattle.jm_meaning.specs.declared.signal.Signal.{Signal};
 ghost use Rattle.node_table.specs.ElementLinks.{links_of};
-ghost use Rattle.control_machine.specs.Moves.{past};
 ghost use Rattle.control_machine.specs.Left.{Beside, StandsIn, GroupIsOpen, IsOpen, IsApart, left_of, left_after, state_at, moved, IsMove, here_in, open_lock};
-ghost use Rattle.control_machine.specs.Turns.{Lightens, TakesRound, IsRoundless, IsNormalAt, IsNormalOn, IsRoundOf, IsRoundIn, MovesLock, MovesLockOn, went, IsWent, opening_move, closing_move, closing_of, left_from, left_answered, load_in, IsOpened};
+ghost use Rattle.control_machine.specs.Turns.{Lightens, TakesRound, IsRoundless, IsNormalAt, IsNormalOn, IsRoundOf, IsRoundIn, MovesLock, MovesLockOn, went, IsWent, opening_move, closing_move, closing_of, left_from, left_answered, load_in, IsOpened, TakesTurn, Turns, SameThread, SameRest, left_before};
 ghost use Rattle.control_machine.specs.Cursors.{shut_of, Summing};
-ghost use Rattle.control_machine.specs.Load.{children_left, TakesChild, load_of};
-ghost use Rattle.control_machine.specs.MachineCut.{IsCut};
+ghost use Rattle.control_machine.specs.Load.{children_left, load_of};
 
 use crate::cursor::Cursor;
 use crate::enter::{Entered, enter};
@@ -48,7 +44,7 @@ impl Machine {
         ensures lock { (plan : Tree) → StandsIn plan self.old → MovesLockOn result (open_lock self.old.stack.frames) (open_lock self.new.stack.frames) }
         ensures rounds { IsRoundless result self.old.rounds self.new.rounds }
         ensures index { IsRoundIn result self.new.group }
-        ensures thread { (self.new.group.element ≡ self.old.group.element) × (self.new.at_failure ≡ self.old.at_failure) }
+        ensures thread { SameThread self.old self.new }
     {
         match self.stack.pop() {
             Some(frame) => close(&frame, self.signal),
@@ -68,7 +64,7 @@ impl Machine {
         ensures lock { MovesLock result (open_lock self.old.stack.frames) (open_lock self.new.stack.frames) }
         ensures rounds { TakesRound result self.old.rounds self.new.rounds }
         ensures index { IsRoundOf result self.new.group }
-        ensures thread { (self.new.group.element ≡ self.old.group.element) × (self.new.at_failure ≡ self.old.at_failure) }
+        ensures thread { SameThread self.old self.new }
     {
         if let Signal::Stop(end) = self.signal {
             return Move::Finished(end);
@@ -90,7 +86,7 @@ impl Machine {
         ensures lock { self.old.stack.frames ≡ [] → MovesLock result (open_lock self.old.stack.frames) (open_lock self.new.stack.frames) }
         ensures rounds { TakesRound result self.old.rounds self.new.rounds }
         ensures index { IsRoundOf result self.new.group }
-        ensures thread { (self.new.group.element ≡ self.old.group.element) × (self.new.at_failure ≡ self.old.at_failure) }
+        ensures thread { SameThread self.old self.new }
     {
         let index = self.group.begun;
         if !round_begins(self.group.loops, index) {
@@ -115,20 +111,12 @@ impl Machine {
     ) -> Result<Went, VarError>
         requires stands { StandsIn plan.now self.old }
         requires normal { self.old.signal ≡ Signal.Normal }
-        ensures came { (beside : Beside)
-            → CameTo (O.account outside.old) (left_of plan.now self.old (state_at self.old beside state.old)) (O.account outside.new)
-            (went plan.now self.new (state_at self.new beside state.new))
-            (leaving_open (open_lock self.old.stack.frames) (past (state_at self.new beside state.new))) result }
-        ensures given { IfOk result (IsWent plan.now.elements) }
-        ensures stands { IfOk result (λ w. StandsIn plan.now self.new) }
+        ensures turns { Turns plan.now (O.account outside.old) (left_before plan.now self.old state.old)
+            (open_lock self.old.stack.frames) (O.account outside.new) self.new state.new result }
         ensures lighter { IfOk result (λ w. Lightens w (load_of plan.now.elements self.old) (load_of plan.now.elements self.new)) }
-        ensures normal { IfOk result (λ w. IsNormalOn w self.new.signal) }
-        ensures lock { IfOk result (λ w. MovesLockOn w (open_lock self.old.stack.frames) (open_lock self.new.stack.frames)) }
-        ensures rounds { IfOk result (λ w. IsRoundless w self.old.rounds self.new.rounds) }
-        ensures index { IfOk result (λ w. IsRoundIn w self.new.group) }
-        ensures thread { (self.new.group.element ≡ self.old.group.element) × (self.new.at_failure ≡ self.old.at_failure) }
+        ensures goes { IfOk result (TakesTurn plan.now self.old.rounds (open_lock self.old.stack.frames) self.new) }
+        ensures thread { SameThread self.old self.new }
         ensures later { IsLater state.old.fns state.new.fns }
-        ensures cut { OnErr result (IsCut plan.now (O.account outside.old) (λ beside. left_of plan.now self.old (state_at self.old beside state.old)) (O.account outside.new) state.new) }
     {
         match self.stack.pop() {
             Some(frame) => self.frame_turn(frame, alloc, plan, state, outside),
@@ -150,20 +138,13 @@ impl Machine {
         requires open { IsOpen plan.now.elements max_rounds self.old.rounds frame }
         requires apart { IsApart plan.now.elements self.old.stack.frames frame }
         requires room { 0 < self.old.stack.room }
-        ensures came { (beside : Beside)
-            → CameTo (O.account outside.old) (left_from plan.now self.old frame (over (normal (state_at self.old beside state.old)))) (O.account outside.new)
-            (went plan.now self.new (state_at self.new beside state.new))
-            (leaving_open (open_lock (frame ∷ self.old.stack.frames)) (past (state_at self.new beside state.new))) result }
-        ensures given { IfOk result (IsWent plan.now.elements) }
-        ensures stands { IfOk result (λ w. StandsIn plan.now self.new) }
+        ensures turns { Turns plan.now (O.account outside.old)
+            (λ beside. left_from plan.now self.old frame (over (normal (state_at self.old beside state.old))))
+            (open_lock (frame ∷ self.old.stack.frames)) (O.account outside.new) self.new state.new result }
         ensures lighter { IfOk result (λ w. Lightens w (load_in plan.now.elements self.old (frame ∷ self.old.stack.frames)) (load_of plan.now.elements self.new)) }
-        ensures normal { IfOk result (λ w. IsNormalOn w self.new.signal) }
-        ensures lock { IfOk result (λ w. MovesLockOn w (open_lock (frame ∷ self.old.stack.frames)) (open_lock self.new.stack.frames)) }
-        ensures rounds { IfOk result (λ w. IsRoundless w self.old.rounds self.new.rounds) }
-        ensures index { IfOk result (λ w. IsRoundIn w self.new.group) }
-        ensures thread { (self.new.group.element ≡ self.old.group.element) × (self.new.at_failure ≡ self.old.at_failure) }
+        ensures goes { IfOk result (TakesTurn plan.now self.old.rounds (open_lock (frame ∷ self.old.stack.frames)) self.new) }
+        ensures thread { SameThread self.old self.new }
         ensures later { IsLater state.old.fns state.new.fns }
-        ensures cut { OnErr result (IsCut plan.now (O.account outside.old) (λ beside. left_from plan.now self.old frame (over (normal (state_at self.old beside state.old)))) (O.account outside.new) state.new) }
     {
         let mut cursor = frame.cursor;
         match cursor.next(alloc, plan, frame.round, state, outside) {
@@ -195,23 +176,14 @@ impl Machine {
         requires open { IsOpen plan.now.elements (begun_after max_rounds turn) self.old.rounds frame }
         requires apart { IsApart plan.now.elements self.old.stack.frames frame }
         requires room { 0 < self.old.stack.room }
-        ensures came { (e : Element) (beside : Beside) → slice_get plan.now.elements frame.element ≡ Some e
-            → CameTo (O.account outside.old)
-            (left_answered plan.now self.old frame e turn (state_at self.old beside state.old)) (O.account outside.new)
-            (went plan.now self.new (state_at self.new beside state.new))
-            (leaving_open (open_lock (frame ∷ self.old.stack.frames)) (past (state_at self.new beside state.new))) result }
-        ensures given { IfOk result (IsWent plan.now.elements) }
-        ensures stands { IfOk result (λ w. StandsIn plan.now self.new) }
+        ensures turns { (e : Element) → slice_get plan.now.elements frame.element ≡ Some e
+            → Turns plan.now (O.account outside.old) (λ beside. left_answered plan.now self.old frame e turn (state_at self.old beside state.old))
+            (open_lock (frame ∷ self.old.stack.frames)) (O.account outside.new) self.new state.new result }
         ensures lighter { IfOk result (λ w. (old : Frame) → old.depth ≡ frame.depth → TakesChild (children_left old.cursor) (children_left frame.cursor) turn
             → Lightens w (load_in plan.now.elements self.old (old ∷ self.old.stack.frames)) (load_of plan.now.elements self.new)) }
-        ensures normal { IfOk result (λ w. IsNormalOn w self.new.signal) }
-        ensures lock { IfOk result (λ w. MovesLockOn w (open_lock (frame ∷ self.old.stack.frames)) (open_lock self.new.stack.frames)) }
-        ensures rounds { IfOk result (λ w. IsRoundless w self.old.rounds self.new.rounds) }
-        ensures index { IfOk result (λ w. IsRoundIn w self.new.group) }
-        ensures thread { (self.new.group.element ≡ self.old.group.element) × (self.new.at_failure ≡ self.old.at_failure) }
+        ensures goes { IfOk result (TakesTurn plan.now self.old.rounds (open_lock (frame ∷ self.old.stack.frames)) self.new) }
+        ensures thread { SameThread self.old self.new }
         ensures later { IsLater state.old.fns state.new.fns }
-        ensures cut { (e : Element) → slice_get plan.now.elements frame.element ≡ Some e
-            → OnErr result (IsCut plan.now (O.account outside.old) (λ beside. left_answered plan.now self.old frame e turn (state_at self.old beside state.old)) (O.account outside.new) state.new) }
     {
         match turn {
             Turn::Over => Ok(close(&frame, self.signal)),
@@ -247,20 +219,12 @@ impl Machine {
         requires stands { StandsIn plan.now self.old }
         requires normal { self.old.signal ≡ Signal.Normal }
         requires empty { self.old.stack.frames ≡ [] }
-        ensures came { (beside : Beside)
-            → CameTo (O.account outside.old) (left_of plan.now self.old (state_at self.old beside state.old)) (O.account outside.new)
-            (went plan.now self.new (state_at self.new beside state.new))
-            (leaving_open (open_lock self.old.stack.frames) (past (state_at self.new beside state.new))) result }
-        ensures given { IfOk result (IsWent plan.now.elements) }
-        ensures stands { IfOk result (λ w. StandsIn plan.now self.new) }
+        ensures turns { Turns plan.now (O.account outside.old) (left_before plan.now self.old state.old)
+            (open_lock self.old.stack.frames) (O.account outside.new) self.new state.new result }
         ensures lighter { IfOk result (λ w. Lightens w (load_of plan.now.elements self.old) (load_of plan.now.elements self.new)) }
-        ensures normal { IfOk result (λ w. IsNormalOn w self.new.signal) }
-        ensures lock { IfOk result (λ w. MovesLockOn w (open_lock self.old.stack.frames) (open_lock self.new.stack.frames)) }
-        ensures rounds { IfOk result (λ w. IsRoundless w self.old.rounds self.new.rounds) }
-        ensures index { IfOk result (λ w. IsRoundIn w self.new.group) }
-        ensures thread { (self.new.group.element ≡ self.old.group.element) × (self.new.at_failure ≡ self.old.at_failure) }
+        ensures goes { IfOk result (TakesTurn plan.now self.old.rounds (open_lock self.old.stack.frames) self.new) }
+        ensures thread { SameThread self.old self.new }
         ensures later { IsLater state.old.fns state.new.fns }
-        ensures cut { OnErr result (IsCut plan.now (O.account outside.old) (λ beside. left_of plan.now self.old (state_at self.old beside state.old)) (O.account outside.new) state.new) }
     {
         match self.group.pass.next_child() {
             Some(place) => {
@@ -290,20 +254,13 @@ impl Machine {
         requires nests { Nests depth plan.now.elements child }
         requires apart { Apart depth (is_some (open_lock self.old.stack.frames)) plan.now.elements child }
         requires depth { depth ≤ 30 }
-        ensures came { (beside : Beside)
-            → CameTo (O.account outside.old) (left_after plan.now self.old (meaning (here_in plan.now self.old) depth child round (state_at self.old beside state.old))) (O.account outside.new)
-            (went plan.now self.new (state_at self.new beside state.new))
-            (leaving_open (open_lock self.old.stack.frames) (past (state_at self.new beside state.new))) result }
-        ensures given { IfOk result (IsWent plan.now.elements) }
-        ensures stands { IfOk result (λ w. StandsIn plan.now self.new) }
-        ensures rest { (self.new.group ≡ self.old.group) × (self.new.rounds ≡ self.old.rounds) × (self.new.at_failure ≡ self.old.at_failure) × (self.new.signal ≡ self.old.signal) × (self.new.links ≡ self.old.links) }
-        ensures lock { IfOk result (λ w. MovesLockOn w (open_lock self.old.stack.frames) (open_lock self.new.stack.frames)) }
+        ensures turns { Turns plan.now (O.account outside.old)
+            (λ beside. left_after plan.now self.old (meaning (here_in plan.now self.old) depth child round (state_at self.old beside state.old)))
+            (open_lock self.old.stack.frames) (O.account outside.new) self.new state.new result }
+        ensures goes { IfOk result (TakesTurn plan.now self.old.rounds (open_lock self.old.stack.frames) self.new) }
+        ensures rest { SameRest self.old self.new }
         ensures load { IfOk result (λ w. IsOpened plan.now.elements depth self.old.stack.frames self.new.stack.frames) }
-        ensures rounds { IfOk result (λ w. IsRoundless w self.old.rounds self.new.rounds) }
-        ensures index { IfOk result (λ w. IsRoundIn w self.new.group) }
         ensures later { IsLater state.old.fns state.new.fns }
-        ensures cut { OnErr result (IsCut plan.now (O.account outside.old)
-            (λ beside. left_after plan.now self.old (meaning (here_in plan.now self.old) depth child round (state_at self.old beside state.old))) (O.account outside.new) state.new) }
     {
         match enter(alloc, plan, child, &mut self.places, state, outside) {
             Ok(Entered::Nothing) => Ok(Went::On),
@@ -325,7 +282,7 @@ impl Machine {
         ensures pushed { MatchResult result
             (λ w. (w ≡ opening_move (shut_of cursor)) × (self.new.stack.frames ≡ record { element = element; round = round; depth = depth - 1; cursor = cursor } ∷ self.old.stack.frames))
             (λ e. e ≡ VarError.NoMemory) }
-        ensures rest { (self.new.group ≡ self.old.group) × (self.new.rounds ≡ self.old.rounds) × (self.new.at_failure ≡ self.old.at_failure) × (self.new.signal ≡ self.old.signal) × (self.new.links ≡ self.old.links) }
+        ensures rest { SameRest self.old self.new }
         ensures places { self.new.places ≡ self.old.places }
     {
         let went = opening_move(&cursor);

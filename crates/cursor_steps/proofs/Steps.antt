@@ -13,7 +13,7 @@ use Rattle.var_functions.specs.Vars.{Variables, Puts}
 use Rattle.var_functions.specs.Expansion.{expanded, expansion}
 use Rattle.var_functions.specs.Came.{CameTo, Refused, by_limit, by_memory}
 use Rattle.var_functions.proofs.CameLaws.{refused-bind}
-use Rattle.cursor_steps.specs.CursorStep.{Step, past_limit, with_vars, with_text, expanding}
+use Rattle.cursor_steps.specs.CursorStep.{Step, StepsTo, past_limit, with_vars, with_text, expanding, at_element}
 
 -- a template whose text came
 pub text-came : {A C : Type 0} (a b : Account) (template : Pieces) (old new : UserState) (text : List ℕ) (cursor : C) (next : List ℕ → UserState → Run (Step A C))
@@ -62,3 +62,8 @@ at-once a run limit = by_memory (run, goes-nothing a run)
 -- an element is one element
 pub same-element : (elements : List Element) (number : ℕ) (d e : Element) → Some d ≡ slice_get elements number → slice_get elements number ≡ Some e → d ≡ e
 same-element elements number d e h k = let i : Some d ≡ Some e = h ∙ k in cc
+
+-- a call that went on by its element
+pub by-element : {A C : Type 0} (a b : Account) (found : Option Element) (element : Element) (cursor new : C) (old after : UserState) (next : Element → Run (Step A C)) (res : Result A VarError)
+    → Some element ≡ found → StepsTo a (next element) b new after res → StepsTo a (at_element found cursor old next) b new after res
+by-element a b found element cursor new old after next res is came = subst (λ o. StepsTo a (at_element o cursor old next) b new after res) is came

@@ -38,6 +38,11 @@ with_text cursor state next x =
 abbrev pub expanding : {A C : Type 0} → Pieces → C → UserState → (List ℕ → UserState → Run (Step A C)) → Run (Step A C)
 expanding template cursor state next = expansion template state.vars state.fns >>= with_text cursor state next
 
+-- a call goes on by the element that the cursor stands for; there is no answer where it is not there
+abbrev pub at_element : {A C : Type 0} → Option Element → C → UserState → (Element → Run (Step A C)) → Run (Step A C)
+at_element None cursor state next = past_limit cursor state
+at_element (Some element) cursor state next = next element
+
 -- Between two moments of the outside the call came to its step: to its answer, with the cursor and the state as they are
 -- now; past a limit, with both as they are now; or, out of memory, to somewhere on its way.
 abbrev pub StepsTo : {A C : Type 0} → Account → Run (Step A C) → Account → C → UserState → Result A VarError → Type 0

@@ -1,5 +1,5 @@
 -- The children that a controller runs.
-use Rattle.std.specs.Prelude.{◌≡◌, ℕ, ◌+◌, ◌<◌, min, Bool, true, false, List, length, Option, Some, None, slice_get, nat_lt}
+use Rattle.std.specs.Prelude.{◌≡◌, ℕ, ◌+◌, ◌<◌, min, Bool, true, false, List, length, Option, Some, None, Result, IfOk, IsOkAnd, slice_get, nat_lt}
 use Rattle.std.specs.List.{filter}
 use Rattle.element_tree.specs.declared.kinds.Element.{Element}
 use Rattle.element_tree.specs.declared.types.Class.{Class}
@@ -7,6 +7,7 @@ use Rattle.element_tree.specs.declared.types.Class.TheVariants.{Controller, Samp
 use Rattle.element_tree.specs.declared.package.Turn.{Turn}
 use Rattle.element_tree.specs.declared.package.Turn.TheVariants.{Child, Round, Over}
 use Rattle.element_tree.specs.Types.{class_of}
+use Rattle.var_functions.specs.declared.error.VarError.{VarError}
 use Rattle.cursor_steps.specs.declared.pass.Pass.{Pass}
 
 -- controllers and samplers are run; elements of the other classes apply to samplers
@@ -59,3 +60,33 @@ abbrev pub Passes : Pass → Pass → Turn → Type 0
 Passes old new (Child place) = (place ≡ old.next) × (place < old.children) × (new ≡ after_child old)
 Passes old new Round = new ≡ pass_over old.children
 Passes old new Over = new ≡ old
+
+-- how a turn leaves the pass of a controller that runs its children in order
+pub record PassTurn (old new : Pass) (result : Result Turn VarError) : Type 0 where
+  pub child : IfOk result (IsAmong old.children)
+  pub pass : IfOk result (Passes old new)
+  pub children : new.children ≡ old.children
+
+-- the same of a controller that never refuses a turn
+pub record SurePassTurn (old new : Pass) (result : Result Turn VarError) : Type 0 where
+  pub child : IsOkAnd result (IsAmong old.children)
+  pub pass : IsOkAnd result (Passes old new)
+  pub children : new.children ≡ old.children
+
+-- ---- what turns do to a controller's rounds, and to the children that it still has to run
+
+-- a thread begins at most this many rounds
+abbrev pub most_rounds : ℕ
+most_rounds = 16777216
+
+-- how many rounds have begun after a turn
+abbrev pub begun_after : ℕ → Turn → ℕ
+begun_after begun (Child place) = begun
+begun_after begun Round = begun + 1
+begun_after begun Over = begun
+
+-- an element that answers a child has fewer of them left
+abbrev pub TakesChild : ℕ → ℕ → Turn → Type 0
+TakesChild old new (Child place) = new < old
+TakesChild old new Round = Unit {0}
+TakesChild old new Over = Unit {0}

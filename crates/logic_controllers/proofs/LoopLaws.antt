@@ -9,8 +9,6 @@ use Rattle.var_functions.specs.declared.state.UserState.{UserState}
 use Rattle.var_functions.specs.Vars.{Variables, Puts}
 use Rattle.var_functions.specs.Expansion.{expanded, expansion}
 use Rattle.var_functions.specs.Came.{Refused}
-use Rattle.element_tree.specs.declared.kinds.Element.{Element}
-use Rattle.element_tree.specs.declared.kinds.Kind.TheVariants.{Loop}
 use Rattle.element_tree.specs.declared.kinds.Loops.{Loops}
 use Rattle.element_tree.specs.declared.package.Turn.{Turn}
 use Rattle.logic_controllers.specs.declared.rounds.Rounds.{Rounds}
@@ -49,7 +47,3 @@ pub loop-stays : (a : Account) (name : List ℕ) (c : LoopCursor) (old : UserSta
     → Refused a (loop_next name c old) a (past_limit (record { element = c.element; loops = c.loops; rounds = rounds }) (record { vars = vars; fns = old.fns })) error
 loop-stays a name c old vars rounds error put same =
     rw same (vars-refused a (opened_vars name c.rounds old.vars) c old (loop_goes (record { element = c.element; loops = c.loops; rounds = opened c.rounds })) vars error put)
-
--- a Loop's template is one template
-pub same-loops : (d e : Element) (u t : Pieces) → d ≡ e → d.kind ≡ Loop u → e.kind ≡ Loop t → u ≡ t
-same-loops d e u t de h k = let i : Loop u ≡ Loop t = sym h ∙ ap (λ e. e.kind) de ∙ k in cc

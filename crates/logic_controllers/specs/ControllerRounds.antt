@@ -1,14 +1,10 @@
 -- The rounds of the Loop, While and ForEach Controllers.
-use Rattle.std.specs.Prelude.{ℕ, ◌+◌, ◌-◌, true, false, List, ◌++◌, Option, Some, codes, decimal, if◌then◌else◌}
+use Rattle.std.specs.Prelude.{◌≡◌, ℕ, ◌+◌, ◌-◌, true, false, List, ◌++◌, Option, Some, Result, IfOk, codes, decimal, if◌then◌else◌}
 use Rattle.element_tree.specs.declared.package.Turn.{Turn}
-use Rattle.element_tree.specs.declared.package.Turn.TheVariants.{Child, Round, Over}
+use Rattle.var_functions.specs.declared.error.VarError.{VarError}
 use Rattle.var_functions.specs.Vars.{Variables, put_var}
 use Rattle.logic_controllers.specs.declared.rounds.Rounds.{Rounds}
-use Rattle.cursor_steps.specs.RunningChildren.{none_left, pass_over}
-
--- a thread begins at most this many rounds
-abbrev pub most_rounds : ℕ
-most_rounds = 16777216
+use Rattle.cursor_steps.specs.RunningChildren.{none_left, pass_over, IsAmong, Passes, begun_after}
 
 -- before the first round
 abbrev pub before_rounds : ℕ → Rounds
@@ -17,12 +13,6 @@ before_rounds children = record { begun = 0; opening = false; pass = none_left c
 -- a round begins: its variables are still to be set, and all children are to be run
 abbrev pub round_begun : Rounds → Rounds
 round_begun r = record { begun = r.begun + 1; opening = true; pass = pass_over r.pass.children }
-
--- how many rounds have begun after a turn
-abbrev pub begun_after : ℕ → Turn → ℕ
-begun_after begun (Child place) = begun
-begun_after begun Round = begun + 1
-begun_after begun Over = begun
 
 -- the index variable of a looping element of this name
 abbrev pub index_name : List ℕ → List ℕ
@@ -35,3 +25,10 @@ opened_vars name r vars = if r.opening then put_var (index_name name) (decimal (
 
 abbrev pub opened : Rounds → Rounds
 opened r = record r { opening = false }
+
+-- how a turn leaves the rounds
+pub record RoundsTurn (old new : Rounds) (result : Result Turn VarError) : Type 0 where
+  pub child : IfOk result (IsAmong old.pass.children)
+  pub pass : IfOk result (Passes old.pass new.pass)
+  pub begun : IfOk result (λ turn. new.begun ≡ begun_after old.begun turn)
+  pub children : new.pass.children ≡ old.pass.children

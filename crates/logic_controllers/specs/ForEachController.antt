@@ -8,7 +8,7 @@ use Rattle.element_tree.specs.declared.kinds.Kind.TheVariants.{ForEach}
 use Rattle.element_tree.specs.declared.package.Turn.{Turn}
 use Rattle.element_tree.specs.declared.package.Turn.TheVariants.{Child, Round, Over}
 use Rattle.logic_controllers.specs.declared.each_cursor.EachCursor.{EachCursor}
-use Rattle.cursor_steps.specs.CursorStep.{Step, answers, with_vars}
+use Rattle.cursor_steps.specs.CursorStep.{Step, answers, past_limit, with_vars}
 use Rattle.cursor_steps.specs.RunningChildren.{is_left, after_child}
 use Rattle.logic_controllers.specs.ControllerRounds.{before_rounds, round_begun, opened_vars, opened}
 
@@ -60,6 +60,12 @@ each_opens name output c state next =
 
 abbrev pub each_next : List ℕ → Row → List ℕ → EachCursor → UserState → Run (Step Turn EachCursor)
 each_next name row output c state = each_opens name output c state (each_goes row (record c { rounds = opened c.rounds; value = None }))
+
+-- at an element of this kind and name
+abbrev pub each_next_at : Kind → List ℕ → EachCursor → UserState → Run (Step Turn EachCursor)
+each_next_at (ForEach end input output separator start) name c state =
+    each_next name (record { input = input; separator = separator; start = start; end = end }) output c state
+each_next_at kind name c state = past_limit c state
 
 -- both variables of the round were set
 abbrev pub AllSet : List ℕ → List ℕ → EachCursor → Variables → Variables → Type 0

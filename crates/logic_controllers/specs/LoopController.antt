@@ -5,12 +5,14 @@ use lib.Pointwise.{pointwise}
 use Rattle.jm_base.specs.Run.{Run}
 use Rattle.template_text.specs.Pieces.{Pieces}
 use Rattle.var_functions.specs.declared.state.UserState.{UserState}
+use Rattle.element_tree.specs.declared.kinds.Kind.{Kind}
+use Rattle.element_tree.specs.declared.kinds.Kind.TheVariants as kinds
 use Rattle.element_tree.specs.declared.kinds.Loops.{Loops}
 use Rattle.element_tree.specs.declared.kinds.Loops.TheVariants.{Forever, Times}
 use Rattle.element_tree.specs.declared.package.Turn.{Turn}
 use Rattle.element_tree.specs.declared.package.Turn.TheVariants.{Child, Round, Over}
 use Rattle.logic_controllers.specs.declared.loop_cursor.LoopCursor.{LoopCursor}
-use Rattle.cursor_steps.specs.CursorStep.{Step, answers, expanding, with_vars}
+use Rattle.cursor_steps.specs.CursorStep.{Step, answers, past_limit, expanding, with_vars}
 use Rattle.cursor_steps.specs.RunningChildren.{is_left, after_child}
 use Rattle.cursor_steps.specs.Numeral.{is_decimal}
 use Rattle.logic_controllers.specs.ControllerRounds.{before_rounds, round_begun, opened_vars, opened}
@@ -31,6 +33,11 @@ round_begins (Times n) index = nat_lt index n
 abbrev pub loop_enters : Pieces → ℕ → LoopCursor → UserState → Run (Step (Unit {0}) LoopCursor)
 loop_enters loops children c state =
     expanding loops c state (λ text state. answers tt (record c { loops = loops_of text; rounds = before_rounds children }) state)
+
+-- at an element of its kind
+abbrev pub loop_enters_at : Kind → ℕ → LoopCursor → UserState → Run (Step (Unit {0}) LoopCursor)
+loop_enters_at (kinds.Loop loops) children c state = loop_enters loops children c state
+loop_enters_at kind children c state = past_limit c state
 
 -- in a round the next child; after the last one the next round, where one is left
 abbrev pub loop_goes : LoopCursor → UserState → Run (Step Turn LoopCursor)

@@ -7,10 +7,12 @@ use Rattle.jm_base.specs.Run.{Run}
 use Rattle.template_text.specs.Pieces.{Pieces}
 use Rattle.var_functions.specs.declared.state.UserState.{UserState}
 use Rattle.var_functions.specs.Vars.{Variables, value_of}
+use Rattle.element_tree.specs.declared.kinds.Kind.{Kind}
+use Rattle.element_tree.specs.declared.kinds.Kind.TheVariants as kinds
 use Rattle.element_tree.specs.declared.package.Turn.{Turn}
 use Rattle.element_tree.specs.declared.package.Turn.TheVariants.{Child, Round, Over}
 use Rattle.logic_controllers.specs.declared.while_cursor.WhileCursor.{WhileCursor}
-use Rattle.cursor_steps.specs.CursorStep.{Step, answers, expanding, with_vars}
+use Rattle.cursor_steps.specs.CursorStep.{Step, answers, past_limit, expanding, with_vars}
 use Rattle.cursor_steps.specs.RunningChildren.{is_left, after_child}
 use Rattle.logic_controllers.specs.ControllerRounds.{before_rounds, round_begun, opened_vars, opened}
 
@@ -55,6 +57,11 @@ while_goes condition c state =
 abbrev pub while_next : List ℕ → Pieces → WhileCursor → UserState → Run (Step Turn WhileCursor)
 while_next name condition c state =
     with_vars (opened_vars name c.rounds state.vars) c state (while_goes condition (record c { rounds = opened c.rounds }))
+
+-- at an element of this kind and name
+abbrev pub while_next_at : Kind → List ℕ → WhileCursor → UserState → Run (Step Turn WhileCursor)
+while_next_at (kinds.While condition) name c state = while_next name condition c state
+while_next_at kind name c state = past_limit c state
 
 -- how a refusal leaves the cursor and the variables: as they were, or with the round open
 abbrev pub WhileKept : List ℕ → WhileCursor → Variables → WhileCursor → Variables → Type 0

@@ -1,23 +1,22 @@
 // The cursor of a ForEach Controller.
 
-ghost use Rattle.std.specs.Prelude.{◌≡◌, ◌+◌, ◌<◌, ◌≤◌, slice_get, List, ℕ, IfOk, IfSome, OnOk, OnErr, None, Some};
+ghost use Rattle.std.specs.Prelude.{◌≡◌, ◌+◌, ◌<◌, ◌≤◌, IfOk, IfSome, OnOk, OnErr, None};
 ghost use Rattle.jm_base.specs.Run.{Run};
 ghost use Rattle.jm_base.specs.Outside.{Account};
-ghost use Rattle.element_tree.specs.declared.kinds.Element.{Element};
 ghost use Rattle.var_functions.specs.Vars.{Puts, value_of};
 ghost use Rattle.var_functions.specs.FunctionState.{Functions};
 ghost use Rattle.var_functions.specs.Came.{CameTo};
-ghost use Rattle.cursor_steps.specs.CursorStep.{Step, past_limit, StepsTo, IsThere};
-ghost use Rattle.cursor_steps.specs.RunningChildren.{IsAmong, run_count, Passes};
-ghost use Rattle.logic_controllers.specs.ControllerRounds.{before_rounds, begun_after, opened};
-ghost use Rattle.logic_controllers.specs.ForEachController.{Row, kind_of, input_name, value_at, output_vars, each_enters, each_goes, each_opens, each_next, AllSet, EachKept};
+ghost use Rattle.cursor_steps.specs.CursorStep.{Step, past_limit, StepsTo};
+ghost use Rattle.cursor_steps.specs.RunningChildren.{IsAmong, Passes, begun_after};
+ghost use Rattle.logic_controllers.specs.ControllerRounds.{opened};
+ghost use Rattle.logic_controllers.specs.ForEachController.{input_name, value_at, output_vars, each_goes, each_opens, each_next, AllSet, EachKept};
 
-use crate::rounds::{Rounds, decimal_text, put_text};
-use cursor_steps::run_count;
+use crate::rounds::{Rounds, put_text};
+use cursor_steps::{Controller, run_count};
 use element_tree::{Kind, Plan, Turn};
 use jm_base::{M, Outside, Text};
 use std::alloc::Global;
-use var_functions::{UserState, VarError, Vars};
+use var_functions::{UserState, VarError, Vars, decimal_text};
 
 /// What a ForEach Controller does next (the manual's "ForEach Controller"): it runs its children once for each variable
 /// of a numbered row, whose value goes to another variable.
@@ -79,11 +78,39 @@ pub fn value_at(alloc: Global, vars: &Vars, input: &Text, span: Span, index: u32
     Ok(value)
 }
 
-impl EachCursor {
-    /// The cursor of this element, before its first `enter`.
-    pub fn new(element: u16) -> EachCursor
-        ensures { result ≡ record { element = element; rounds = before_rounds 0; value = None } }
-    {
+impl Controller for EachCursor {
+    ghost use Rattle.std.specs.Prelude.{◌≡◌, ◌-◌, ℕ, List, slice_get, Some, None, Ok, OnErr};
+    ghost use Rattle.element_tree.specs.declared.kinds.Element.{Element};
+    ghost use Rattle.cursor_steps.specs.CursorStep.{at_element, IsThere};
+    ghost use Rattle.cursor_steps.specs.RunningChildren.{run_count};
+    ghost use Rattle.logic_controllers.specs.ControllerRounds.{before_rounds, RoundsTurn};
+    ghost use Rattle.logic_controllers.specs.ForEachController.{Row, kind_of, each_enters, each_next_at, EachKept};
+
+    ghost serves = { λ kind. (row : Row) × (output : List ℕ) × (kind ≡ kind_of row output) };
+
+    ghost place = { λ c. c.element };
+
+    ghost fresh = { λ n. record { element = n; rounds = before_rounds 0; value = None } };
+
+    ghost enters = { λ elements c state. at_element (slice_get elements c.element) c state (λ e. each_enters (run_count elements e) c state) };
+
+    ghost entered = { λ children c state result d after. (d.rounds ≡ before_rounds children) × (after ≡ state) × (result ≡ Ok tt) };
+
+    ghost needs = { λ elements c. (e : Element) × (row : Row) × (output : List ℕ) × IsThere elements c.element e (kind_of row output) };
+
+    ghost turns = { λ elements round c state. at_element (slice_get elements c.element) c state (λ e. each_next_at e.kind e.name c state) };
+
+    ghost turned = { λ elements c state result d after. RoundsTurn c.rounds d.rounds result
+        × ((e : Element) (row : Row) (output : List ℕ) → IsThere elements c.element e (kind_of row output) → OnErr result (EachKept e.name output c state.vars d after.vars))
+        × (after.fns ≡ state.fns) };
+
+    ghost among = { λ children c. c.rounds.pass.children ≡ children };
+
+    ghost begun = { λ c. c.rounds.begun };
+
+    ghost left = { λ c. c.rounds.pass.children - c.rounds.pass.next };
+
+    fn new(element: u16) -> EachCursor {
         EachCursor {
             element,
             rounds: Rounds::before_first(0),
@@ -91,23 +118,14 @@ impl EachCursor {
         }
     }
 
-    /// Stands before the first round. It takes no memory.
-    pub fn enter<O: Outside>(
+    // Stands before the first round. It takes no memory.
+    fn enter<O: Outside>(
         &mut self,
         _alloc: Global,
         plan: &Plan,
-        state: &mut UserState,
-        outside: &mut O,
-    ) -> Result<(), VarError>
-        requires { (e : Element) × (row : Row) × (output : List ℕ) × IsThere plan.now.elements self.old.element e (kind_of row output) }
-        ensures came { (e : Element) (row : Row) (output : List ℕ) → IsThere plan.now.elements self.old.element e (kind_of row output)
-            → StepsTo (O.account outside.old) (each_enters (run_count plan.now.elements e) self.old state.old)
-            (O.account outside.new) self.new state.new result }
-        ensures rounds { (e : Element) → slice_get plan.now.elements self.old.element ≡ Some e → self.new.rounds ≡ before_rounds (run_count plan.now.elements e) }
-        ensures same { self.new.element ≡ self.old.element }
-        ensures state { state.new ≡ state.old }
-        ensures done { result ≡ Ok tt }
-    {
+        _state: &mut UserState,
+        _outside: &mut O,
+    ) -> Result<(), VarError> {
         let Some(element) = plan.element(self.element) else {
             unreachable!();
         };
@@ -116,31 +134,17 @@ impl EachCursor {
         Ok(())
     }
 
-    /// Opens the round that began last, where that is still to come: sets `__jm__NAME__idx` to the round's index, from
-    /// 0, and then the output to its value. Then it is the next child, or after the last one, and before the first
-    /// round, the next variable is read: it is `Round` where it is defined and not past the end, and else `Over`.
-    ///
-    /// `ValueLimit` comes where a variable that is set would be past a limit.
-    pub fn next<O: Outside>(
+    // Opens the round that began last, where that is still to come: sets `__jm__NAME__idx` to the round's index, from 0,
+    // and then the output to its value. Then it is the next child, or after the last one, and before the first round, the
+    // next variable is read: it is `Round` where it is defined and not past the end, and else `Over`.
+    fn next<O: Outside>(
         &mut self,
         alloc: Global,
         plan: &Plan,
         _round: u64,
         state: &mut UserState,
         outside: &mut O,
-    ) -> Result<Turn, VarError>
-        requires { (e : Element) × (row : Row) × (output : List ℕ) × IsThere plan.now.elements self.old.element e (kind_of row output) }
-        ensures came { (e : Element) (row : Row) (output : List ℕ) → IsThere plan.now.elements self.old.element e (kind_of row output)
-            → StepsTo (O.account outside.old) (each_next e.name row output self.old state.old) (O.account outside.new) self.new state.new result }
-        ensures child { IfOk result (λ turn. IsAmong self.old.rounds.pass.children turn) }
-        ensures pass { IfOk result (Passes self.old.rounds.pass self.new.rounds.pass) }
-        ensures begun { IfOk result (λ turn. self.new.rounds.begun ≡ begun_after self.old.rounds.begun turn) }
-        ensures children { self.new.rounds.pass.children ≡ self.old.rounds.pass.children }
-        ensures same { self.new.element ≡ self.old.element }
-        ensures kept { (e : Element) (row : Row) (output : List ℕ) → IsThere plan.now.elements self.old.element e (kind_of row output)
-            → OnErr result (EachKept e.name output self.old state.old.vars self.new state.new.vars) }
-        ensures fns { state.new.fns ≡ state.old.fns }
-    {
+    ) -> Result<Turn, VarError> {
         let Some(element) = plan.element(self.element) else {
             unreachable!();
         };
@@ -169,8 +173,10 @@ impl EachCursor {
             outside,
         )
     }
+}
 
-    // The same for an element of this name, over these variables.
+impl EachCursor {
+    // What it does next, at an element of this name, over these variables.
     fn advance<O: Outside>(
         &mut self,
         alloc: Global,

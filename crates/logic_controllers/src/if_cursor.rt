@@ -1,14 +1,12 @@
 // The cursor of an If Controller.
 
-ghost use Rattle.std.specs.Prelude.{◌≡◌, ◌<◌, ◌≤◌, slice_get, Some, Bool, IfOk, OnOk, OnErr, if◌then◌else◌};
-ghost use Rattle.template_text.specs.Pieces.{Pieces};
-ghost use Rattle.element_tree.specs.declared.kinds.Element.{Element};
+ghost use Rattle.std.specs.Prelude.{◌≡◌, ◌<◌, ◌≤◌, IfOk, OnOk, OnErr, if◌then◌else◌};
 ghost use Rattle.var_functions.specs.FunctionState.{IsLater};
-ghost use Rattle.cursor_steps.specs.CursorStep.{StepsTo, IsThere};
-ghost use Rattle.cursor_steps.specs.RunningChildren.{IsAmong, run_count, pass_over, Passes};
+ghost use Rattle.cursor_steps.specs.CursorStep.{StepsTo};
+ghost use Rattle.cursor_steps.specs.RunningChildren.{IsAmong, Passes};
 ghost use Rattle.logic_controllers.specs.IfController.{is_true, if_enters, if_next};
 
-use cursor_steps::{Pass, run_count};
+use cursor_steps::{Controller, Pass, run_count};
 use element_tree::{Kind, Plan, Turn};
 use jm_base::Outside;
 use std::alloc::Global;
@@ -39,37 +37,52 @@ fn children_where(holds: bool, children: u16) -> u16
     if holds { children } else { 0 }
 }
 
-impl IfCursor {
-    /// The cursor of this element, before its first `enter`.
-    pub fn new(element: u16) -> IfCursor
-        ensures { result ≡ record { element = element; pass = pass_over 0 } }
-    {
+impl Controller for IfCursor {
+    ghost use Rattle.std.specs.Prelude.{◌≡◌, ◌≤◌, ◌-◌, Bool, slice_get, OnOk, OnErr};
+    ghost use Rattle.template_text.specs.Pieces.{Pieces};
+    ghost use Rattle.element_tree.specs.declared.kinds.Element.{Element};
+    ghost use Rattle.element_tree.specs.declared.kinds.Kind.TheVariants as kinds;
+    ghost use Rattle.cursor_steps.specs.CursorStep.{at_element, IsThere};
+    ghost use Rattle.cursor_steps.specs.RunningChildren.{run_count, pass_over, PassTurn};
+    ghost use Rattle.logic_controllers.specs.IfController.{if_enters_at, if_next_at};
+
+    ghost serves = { λ kind. (all : Bool) × (condition : Pieces) × (kind ≡ kinds.If all condition) };
+
+    ghost place = { λ c. c.element };
+
+    ghost fresh = { λ n. record { element = n; pass = pass_over 0 } };
+
+    ghost enters = { λ elements c state. at_element (slice_get elements c.element) c state (λ e. if_enters_at e.kind (run_count elements e) c state) };
+
+    ghost entered = { λ children c state result d after. OnOk result (d.pass.children ≤ children) };
+
+    ghost needs = { λ elements c. (e : Element) × (all : Bool) × (condition : Pieces) × IsThere elements c.element e (kinds.If all condition) };
+
+    ghost turns = { λ elements round c state. at_element (slice_get elements c.element) c state (λ e. if_next_at e.kind c state) };
+
+    ghost turned = { λ elements c state result d after. PassTurn c.pass d.pass result × OnErr result (d ≡ c) × (after.vars ≡ state.vars) };
+
+    ghost among = { λ children c. c.pass.children ≤ children };
+
+    ghost begun = { λ c. 0 };
+
+    ghost left = { λ c. c.pass.children - c.pass.next };
+
+    fn new(element: u16) -> IfCursor {
         IfCursor {
             element,
             pass: Pass::over(0),
         }
     }
 
-    /// Begins a pass. Without `all` the condition is expanded, and where it isn't true no child is run.
-    ///
-    /// `ValueLimit` comes where the expansion would be past its limit. A call that refuses leaves the cursor as it was.
-    pub fn enter<O: Outside>(
+    // Begins a pass. Without `all` the condition is expanded, and where it isn't true no child is run.
+    fn enter<O: Outside>(
         &mut self,
         alloc: Global,
         plan: &Plan,
         state: &mut UserState,
         outside: &mut O,
-    ) -> Result<(), VarError>
-        requires { (e : Element) × (all : Bool) × (condition : Pieces) × IsThere plan.now.elements self.old.element e (Kind.If all condition) }
-        ensures came { (e : Element) (all : Bool) (condition : Pieces) → IsThere plan.now.elements self.old.element e (Kind.If all condition)
-            → StepsTo (O.account outside.old) (if_enters all condition (run_count plan.now.elements e) self.old state.old)
-            (O.account outside.new) self.new state.new result }
-        ensures children { (e : Element) → slice_get plan.now.elements self.old.element ≡ Some e → OnOk result (self.new.pass.children ≤ run_count plan.now.elements e) }
-        ensures same { self.new.element ≡ self.old.element }
-        ensures kept { OnErr result (self.new ≡ self.old) }
-        ensures vars { state.new.vars ≡ state.old.vars }
-        ensures later { IsLater state.old.fns state.new.fns }
-    {
+    ) -> Result<(), VarError> {
         let Some(element) = plan.element(self.element) else {
             unreachable!();
         };
@@ -86,6 +99,27 @@ impl IfCursor {
         )
     }
 
+    // The next child, or `Over` after the last one. With `all` the condition is expanded before each child, and it is
+    // `Over` where it isn't true. A call that refuses leaves the cursor as it was.
+    fn next<O: Outside>(
+        &mut self,
+        alloc: Global,
+        plan: &Plan,
+        _round: u64,
+        state: &mut UserState,
+        outside: &mut O,
+    ) -> Result<Turn, VarError> {
+        let Some(element) = plan.element(self.element) else {
+            unreachable!();
+        };
+        let Kind::If { all, condition } = &element.kind else {
+            unreachable!();
+        };
+        self.advance(alloc, *all, condition, state, outside)
+    }
+}
+
+impl IfCursor {
     // Evaluates the condition where it is not to be before each child, with this many children to run.
     fn begin<O: Outside>(
         &mut self,
@@ -116,39 +150,7 @@ impl IfCursor {
         }
     }
 
-    /// The next child, or `Over` after the last one. With `all` the condition is expanded before each child, and it is
-    /// `Over` where it isn't true.
-    ///
-    /// `ValueLimit` comes where the expansion would be past its limit. A call that refuses leaves the cursor as it was.
-    pub fn next<O: Outside>(
-        &mut self,
-        alloc: Global,
-        plan: &Plan,
-        _round: u64,
-        state: &mut UserState,
-        outside: &mut O,
-    ) -> Result<Turn, VarError>
-        requires { (e : Element) × (all : Bool) × (condition : Pieces) × IsThere plan.now.elements self.old.element e (Kind.If all condition) }
-        ensures came { (e : Element) (all : Bool) (condition : Pieces) → IsThere plan.now.elements self.old.element e (Kind.If all condition)
-            → StepsTo (O.account outside.old) (if_next all condition self.old state.old) (O.account outside.new) self.new state.new result }
-        ensures child { IfOk result (λ turn. IsAmong self.old.pass.children turn) }
-        ensures pass { IfOk result (Passes self.old.pass self.new.pass) }
-        ensures children { self.new.pass.children ≡ self.old.pass.children }
-        ensures same { self.new.element ≡ self.old.element }
-        ensures kept { OnErr result (self.new ≡ self.old) }
-        ensures vars { state.new.vars ≡ state.old.vars }
-        ensures later { IsLater state.old.fns state.new.fns }
-    {
-        let Some(element) = plan.element(self.element) else {
-            unreachable!();
-        };
-        let Kind::If { all, condition } = &element.kind else {
-            unreachable!();
-        };
-        self.advance(alloc, *all, condition, state, outside)
-    }
-
-    // The same with this condition.
+    // What it does next, with this condition.
     fn advance<O: Outside>(
         &mut self,
         alloc: Global,

@@ -1,17 +1,15 @@
 // The cursor of a Loop Controller.
 
-ghost use Rattle.std.specs.Prelude.{◌≡◌, ◌<◌, ◌≤◌, ◌-◌, slice_get, Some, IfOk, OnOk, OnErr};
-ghost use Rattle.template_text.specs.Pieces.{Pieces};
+ghost use Rattle.std.specs.Prelude.{◌≡◌, ◌<◌, ◌≤◌, ◌-◌, IfOk, OnOk, OnErr};
 ghost use Rattle.var_functions.specs.declared.state.UserState.{UserState};
-ghost use Rattle.element_tree.specs.declared.kinds.Element.{Element};
 ghost use Rattle.var_functions.specs.FunctionState.{IsLater};
-ghost use Rattle.cursor_steps.specs.CursorStep.{StepsTo, IsThere, answers};
-ghost use Rattle.cursor_steps.specs.RunningChildren.{IsAmong, run_count, Passes};
-ghost use Rattle.logic_controllers.specs.ControllerRounds.{most_rounds, before_rounds, begun_after};
+ghost use Rattle.cursor_steps.specs.CursorStep.{StepsTo, answers};
+ghost use Rattle.cursor_steps.specs.RunningChildren.{IsAmong, Passes, most_rounds, begun_after};
+ghost use Rattle.logic_controllers.specs.ControllerRounds.{before_rounds};
 ghost use Rattle.logic_controllers.specs.LoopController.{loops_of, round_begins, loop_enters, loop_goes, loop_next};
 
 use crate::rounds::Rounds;
-use cursor_steps::{decimal_number, run_count};
+use cursor_steps::{Controller, decimal_number, run_count};
 use element_tree::{Kind, Loops, Plan, Turn};
 use jm_base::Outside;
 use std::alloc::Global;
@@ -49,11 +47,40 @@ pub fn round_begins(loops: Loops, index: u32) -> bool
     }
 }
 
-impl LoopCursor {
-    /// The cursor of this element, before its first `enter`.
-    pub fn new(element: u16) -> LoopCursor
-        ensures { result ≡ record { element = element; loops = Loops.Times 0; rounds = before_rounds 0 } }
-    {
+impl Controller for LoopCursor {
+    ghost use Rattle.std.specs.Prelude.{◌≡◌, ◌≤◌, ◌-◌, slice_get, OnOk, OnErr};
+    ghost use Rattle.template_text.specs.Pieces.{Pieces};
+    ghost use Rattle.element_tree.specs.declared.kinds.Element.{Element};
+    ghost use Rattle.element_tree.specs.declared.kinds.Kind.TheVariants as kinds;
+    ghost use Rattle.element_tree.specs.declared.kinds.Loops.TheVariants as loops;
+    ghost use Rattle.cursor_steps.specs.CursorStep.{at_element, IsThere};
+    ghost use Rattle.cursor_steps.specs.RunningChildren.{run_count, most_rounds};
+    ghost use Rattle.logic_controllers.specs.ControllerRounds.{before_rounds, RoundsTurn};
+    ghost use Rattle.logic_controllers.specs.LoopController.{loop_enters_at, loop_next};
+
+    ghost serves = { λ kind. (text : Pieces) × (kind ≡ kinds.Loop text) };
+
+    ghost place = { λ c. c.element };
+
+    ghost fresh = { λ n. record { element = n; loops = loops.Times 0; rounds = before_rounds 0 } };
+
+    ghost enters = { λ elements c state. at_element (slice_get elements c.element) c state (λ e. loop_enters_at e.kind (run_count elements e) c state) };
+
+    ghost entered = { λ children c state result d after. OnOk result (d.rounds ≡ before_rounds children) };
+
+    ghost needs = { λ elements c. ((e : Element) × (text : Pieces) × IsThere elements c.element e (kinds.Loop text)) × (c.rounds.begun ≤ most_rounds) };
+
+    ghost turns = { λ elements round c state. at_element (slice_get elements c.element) c state (λ e. loop_next e.name c state) };
+
+    ghost turned = { λ elements c state result d after. RoundsTurn c.rounds d.rounds result × OnErr result ((d ≡ c) × (after ≡ state)) × (after.fns ≡ state.fns) };
+
+    ghost among = { λ children c. c.rounds.pass.children ≡ children };
+
+    ghost begun = { λ c. c.rounds.begun };
+
+    ghost left = { λ c. c.rounds.pass.children - c.rounds.pass.next };
+
+    fn new(element: u16) -> LoopCursor {
         LoopCursor {
             element,
             loops: Loops::Times(0),
@@ -61,26 +88,14 @@ impl LoopCursor {
         }
     }
 
-    /// Expands `loops`: decimal digits ask for that many rounds, `-1` for rounds without end, any other text for none.
-    ///
-    /// `ValueLimit` comes where the expansion would be past its limit. A call that refuses leaves the cursor as it was.
-    pub fn enter<O: Outside>(
+    // Expands `loops`: decimal digits ask for that many rounds, `-1` for rounds without end, any other text for none.
+    fn enter<O: Outside>(
         &mut self,
         alloc: Global,
         plan: &Plan,
         state: &mut UserState,
         outside: &mut O,
-    ) -> Result<(), VarError>
-        requires { (e : Element) × (loops : Pieces) × IsThere plan.now.elements self.old.element e (Kind.Loop loops) }
-        ensures came { (e : Element) (loops : Pieces) → IsThere plan.now.elements self.old.element e (Kind.Loop loops)
-            → StepsTo (O.account outside.old) (loop_enters loops (run_count plan.now.elements e) self.old state.old)
-            (O.account outside.new) self.new state.new result }
-        ensures rounds { (e : Element) → slice_get plan.now.elements self.old.element ≡ Some e → OnOk result (self.new.rounds ≡ before_rounds (run_count plan.now.elements e)) }
-        ensures same { self.new.element ≡ self.old.element }
-        ensures kept { OnErr result (self.new ≡ self.old) }
-        ensures vars { state.new.vars ≡ state.old.vars }
-        ensures later { IsLater state.old.fns state.new.fns }
-    {
+    ) -> Result<(), VarError> {
         let Some(element) = plan.element(self.element) else {
             unreachable!();
         };
@@ -90,6 +105,25 @@ impl LoopCursor {
         self.begin(alloc, loops, run_count(plan, element), state, outside)
     }
 
+    // Opens the round that began last, where that is still to come: sets `__jm__NAME__idx` to the round's index, from 0.
+    // Then it is the next child, or after the last one `Round` where a further round begins, or `Over`. A call that
+    // refuses leaves all as it was.
+    fn next<O: Outside>(
+        &mut self,
+        alloc: Global,
+        plan: &Plan,
+        _round: u64,
+        state: &mut UserState,
+        outside: &mut O,
+    ) -> Result<Turn, VarError> {
+        let Some(element) = plan.element(self.element) else {
+            unreachable!();
+        };
+        self.advance(alloc, element.name.bytes(), state, outside)
+    }
+}
+
+impl LoopCursor {
     // Expands the text of `loops`, with this many children to run in each round.
     fn begin<O: Outside>(
         &mut self,
@@ -116,37 +150,7 @@ impl LoopCursor {
         }
     }
 
-    /// Opens the round that began last, where that is still to come: sets `__jm__NAME__idx` to the round's index, from
-    /// 0. Then it is the next child, or after the last one `Round` where a further round begins, or `Over`.
-    ///
-    /// `ValueLimit` comes where the variable would be past a limit. A call that refuses leaves all as it was.
-    pub fn next<O: Outside>(
-        &mut self,
-        alloc: Global,
-        plan: &Plan,
-        _round: u64,
-        state: &mut UserState,
-        outside: &mut O,
-    ) -> Result<Turn, VarError>
-        requires there { (e : Element) × (loops : Pieces) × IsThere plan.now.elements self.old.element e (Kind.Loop loops) }
-        requires rounds { self.old.rounds.begun ≤ most_rounds }
-        ensures came { (e : Element) → slice_get plan.now.elements self.old.element ≡ Some e
-            → StepsTo (O.account outside.old) (loop_next e.name self.old state.old) (O.account outside.new) self.new state.new result }
-        ensures child { IfOk result (λ turn. IsAmong self.old.rounds.pass.children turn) }
-        ensures pass { IfOk result (Passes self.old.rounds.pass self.new.rounds.pass) }
-        ensures begun { IfOk result (λ turn. self.new.rounds.begun ≡ begun_after self.old.rounds.begun turn) }
-        ensures children { self.new.rounds.pass.children ≡ self.old.rounds.pass.children }
-        ensures same { self.new.element ≡ self.old.element }
-        ensures kept { OnErr result ((self.new ≡ self.old) × (state.new ≡ state.old)) }
-        ensures fns { state.new.fns ≡ state.old.fns }
-    {
-        let Some(element) = plan.element(self.element) else {
-            unreachable!();
-        };
-        self.advance(alloc, element.name.bytes(), state, outside)
-    }
-
-    // The same for an element of this name.
+    // What it does next, at an element of this name.
     fn advance<O: Outside>(
         &mut self,
         alloc: Global,

@@ -1,13 +1,7 @@
 // The cursor of a Once Only Controller.
 
-ghost use Rattle.std.specs.Prelude.{◌≡◌, ◌<◌, slice_get, Some, IsOkAnd};
-ghost use Rattle.element_tree.specs.declared.kinds.Element.{Element};
-ghost use Rattle.cursor_steps.specs.CursorStep.{StepsTo, IsThere};
-ghost use Rattle.cursor_steps.specs.RunningChildren.{IsAmong, run_count, pass_over, Passes};
-ghost use Rattle.logic_controllers.specs.OnceOnlyController.{once_enters, once_next};
-
-use cursor_steps::{Pass, run_count};
-use element_tree::{Kind, Plan, Turn};
+use cursor_steps::{Controller, Pass, run_count};
+use element_tree::{Plan, Turn};
 use jm_base::Outside;
 use std::alloc::Global;
 use var_functions::{UserState, VarError};
@@ -21,34 +15,50 @@ pub struct OnceCursor {
     pub pass: Pass,
 }
 
-impl OnceCursor {
-    /// The cursor of this element, before its first `enter`.
-    pub fn new(element: u16) -> OnceCursor
-        ensures { result ≡ record { element = element; pass = pass_over 0 } }
-    {
+impl Controller for OnceCursor {
+    ghost use Rattle.std.specs.Prelude.{◌≡◌, ◌≤◌, ◌-◌, slice_get, Ok, ⊤};
+    ghost use Rattle.element_tree.specs.declared.kinds.Kind.TheVariants as kinds;
+    ghost use Rattle.cursor_steps.specs.CursorStep.{at_element};
+    ghost use Rattle.cursor_steps.specs.RunningChildren.{run_count, pass_over, SurePassTurn};
+    ghost use Rattle.logic_controllers.specs.OnceOnlyController.{once_enters, once_next};
+
+    ghost serves = { λ kind. kind ≡ kinds.OnceOnly };
+
+    ghost place = { λ c. c.element };
+
+    ghost fresh = { λ n. record { element = n; pass = pass_over 0 } };
+
+    ghost enters = { λ elements c state. at_element (slice_get elements c.element) c state (λ e. once_enters (run_count elements e) c state) };
+
+    ghost entered = { λ children c state result d after. (d.pass ≡ pass_over children) × (after ≡ state) × (result ≡ Ok tt) };
+
+    ghost needs = { λ elements c. ⊤ };
+
+    ghost turns = { λ elements round c state. once_next round c state };
+
+    ghost turned = { λ elements c state result d after. SurePassTurn c.pass d.pass result × (after ≡ state) };
+
+    ghost among = { λ children c. c.pass.children ≤ children };
+
+    ghost begun = { λ c. 0 };
+
+    ghost left = { λ c. c.pass.children - c.pass.next };
+
+    fn new(element: u16) -> OnceCursor {
         OnceCursor {
             element,
             pass: Pass::over(0),
         }
     }
 
-    /// Begins a pass. It takes no memory.
-    pub fn enter<O: Outside>(
+    // Begins a pass. It takes no memory.
+    fn enter<O: Outside>(
         &mut self,
         _alloc: Global,
         plan: &Plan,
-        state: &mut UserState,
-        outside: &mut O,
-    ) -> Result<(), VarError>
-        requires { (e : Element) × IsThere plan.now.elements self.old.element e Kind.OnceOnly }
-        ensures came { (e : Element) → IsThere plan.now.elements self.old.element e Kind.OnceOnly
-            → StepsTo (O.account outside.old) (once_enters (run_count plan.now.elements e) self.old state.old)
-            (O.account outside.new) self.new state.new result }
-        ensures pass { (e : Element) → slice_get plan.now.elements self.old.element ≡ Some e → self.new.pass ≡ pass_over (run_count plan.now.elements e) }
-        ensures same { self.new.element ≡ self.old.element }
-        ensures state { state.new ≡ state.old }
-        ensures done { result ≡ Ok tt }
-    {
+        _state: &mut UserState,
+        _outside: &mut O,
+    ) -> Result<(), VarError> {
         let Some(element) = plan.element(self.element) else {
             unreachable!();
         };
@@ -56,23 +66,16 @@ impl OnceCursor {
         Ok(())
     }
 
-    /// The next child where `round` is 0, and `Over` in every other round and after the last child. `round` counts,
-    /// from 0, the rounds of the nearest looping element around. It takes no memory.
-    pub fn next<O: Outside>(
+    // The next child where `round` is 0, and `Over` in every other round and after the last child. `round` counts, from 0,
+    // the rounds of the nearest looping element around. It takes no memory.
+    fn next<O: Outside>(
         &mut self,
         _alloc: Global,
         _plan: &Plan,
         round: u64,
-        state: &mut UserState,
-        outside: &mut O,
-    ) -> Result<Turn, VarError>
-        ensures came { StepsTo (O.account outside.old) (once_next round self.old state.old) (O.account outside.new) self.new state.new result }
-        ensures child { IsOkAnd result (λ turn. IsAmong self.old.pass.children turn) }
-        ensures pass { IsOkAnd result (Passes self.old.pass self.new.pass) }
-        ensures children { self.new.pass.children ≡ self.old.pass.children }
-        ensures same { self.new.element ≡ self.old.element }
-        ensures state { state.new ≡ state.old }
-    {
+        _state: &mut UserState,
+        _outside: &mut O,
+    ) -> Result<Turn, VarError> {
         if round != 0 {
             return Ok(Turn::Over);
         }

@@ -7,7 +7,7 @@ ghost use Rattle.logic_controllers.specs.ControllerRounds.{before_rounds, round_
 use cursor_steps::Pass;
 use jm_base::{M, Text};
 use std::alloc::Global;
-use var_functions::{VarError, Vars};
+use var_functions::{VarError, Vars, decimal_text};
 
 /// The rounds of a Loop, While or ForEach.
 #[derive(Clone, Copy)]
@@ -18,14 +18,6 @@ pub struct Rounds {
     pub opening: bool,
     /// The children in this round.
     pub pass: Pass,
-}
-
-/// Text of a number's decimal digits.
-pub fn decimal_text(alloc: Global, number: u64) -> M<Text>
-    ensures { IfOk result (λ t. t ≡ decimal number) }
-{
-    let text = format!(in alloc; "{number}")?;
-    Ok(Text::of(text.into_bytes()))
 }
 
 /// The name of the index variable of an element of this name.

@@ -1,13 +1,13 @@
 // The cursor of a Simple Controller.
 
-ghost use Rattle.std.specs.Prelude.{◌≡◌, ◌<◌, slice_get, Some, IsOkAnd};
-ghost use Rattle.element_tree.specs.declared.kinds.Element.{Element};
-ghost use Rattle.cursor_steps.specs.CursorStep.{StepsTo, IsThere};
-ghost use Rattle.cursor_steps.specs.RunningChildren.{IsAmong, run_count, pass_over, Passes};
-ghost use Rattle.logic_controllers.specs.SimpleController.{simple_enters, simple_next};
+ghost use Rattle.std.specs.Prelude.{◌≡◌};
+ghost use Rattle.var_functions.specs.declared.state.UserState.{UserState};
+ghost use Rattle.cursor_steps.specs.CursorStep.{answers};
+ghost use Rattle.cursor_steps.specs.RunningChildren.{IsAmong, Passes};
+ghost use Rattle.logic_controllers.specs.SimpleController.{simple_next};
 
-use cursor_steps::{Pass, run_count};
-use element_tree::{Kind, Plan, Turn};
+use cursor_steps::{Controller, Pass, run_count};
+use element_tree::{Plan, Turn};
 use jm_base::Outside;
 use std::alloc::Global;
 use var_functions::{UserState, VarError};
@@ -21,33 +21,65 @@ pub struct SimpleCursor {
 }
 
 impl SimpleCursor {
-    /// The cursor of this element, before its first `enter`.
-    pub fn new(element: u16) -> SimpleCursor
-        ensures { result ≡ record { element = element; pass = pass_over 0 } }
+    /// The next child, or `Over` after the last one.
+    pub fn take_turn(&mut self) -> Turn
+        ensures goes { (state : UserState) → answers result self.new state ≡ simple_next self.old state }
+        ensures child { IsAmong self.old.pass.children result }
+        ensures pass { Passes self.old.pass self.new.pass result }
+        ensures children { self.new.pass.children ≡ self.old.pass.children }
+        ensures same { self.new.element ≡ self.old.element }
     {
+        match self.pass.next_child() {
+            Some(place) => Turn::Child(place),
+            None => Turn::Over,
+        }
+    }
+}
+
+impl Controller for SimpleCursor {
+    ghost use Rattle.std.specs.Prelude.{◌≡◌, ◌≤◌, ◌-◌, slice_get, Ok, ⊤};
+    ghost use Rattle.element_tree.specs.declared.kinds.Kind.TheVariants as kinds;
+    ghost use Rattle.cursor_steps.specs.CursorStep.{at_element};
+    ghost use Rattle.cursor_steps.specs.RunningChildren.{run_count, pass_over, SurePassTurn};
+    ghost use Rattle.logic_controllers.specs.SimpleController.{simple_enters, simple_next};
+
+    ghost serves = { λ kind. kind ≡ kinds.Simple };
+
+    ghost place = { λ c. c.element };
+
+    ghost fresh = { λ n. record { element = n; pass = pass_over 0 } };
+
+    ghost enters = { λ elements c state. at_element (slice_get elements c.element) c state (λ e. simple_enters (run_count elements e) c state) };
+
+    ghost entered = { λ children c state result d after. (d.pass ≡ pass_over children) × (after ≡ state) × (result ≡ Ok tt) };
+
+    ghost needs = { λ elements c. ⊤ };
+
+    ghost turns = { λ elements round c state. simple_next c state };
+
+    ghost turned = { λ elements c state result d after. SurePassTurn c.pass d.pass result × (after ≡ state) };
+
+    ghost among = { λ children c. c.pass.children ≤ children };
+
+    ghost begun = { λ c. 0 };
+
+    ghost left = { λ c. c.pass.children - c.pass.next };
+
+    fn new(element: u16) -> SimpleCursor {
         SimpleCursor {
             element,
             pass: Pass::over(0),
         }
     }
 
-    /// Begins a pass. It takes no memory.
-    pub fn enter<O: Outside>(
+    // Begins a pass. It takes no memory.
+    fn enter<O: Outside>(
         &mut self,
         _alloc: Global,
         plan: &Plan,
-        state: &mut UserState,
-        outside: &mut O,
-    ) -> Result<(), VarError>
-        requires { (e : Element) × IsThere plan.now.elements self.old.element e Kind.Simple }
-        ensures came { (e : Element) → IsThere plan.now.elements self.old.element e Kind.Simple
-            → StepsTo (O.account outside.old) (simple_enters (run_count plan.now.elements e) self.old state.old)
-            (O.account outside.new) self.new state.new result }
-        ensures pass { (e : Element) → slice_get plan.now.elements self.old.element ≡ Some e → self.new.pass ≡ pass_over (run_count plan.now.elements e) }
-        ensures same { self.new.element ≡ self.old.element }
-        ensures state { state.new ≡ state.old }
-        ensures done { result ≡ Ok tt }
-    {
+        _state: &mut UserState,
+        _outside: &mut O,
+    ) -> Result<(), VarError> {
         let Some(element) = plan.element(self.element) else {
             unreachable!();
         };
@@ -55,25 +87,15 @@ impl SimpleCursor {
         Ok(())
     }
 
-    /// The next child, or `Over` after the last one. It takes no memory.
-    pub fn next<O: Outside>(
+    // The next child, or `Over` after the last one. It takes no memory.
+    fn next<O: Outside>(
         &mut self,
         _alloc: Global,
         _plan: &Plan,
         _round: u64,
-        state: &mut UserState,
-        outside: &mut O,
-    ) -> Result<Turn, VarError>
-        ensures came { StepsTo (O.account outside.old) (simple_next self.old state.old) (O.account outside.new) self.new state.new result }
-        ensures child { IsOkAnd result (λ turn. IsAmong self.old.pass.children turn) }
-        ensures pass { IsOkAnd result (Passes self.old.pass self.new.pass) }
-        ensures children { self.new.pass.children ≡ self.old.pass.children }
-        ensures same { self.new.element ≡ self.old.element }
-        ensures state { state.new ≡ state.old }
-    {
-        match self.pass.next_child() {
-            Some(place) => Ok(Turn::Child(place)),
-            None => Ok(Turn::Over),
-        }
+        _state: &mut UserState,
+        _outside: &mut O,
+    ) -> Result<Turn, VarError> {
+        Ok(self.take_turn())
     }
 }

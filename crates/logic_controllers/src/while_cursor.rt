@@ -1,16 +1,14 @@
 // The cursor of a While Controller.
 
-ghost use Rattle.std.specs.Prelude.{◌≡◌, ◌<◌, ◌≤◌, slice_get, Some, IfOk, OnErr};
-ghost use Rattle.template_text.specs.Pieces.{Pieces};
-ghost use Rattle.element_tree.specs.declared.kinds.Element.{Element};
+ghost use Rattle.std.specs.Prelude.{◌≡◌, ◌<◌, ◌≤◌, IfOk, OnErr};
 ghost use Rattle.var_functions.specs.FunctionState.{IsLater};
-ghost use Rattle.cursor_steps.specs.CursorStep.{StepsTo, IsThere};
-ghost use Rattle.cursor_steps.specs.RunningChildren.{IsAmong, run_count, Passes};
-ghost use Rattle.logic_controllers.specs.ControllerRounds.{most_rounds, before_rounds, begun_after};
+ghost use Rattle.cursor_steps.specs.CursorStep.{StepsTo};
+ghost use Rattle.cursor_steps.specs.RunningChildren.{IsAmong, Passes, most_rounds, begun_after};
+ghost use Rattle.logic_controllers.specs.ControllerRounds.{before_rounds};
 ghost use Rattle.logic_controllers.specs.WhileController.{is_blank, last_ok, goes_on, while_enters, while_goes, while_next, WhileKept};
 
 use crate::rounds::Rounds;
-use cursor_steps::run_count;
+use cursor_steps::{Controller, run_count};
 use element_tree::{Kind, Plan, Turn};
 use jm_base::Outside;
 use std::alloc::Global;
@@ -56,34 +54,54 @@ pub fn goes_on(text: &[u8], index: u32, ok: bool) -> bool
     !text.eq_ignore_ascii_case(b"false")
 }
 
-impl WhileCursor {
-    /// The cursor of this element, before its first `enter`.
-    pub fn new(element: u16) -> WhileCursor
-        ensures { result ≡ record { element = element; rounds = before_rounds 0 } }
-    {
+impl Controller for WhileCursor {
+    ghost use Rattle.std.specs.Prelude.{◌≡◌, ◌≤◌, ◌-◌, slice_get, Some, Ok, OnErr};
+    ghost use Rattle.template_text.specs.Pieces.{Pieces};
+    ghost use Rattle.element_tree.specs.declared.kinds.Element.{Element};
+    ghost use Rattle.element_tree.specs.declared.kinds.Kind.TheVariants as kinds;
+    ghost use Rattle.cursor_steps.specs.CursorStep.{at_element, IsThere};
+    ghost use Rattle.cursor_steps.specs.RunningChildren.{run_count, most_rounds};
+    ghost use Rattle.logic_controllers.specs.ControllerRounds.{before_rounds, RoundsTurn};
+    ghost use Rattle.logic_controllers.specs.WhileController.{while_enters, while_next_at, WhileKept};
+
+    ghost serves = { λ kind. (condition : Pieces) × (kind ≡ kinds.While condition) };
+
+    ghost place = { λ c. c.element };
+
+    ghost fresh = { λ n. record { element = n; rounds = before_rounds 0 } };
+
+    ghost enters = { λ elements c state. at_element (slice_get elements c.element) c state (λ e. while_enters (run_count elements e) c state) };
+
+    ghost entered = { λ children c state result d after. (d.rounds ≡ before_rounds children) × (after ≡ state) × (result ≡ Ok tt) };
+
+    ghost needs = { λ elements c. ((e : Element) × (condition : Pieces) × IsThere elements c.element e (kinds.While condition)) × (c.rounds.begun ≤ most_rounds) };
+
+    ghost turns = { λ elements round c state. at_element (slice_get elements c.element) c state (λ e. while_next_at e.kind e.name c state) };
+
+    ghost turned = { λ elements c state result d after. RoundsTurn c.rounds d.rounds result
+        × ((e : Element) → slice_get elements c.element ≡ Some e → OnErr result (WhileKept e.name c state.vars d after.vars)) };
+
+    ghost among = { λ children c. c.rounds.pass.children ≡ children };
+
+    ghost begun = { λ c. c.rounds.begun };
+
+    ghost left = { λ c. c.rounds.pass.children - c.rounds.pass.next };
+
+    fn new(element: u16) -> WhileCursor {
         WhileCursor {
             element,
             rounds: Rounds::before_first(0),
         }
     }
 
-    /// Stands before the first round. It takes no memory.
-    pub fn enter<O: Outside>(
+    // Stands before the first round. It takes no memory.
+    fn enter<O: Outside>(
         &mut self,
         _alloc: Global,
         plan: &Plan,
-        state: &mut UserState,
-        outside: &mut O,
-    ) -> Result<(), VarError>
-        requires { (e : Element) × (condition : Pieces) × IsThere plan.now.elements self.old.element e (Kind.While condition) }
-        ensures came { (e : Element) (condition : Pieces) → IsThere plan.now.elements self.old.element e (Kind.While condition)
-            → StepsTo (O.account outside.old) (while_enters (run_count plan.now.elements e) self.old state.old)
-            (O.account outside.new) self.new state.new result }
-        ensures rounds { (e : Element) → slice_get plan.now.elements self.old.element ≡ Some e → self.new.rounds ≡ before_rounds (run_count plan.now.elements e) }
-        ensures same { self.new.element ≡ self.old.element }
-        ensures state { state.new ≡ state.old }
-        ensures done { result ≡ Ok tt }
-    {
+        _state: &mut UserState,
+        _outside: &mut O,
+    ) -> Result<(), VarError> {
         let Some(element) = plan.element(self.element) else {
             unreachable!();
         };
@@ -91,33 +109,18 @@ impl WhileCursor {
         Ok(())
     }
 
-    /// Opens the round that began last, where that is still to come: sets `__jm__NAME__idx` to the round's index, from
-    /// 0. Then it is the next child, or after the last one, and before the first round, the condition is expanded: it
-    /// is `Round` where a further round begins, and else `Over`.
-    ///
-    /// `ValueLimit` comes where the variable or the expansion would be past a limit. In the first case all is left as it
-    /// was, in the second the round is open.
-    pub fn next<O: Outside>(
+    // Opens the round that began last, where that is still to come: sets `__jm__NAME__idx` to the round's index, from 0.
+    // Then it is the next child, or after the last one, and before the first round, the condition is expanded: it is
+    // `Round` where a further round begins, and else `Over`. Where the variable is refused all is left as it was, and
+    // where the expansion is refused the round is open.
+    fn next<O: Outside>(
         &mut self,
         alloc: Global,
         plan: &Plan,
         _round: u64,
         state: &mut UserState,
         outside: &mut O,
-    ) -> Result<Turn, VarError>
-        requires there { (e : Element) × (condition : Pieces) × IsThere plan.now.elements self.old.element e (Kind.While condition) }
-        requires rounds { self.old.rounds.begun ≤ most_rounds }
-        ensures came { (e : Element) (condition : Pieces) → IsThere plan.now.elements self.old.element e (Kind.While condition)
-            → StepsTo (O.account outside.old) (while_next e.name condition self.old state.old) (O.account outside.new) self.new state.new result }
-        ensures child { IfOk result (λ turn. IsAmong self.old.rounds.pass.children turn) }
-        ensures pass { IfOk result (Passes self.old.rounds.pass self.new.rounds.pass) }
-        ensures begun { IfOk result (λ turn. self.new.rounds.begun ≡ begun_after self.old.rounds.begun turn) }
-        ensures children { self.new.rounds.pass.children ≡ self.old.rounds.pass.children }
-        ensures same { self.new.element ≡ self.old.element }
-        ensures kept { (e : Element) → slice_get plan.now.elements self.old.element ≡ Some e
-            → OnErr result (WhileKept e.name self.old state.old.vars self.new state.new.vars) }
-        ensures later { IsLater state.old.fns state.new.fns }
-    {
+    ) -> Result<Turn, VarError> {
         let Some(element) = plan.element(self.element) else {
             unreachable!();
         };
@@ -126,8 +129,10 @@ impl WhileCursor {
         };
         self.advance(alloc, element.name.bytes(), condition, state, outside)
     }
+}
 
-    // The same for an element of this name, with this condition.
+impl WhileCursor {
+    // What it does next, at an element of this name, with this condition.
     fn advance<O: Outside>(
         &mut self,
         alloc: Global,

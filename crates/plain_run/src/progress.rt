@@ -17,13 +17,13 @@ use config_elements::{ConfigState, begin_round};
 use element_tree::Plan;
 use jm_base::{End, M, NoMemory, Outside, Sample, Text};
 use jm_meaning::{Item, Places, Signal, Tally, set_first};
-use logic_controllers::{decimal_text, index_name};
+use logic_controllers::index_name;
 use sampler_pipeline::{Done, run_one};
 use scope_resolver::package;
 use std::alloc::Global;
 use template_text::Template;
 use var_changes::put_copy;
-use var_functions::{UserState, VarError, expand};
+use var_functions::{UserState, VarError, decimal_text, expand};
 
 /// How far a thread has come.
 #[derive(Drop)]

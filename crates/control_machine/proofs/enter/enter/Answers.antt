@@ -6,7 +6,7 @@ use Rattle.jm_meaning.specs.Children.{children_of}
 use Rattle.jm_meaning.specs.Meaning.{kind_meaning}
 use Rattle.jm_meaning.proofs.CutLaws.{stands_same}
 use Rattle.control_machine.specs.Entering.{here_with, entered, EnteredFits, EntersLock}
-use Rattle.control_machine.proofs.CameSteps.{same_element}
+use Rattle.control_machine.proofs.CursorCalls.{same_element}
 use Rattle.control_machine.proofs.EnterLaws.{no_lock}
 use Rattle.control_machine.proofs.OpenLaws.{kind_is, goes_as}
 use Rattle.control_machine.proofs.enter.enter.Goals as goal

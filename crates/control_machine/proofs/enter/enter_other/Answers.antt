@@ -8,14 +8,14 @@ use Rattle.jm_meaning.proofs.CutLaws.{stands_same}
 use Rattle.control_machine.specs.Moves.{past}
 use Rattle.jm_meaning.specs.Children.{children_of}
 use Rattle.control_machine.specs.Entering.{here_with, entered, EnteredFits}
-use Rattle.control_machine.proofs.CameSteps.{same_element}
+use Rattle.control_machine.proofs.CursorCalls.{same_element}
 use Rattle.control_machine.proofs.OpenLaws.{kind_is, kind_came, other_kind, sampler_means, goes_as}
 use Rattle.control_machine.proofs.enter.enter_other.Goals as goal
 
-pub enter_each-requires : goal.enter_each-requires
-enter_each-requires g c =
+pub enter_as-requires-in-ForEach : goal.enter_as-requires-in-ForEach
+enter_as-requires-in-ForEach g c =
     let row : Row = record { input = c.in-ForEach.input; separator = c.in-ForEach.separator; start = c.in-ForEach.start; end = c.in-ForEach.end } in
-    record { there = (c.in-Some.element.now, row, c.in-ForEach.output, record { there = sym c.in-Some.ensures; of_kind = c.in-ForEach.is }) }
+    record { there = (c.in-Some.element.now, sym c.in-Some.ensures, (row, c.in-ForEach.output, c.in-ForEach.is)) }
 
 pub returns-in-Script-clause-came : goal.returns-in-Script-clause-came
 returns-in-Script-clause-came g c = λ e failure below round own there.
@@ -31,46 +31,31 @@ returns-in-Http-clause-came g c = λ e failure below round own there.
     (kind_is c.args.plan.now.elements c.args.child c.in-Some.element.now e k c.in-Some.ensures there h.is) tt)
 
 pub returns-in-Simple-clause-came : goal.returns-in-Simple-clause-came
-returns-in-Simple-clause-came g c = λ e failure below round own there.
-    let k = kind_is c.args.plan.now.elements c.args.child c.in-Some.element.now e (kinds.Simple) c.in-Some.ensures there c.in-Simple.is in
-    kind_came (g.O.Outside.account c.args.outside.now) (g.O.Outside.account c.enter_simple.new.outside) (here_with c.args.plan.now failure) below c.args.child e e.kind (kinds.Simple) round (state_of c.args.state.now (at_places own c.args.places.now))
-    (entered (here_with c.args.plan.now failure) below c.args.child round e (state_of c.enter_simple.new.state (at_places own c.args.places.now))) (past (state_of c.enter_simple.new.state (at_places own c.args.places.now))) c.enter_simple.result k
-    (c.enter_simple.ensures.came e failure below round (at_places own c.args.places.now) (record { there = there; of_kind = k }))
+returns-in-Simple-clause-came g c = λ e failure below round own there. c.enter_as.ensures.came e failure below round (at_places own c.args.places.now) there
 
 pub returns-in-OnceOnly-clause-came : goal.returns-in-OnceOnly-clause-came
-returns-in-OnceOnly-clause-came g c = λ e failure below round own there.
-    let k = kind_is c.args.plan.now.elements c.args.child c.in-Some.element.now e (kinds.OnceOnly) c.in-Some.ensures there c.in-OnceOnly.is in
-    kind_came (g.O.Outside.account c.args.outside.now) (g.O.Outside.account c.enter_once.new.outside) (here_with c.args.plan.now failure) below c.args.child e e.kind (kinds.OnceOnly) round (state_of c.args.state.now (at_places own c.args.places.now))
-    (entered (here_with c.args.plan.now failure) below c.args.child round e (state_of c.enter_once.new.state (at_places own c.args.places.now))) (past (state_of c.enter_once.new.state (at_places own c.args.places.now))) c.enter_once.result k
-    (c.enter_once.ensures.came e failure below round (at_places own c.args.places.now) (record { there = there; of_kind = k }))
+returns-in-OnceOnly-clause-came g c = λ e failure below round own there. c.enter_as-in-OnceOnly.ensures.came e failure below round (at_places own c.args.places.now) there
 
 pub returns-in-Loop-clause-came : goal.returns-in-Loop-clause-came
-returns-in-Loop-clause-came g c = λ e failure below round own there.
-    let k = kind_is c.args.plan.now.elements c.args.child c.in-Some.element.now e (kinds.Loop c.in-Loop.loops) c.in-Some.ensures there c.in-Loop.is in
-    kind_came (g.O.Outside.account c.args.outside.now) (g.O.Outside.account c.enter_loop.new.outside) (here_with c.args.plan.now failure) below c.args.child e e.kind (kinds.Loop c.in-Loop.loops) round (state_of c.args.state.now (at_places own c.args.places.now))
-    (entered (here_with c.args.plan.now failure) below c.args.child round e (state_of c.enter_loop.new.state (at_places own c.args.places.now))) (past (state_of c.enter_loop.new.state (at_places own c.args.places.now))) c.enter_loop.result k
-    (c.enter_loop.ensures.came e c.in-Loop.loops failure below round (at_places own c.args.places.now) (record { there = there; of_kind = k }))
+returns-in-Loop-clause-came g c = λ e failure below round own there. c.enter_as-in-Loop.ensures.came e failure below round (at_places own c.args.places.now) there
 
 pub returns-in-If-clause-came : goal.returns-in-If-clause-came
-returns-in-If-clause-came g c = λ e failure below round own there.
-    let k = kind_is c.args.plan.now.elements c.args.child c.in-Some.element.now e (kinds.If c.in-If.all c.in-If.condition) c.in-Some.ensures there c.in-If.is in
-    kind_came (g.O.Outside.account c.args.outside.now) (g.O.Outside.account c.enter_if.new.outside) (here_with c.args.plan.now failure) below c.args.child e e.kind (kinds.If c.in-If.all c.in-If.condition) round (state_of c.args.state.now (at_places own c.args.places.now))
-    (entered (here_with c.args.plan.now failure) below c.args.child round e (state_of c.enter_if.new.state (at_places own c.args.places.now))) (past (state_of c.enter_if.new.state (at_places own c.args.places.now))) c.enter_if.result k
-    (c.enter_if.ensures.came e c.in-If.all c.in-If.condition failure below round (at_places own c.args.places.now) (record { there = there; of_kind = k }))
+returns-in-If-clause-came g c = λ e failure below round own there. c.enter_as-in-If.ensures.came e failure below round (at_places own c.args.places.now) there
 
 pub returns-in-While-clause-came : goal.returns-in-While-clause-came
-returns-in-While-clause-came g c = λ e failure below round own there.
-    let k = kind_is c.args.plan.now.elements c.args.child c.in-Some.element.now e (kinds.While c.in-While.condition) c.in-Some.ensures there c.in-While.is in
-    kind_came (g.O.Outside.account c.args.outside.now) (g.O.Outside.account c.enter_while.new.outside) (here_with c.args.plan.now failure) below c.args.child e e.kind (kinds.While c.in-While.condition) round (state_of c.args.state.now (at_places own c.args.places.now))
-    (entered (here_with c.args.plan.now failure) below c.args.child round e (state_of c.enter_while.new.state (at_places own c.args.places.now))) (past (state_of c.enter_while.new.state (at_places own c.args.places.now))) c.enter_while.result k
-    (c.enter_while.ensures.came e c.in-While.condition failure below round (at_places own c.args.places.now) (record { there = there; of_kind = k }))
+returns-in-While-clause-came g c = λ e failure below round own there. c.enter_as-in-While.ensures.came e failure below round (at_places own c.args.places.now) there
 
 pub returns-in-ForEach-clause-came : goal.returns-in-ForEach-clause-came
-returns-in-ForEach-clause-came g c = λ e failure below round own there.
-    let k = kind_is c.args.plan.now.elements c.args.child c.in-Some.element.now e (kinds.ForEach c.in-ForEach.end c.in-ForEach.input c.in-ForEach.output c.in-ForEach.separator c.in-ForEach.start) c.in-Some.ensures there c.in-ForEach.is in
-    kind_came (g.O.Outside.account c.args.outside.now) (g.O.Outside.account c.enter_each.new.outside) (here_with c.args.plan.now failure) below c.args.child e e.kind (kinds.ForEach c.in-ForEach.end c.in-ForEach.input c.in-ForEach.output c.in-ForEach.separator c.in-ForEach.start) round (state_of c.args.state.now (at_places own c.args.places.now))
-    (entered (here_with c.args.plan.now failure) below c.args.child round e (state_of c.enter_each.new.state (at_places own c.args.places.now))) (past (state_of c.enter_each.new.state (at_places own c.args.places.now))) c.enter_each.result k
-    (c.enter_each.ensures.came e (record { input = c.in-ForEach.input; separator = c.in-ForEach.separator; start = c.in-ForEach.start; end = c.in-ForEach.end }) c.in-ForEach.output failure below round (at_places own c.args.places.now) (record { there = there; of_kind = k }))
+returns-in-ForEach-clause-came g c = λ e failure below round own there. c.enter_as-in-ForEach.ensures.came e failure below round (at_places own c.args.places.now) there
+
+pub returns-in-Random-clause-came : goal.returns-in-Random-clause-came
+returns-in-Random-clause-came g c = λ e failure below round own there. c.enter_as-in-Random.ensures.came e failure below round (at_places own c.args.places.now) there
+
+pub returns-in-RandomOrder-clause-came : goal.returns-in-RandomOrder-clause-came
+returns-in-RandomOrder-clause-came g c = λ e failure below round own there. c.enter_as-in-RandomOrder.ensures.came e failure below round (at_places own c.args.places.now) there
+
+pub returns-in-Switch-clause-came : goal.returns-in-Switch-clause-came
+returns-in-Switch-clause-came g c = λ e failure below round own there. c.enter_as-in-Switch.ensures.came e failure below round (at_places own c.args.places.now) there
 
 pub returns-in-Interleave-clause-came : goal.returns-in-Interleave-clause-came
 returns-in-Interleave-clause-came g c = λ e failure below round own there.
@@ -78,27 +63,6 @@ returns-in-Interleave-clause-came g c = λ e failure below round own there.
     kind_came (g.O.Outside.account c.args.outside.now) (g.O.Outside.account c.enter_interleave.new.outside) (here_with c.args.plan.now failure) below c.args.child e e.kind (kinds.Interleave) round (state_of c.args.state.now (at_places own c.args.places.now))
     (entered (here_with c.args.plan.now failure) below c.args.child round e (state_of c.enter_interleave.new.state (at_places own c.enter_interleave.new.places))) (past (state_of c.enter_interleave.new.state (at_places own c.enter_interleave.new.places))) c.enter_interleave.result k
     (c.enter_interleave.ensures.came e failure below round own (record { there = there; of_kind = k }))
-
-pub returns-in-Random-clause-came : goal.returns-in-Random-clause-came
-returns-in-Random-clause-came g c = λ e failure below round own there.
-    let k = kind_is c.args.plan.now.elements c.args.child c.in-Some.element.now e (kinds.Random) c.in-Some.ensures there c.in-Random.is in
-    kind_came (g.O.Outside.account c.args.outside.now) (g.O.Outside.account c.enter_random.new.outside) (here_with c.args.plan.now failure) below c.args.child e e.kind (kinds.Random) round (state_of c.args.state.now (at_places own c.args.places.now))
-    (entered (here_with c.args.plan.now failure) below c.args.child round e (state_of c.enter_random.new.state (at_places own c.args.places.now))) (past (state_of c.enter_random.new.state (at_places own c.args.places.now))) c.enter_random.result k
-    (c.enter_random.ensures.came e failure below round (at_places own c.args.places.now) (record { there = there; of_kind = k }))
-
-pub returns-in-RandomOrder-clause-came : goal.returns-in-RandomOrder-clause-came
-returns-in-RandomOrder-clause-came g c = λ e failure below round own there.
-    let k = kind_is c.args.plan.now.elements c.args.child c.in-Some.element.now e (kinds.RandomOrder) c.in-Some.ensures there c.in-RandomOrder.is in
-    kind_came (g.O.Outside.account c.args.outside.now) (g.O.Outside.account c.enter_order.new.outside) (here_with c.args.plan.now failure) below c.args.child e e.kind (kinds.RandomOrder) round (state_of c.args.state.now (at_places own c.args.places.now))
-    (entered (here_with c.args.plan.now failure) below c.args.child round e (state_of c.enter_order.new.state (at_places own c.args.places.now))) (past (state_of c.enter_order.new.state (at_places own c.args.places.now))) c.enter_order.result k
-    (c.enter_order.ensures.came e failure below round (at_places own c.args.places.now) (record { there = there; of_kind = k }))
-
-pub returns-in-Switch-clause-came : goal.returns-in-Switch-clause-came
-returns-in-Switch-clause-came g c = λ e failure below round own there.
-    let k = kind_is c.args.plan.now.elements c.args.child c.in-Some.element.now e (kinds.Switch c.in-Switch.value) c.in-Some.ensures there c.in-Switch.is in
-    kind_came (g.O.Outside.account c.args.outside.now) (g.O.Outside.account c.enter_switch.new.outside) (here_with c.args.plan.now failure) below c.args.child e e.kind (kinds.Switch c.in-Switch.value) round (state_of c.args.state.now (at_places own c.args.places.now))
-    (entered (here_with c.args.plan.now failure) below c.args.child round e (state_of c.enter_switch.new.state (at_places own c.args.places.now))) (past (state_of c.enter_switch.new.state (at_places own c.args.places.now))) c.enter_switch.result k
-    (c.enter_switch.ensures.came e c.in-Switch.value failure below round (at_places own c.args.places.now) (record { there = there; of_kind = k }))
 
 pub enter_transaction-requires : goal.enter_transaction-requires
 enter_transaction-requires g c = record { there = record { there = sym c.in-Some.ensures; of_kind = c.in-Transaction.is } }

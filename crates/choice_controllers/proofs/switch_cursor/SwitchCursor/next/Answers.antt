@@ -1,6 +1,0 @@
-use Rattle.cursor_steps.proofs.Steps.{goes-same}
-use Rattle.choice_controllers.proofs.ChosenLaws.{switch-runs}
-use Rattle.choice_controllers.proofs.switch_cursor.SwitchCursor.next.Goals as goal
-
-pub returns-clause-came : goal.returns-clause-came
-returns-clause-came g c = goes-same _ _ _ (switch-runs c.args.self.now c.args.state.now c.take_turn.result c.take_turn.new.chosen c.take_turn.ensures.turn c.take_turn.ensures.taken)
