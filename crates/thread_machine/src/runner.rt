@@ -95,7 +95,7 @@ impl<'p> Runner<'p> {
             entering: None,
             section: None,
             last: None,
-            trace: Trace::new(alloc)?,
+            trace: Trace::new(alloc, budget)?,
             pipeline: Pipeline::new(alloc),
             alloc,
         })

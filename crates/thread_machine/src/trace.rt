@@ -23,6 +23,9 @@ pub enum TraceItem {
     Ended(End),
 }
 
+// Room for at most this many samples is taken before a thread runs.
+const MOST_RESERVED: u32 = 65_536;
+
 /// Items in order, and room for more.
 #[derive(Drop)]
 pub struct Trace {
@@ -39,12 +42,16 @@ impl Model for Trace {
 }
 
 impl Trace {
-    /// An empty trace with room for a section that is left and for the thread's end.
-    pub fn new(alloc: Global) -> M<Trace>
+    /// An empty trace with room for a section that is left and for the thread's end, and where there is memory for as many
+    /// samples as are asked for, up to 65,536: a trace that grows while other threads run is moved, which stops them all.
+    pub fn new(alloc: Global, samples: u32) -> M<Trace>
         ensures { IfOk result (λ t. (t.items ≡ []) × (2 ≤ t.room)) }
     {
         let mut items = Vec::new(alloc);
-        items.reserve(2)?;
+        let wished = samples.min(MOST_RESERVED) as usize + 2;
+        if items.reserve(wished).is_err() {
+            items.reserve(2)?;
+        }
         Ok(Trace { items })
     }
 
