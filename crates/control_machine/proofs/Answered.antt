@@ -20,8 +20,8 @@ use Rattle.jm_meaning.specs.Children.{children_of, one_of}
 use Rattle.jm_meaning.specs.Meaning.{Here, meaning}
 use Rattle.jm_meaning.proofs.PartLaws.{no-rounds, one-round}
 use Rattle.control_machine.specs.declared.stack.Frame.{Frame}
-use Rattle.control_machine.specs.declared.machine.Group.{Group}
-use Rattle.control_machine.specs.declared.machine.Machine.{Machine}
+use Rattle.control_machine.specs.declared.position.Group.{Group}
+use Rattle.control_machine.specs.declared.position.Position.{Position}
 use Rattle.control_machine.specs.Moves.{turned}
 use Rattle.control_machine.specs.Cursors.{shut_of, round_in}
 use Rattle.control_machine.specs.Left.{here_in, left_in, left_of, left_after, label_at, closing, closed, children_at, ended, IsOut, rest_of}
@@ -36,11 +36,11 @@ pub came_as : {B : Type 0} (a b : Account) (run x : Run Ending) (on : B → Run 
 came_as a b run x on limit res is came = subst (λ r. CameTo a r b on limit res) (sym is) came
 
 -- what is left after the answer of an element that was taken out of the open ones
-abbrev pub answered : Tree → Machine → Frame → Element → State → Turn → Run Ending
+abbrev pub answered : Tree → Position → Frame → Element → State → Turn → Run Ending
 answered plan m f e s turn =
     left_after plan m (closed (here_in plan m) f (turned (meaning (here_in plan m) f.depth) (round_in f.round f.cursor) (children_of plan.elements e) (left_by (here_in plan m) f e) s turn))
 
-module _ (plan : Tree) (m : Machine) (f : Frame) (e : Element) (user : UserState) (own : Own) (there : slice_get plan.elements f.element ≡ Some e) where
+module _ (plan : Tree) (m : Position) (f : Frame) (e : Element) (user : UserState) (own : Own) (there : slice_get plan.elements f.element ≡ Some e) where
   -- the element is left
   pub is_over : (turn : Turn) → turn ≡ Over → m.signal ≡ Normal → (k : ℕ) → k ≡ own.rounds
       → answered plan m f e (state_of user own) turn ≡ went plan m (state_of user (at_rounds own k)) (closing_of m.signal f)
@@ -51,7 +51,7 @@ module _ (plan : Tree) (m : Machine) (f : Frame) (e : Element) (user : UserState
       ∙ ap (λ s. went plan m s (closing_of m.signal f)) (at_own user own k same)
 
   -- no round is left for it: the thread goes out by this limit
-  abbrev out_of_rounds : Machine
+  abbrev out_of_rounds : Position
   out_of_rounds = record m { signal = Stop RoundLimit }
 
   pub no_round_left : (turn : Turn) → turn ≡ Round → own.rounds ≡ 0 → (k : ℕ) → k ≡ own.rounds
@@ -63,7 +63,7 @@ module _ (plan : Tree) (m : Machine) (f : Frame) (e : Element) (user : UserState
       ∙ ap (λ s. went plan out_of_rounds s (closing_of (Stop RoundLimit) f)) (at_own user own k same)
 
   -- a round is taken
-  pub round_taken : (turn : Turn) → turn ≡ Round → (m' : Machine) → IsLike m m' → m'.stack.frames ≡ f ∷ m.stack.frames → (n : ℕ) → own.rounds ≡ suc n
+  pub round_taken : (turn : Turn) → turn ≡ Round → (m' : Position) → IsLike m m' → m'.stack.frames ≡ f ∷ m.stack.frames → (n : ℕ) → own.rounds ≡ suc n
       → answered plan m f e (state_of user own) turn ≡ left_of plan m' (state_of user (at_rounds own n))
   round_taken turn is m' like frames n some =
       ap (answered plan m f e (state_of user own)) is
@@ -72,7 +72,7 @@ module _ (plan : Tree) (m : Machine) (f : Frame) (e : Element) (user : UserState
       ∙ sym (left_later plan m m' m.group (f ∷ m.stack.frames) (state_of user (at_rounds own n)) like.group like.failure like.signal frames)
 
   -- the open elements with this one among them
-  same_place : (m' : Machine) → IsLike m m' → m'.stack.frames ≡ f ∷ m.stack.frames → (x : Here → Run Ending)
+  same_place : (m' : Position) → IsLike m m' → m'.stack.frames ≡ f ∷ m.stack.frames → (x : Here → Run Ending)
       → left_after plan m' (x (here_in plan m')) ≡ left_in (here_in plan m) m.group (f ∷ m.stack.frames) (x (here_in plan m))
   same_place m' like frames x =
       ap (λ failure. left_in (record { plan = plan; at_failure = failure }) m'.group m'.stack.frames (x (record { plan = plan; at_failure = failure }))) like.failure
@@ -81,7 +81,7 @@ module _ (plan : Tree) (m : Machine) (f : Frame) (e : Element) (user : UserState
 
   -- a child comes next
   pub child_next : (turn : Turn) (place child r : ℕ) → turn ≡ Child place → slice_get (children_of plan.elements e) place ≡ Some child → r ≡ round_in f.round f.cursor
-      → (m' : Machine) → IsLike m m' → m'.stack.frames ≡ f ∷ m.stack.frames
+      → (m' : Position) → IsLike m m' → m'.stack.frames ≡ f ∷ m.stack.frames
       → answered plan m f e (state_of user own) turn ≡ left_after plan m' (meaning (here_in plan m') f.depth child r (state_of user own))
   child_next turn place child r is found round m' like frames =
       ap (answered plan m f e (state_of user own)) is
@@ -91,7 +91,7 @@ module _ (plan : Tree) (m : Machine) (f : Frame) (e : Element) (user : UserState
       ∙ sym (same_place m' like frames (λ here. meaning here f.depth child r (state_of user own)))
 
   -- there is no such child
-  pub no_child : (turn : Turn) (place : ℕ) → turn ≡ Child place → slice_get (children_of plan.elements e) place ≡ None → (m' : Machine) → IsLike m m' → m'.stack.frames ≡ f ∷ m.stack.frames
+  pub no_child : (turn : Turn) (place : ℕ) → turn ≡ Child place → slice_get (children_of plan.elements e) place ≡ None → (m' : Position) → IsLike m m' → m'.stack.frames ≡ f ∷ m.stack.frames
       → (k : ℕ) → k ≡ own.rounds → answered plan m f e (state_of user own) turn ≡ left_of plan m' (state_of user (at_rounds own k))
   no_child turn place is found m' like frames k same =
       ap (answered plan m f e (state_of user own)) is
@@ -102,7 +102,7 @@ module _ (plan : Tree) (m : Machine) (f : Frame) (e : Element) (user : UserState
 
 -- ---- the group's child
 
-pub group_child_next : (plan : Tree) (m m' : Machine) (user : UserState) (own : Own) (place child r : ℕ) → m.signal ≡ Normal → m.stack.frames ≡ []
+pub group_child_next : (plan : Tree) (m m' : Position) (user : UserState) (own : Own) (place child r : ℕ) → m.signal ≡ Normal → m.stack.frames ≡ []
     → is_left m.group.pass ≡ true → m.group.pass.children ≡ length (children_at plan.elements m.group.element) → place ≡ m.group.pass.next
     → slice_get (children_at plan.elements m.group.element) place ≡ Some child → r ≡ m.group.begun - 1
     → m'.group ≡ record { element = m.group.element; loops = m.group.loops; begun = m.group.begun; pass = record { children = m.group.pass.children; next = m.group.pass.next + 1 } }
@@ -122,7 +122,7 @@ abbrev pub out : State → Signal → Run Ending
 out s signal = over (record { state = s; signal = signal })
 
 -- one more open element is left
-pub out_of_one : (plan : Tree) (m m' : Machine) (f : Frame) (user : UserState) (own : Own) → (m.signal ≡ Normal → ⊥) → m.stack.frames ≡ f ∷ m'.stack.frames
+pub out_of_one : (plan : Tree) (m m' : Position) (f : Frame) (user : UserState) (own : Own) → (m.signal ≡ Normal → ⊥) → m.stack.frames ≡ f ∷ m'.stack.frames
     → m'.group ≡ m.group → m'.at_failure ≡ m.at_failure → m'.signal ≡ m.signal → (k : ℕ) → k ≡ own.rounds
     → left_of plan m (state_of user own) ≡ went plan m' (state_of user (at_rounds own k)) (closing_of m'.signal f)
 out_of_one plan m m' f user own away frames group failure signal k same =
@@ -148,7 +148,7 @@ stop_at_group : (here : Here) (g : Group) (end : End) (s : State) → left_in he
 unfolding left_in rest_of
 stop_at_group here g end s = refl
 
-pub all_out : (plan : Tree) (m : Machine) (end : End) (user : UserState) (own : Own) → m.stack.frames ≡ [] → m.signal ≡ Stop end → IsOut m.signal → (k : ℕ) → k ≡ own.rounds
+pub all_out : (plan : Tree) (m : Position) (end : End) (user : UserState) (own : Own) → m.stack.frames ≡ [] → m.signal ≡ Stop end → IsOut m.signal → (k : ℕ) → k ≡ own.rounds
     → left_of plan m (state_of user own) ≡ over (ended end (state_of user (at_rounds own k)))
 all_out plan m end user own empty signal is_out k same =
     ap (λ x. left_after plan m (out (state_of user own) x)) signal

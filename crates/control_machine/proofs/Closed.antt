@@ -12,10 +12,10 @@ use Rattle.jm_meaning.specs.Transactions.{gives_sample}
 use Rattle.control_machine.specs.declared.cursor.Cursor.{Cursor}
 use Rattle.control_machine.specs.declared.cursor.Cursor.TheVariants.{Transaction}
 use Rattle.control_machine.specs.declared.stack.Frame.{Frame}
-use Rattle.control_machine.specs.declared.machine.Group.{Group}
-use Rattle.control_machine.specs.declared.machine.Machine.{Machine}
-use Rattle.control_machine.specs.declared.machine.Went.{Went}
-use Rattle.control_machine.specs.declared.machine.Went.TheVariants.{On, To}
+use Rattle.control_machine.specs.declared.position.Group.{Group}
+use Rattle.control_machine.specs.declared.position.Position.{Position}
+use Rattle.control_machine.specs.declared.position.Went.{Went}
+use Rattle.control_machine.specs.declared.position.Went.TheVariants.{On, To}
 use Rattle.control_machine.specs.declared.moves.Move.TheVariants.{LeaveSection, TransactionSample}
 use Rattle.control_machine.specs.Cursors.{Shut, Plain, Summing, Leaving, shut_of, lock_in, FitsKind}
 use Rattle.control_machine.specs.Left.{KeepsLock, IsAlone, IsOpen, StandsIn, open_lock}
@@ -77,7 +77,7 @@ pub closed_lock : (signal : Signal) (f : Frame) (outer : Option ℕ) → IsAlone
 closed_lock signal f outer alone = lock_after f.element (shut_of f.cursor) (gives_sample signal) outer alone
 
 -- a machine out of whose open elements one was taken, after that is left
-pub closed_turn : (plan : Tree) (limit : ℕ) (m : Machine) (f : Frame) → IsOpen plan.elements limit m.rounds f → IsAlone (shut_of f.cursor) (open_lock m.stack.frames) → StandsIn plan m
+pub closed_turn : (plan : Tree) (limit : ℕ) (m : Position) (f : Frame) → IsOpen plan.elements limit m.rounds f → IsAlone (shut_of f.cursor) (open_lock m.stack.frames) → StandsIn plan m
     → TakesTurn plan m.rounds (open_lock (f ∷ m.stack.frames)) m (closing_of m.signal f)
 closed_turn plan limit m f o alone stands = record {
   given = closed_given plan.elements limit m.rounds m.signal f o;

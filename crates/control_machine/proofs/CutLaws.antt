@@ -28,8 +28,8 @@ use Rattle.jm_meaning.specs.Cut.{StandsLater}
 use Rattle.trials.proofs.CutLaws.{refused-left}
 use Rattle.control_machine.specs.declared.cursor.Cursor.{Cursor}
 use Rattle.control_machine.specs.declared.cursor.Cursor.TheVariants.{While, Each}
-use Rattle.control_machine.specs.declared.machine.Group.{Group}
-use Rattle.control_machine.specs.declared.machine.Machine.{Machine}
+use Rattle.control_machine.specs.declared.position.Group.{Group}
+use Rattle.control_machine.specs.declared.position.Position.{Position}
 use Rattle.control_machine.specs.declared.stack.Frame.{Frame}
 use Rattle.jm_meaning.specs.declared.signal.Signal.TheVariants.{Normal}
 use Rattle.control_machine.specs.Cursors.{shut_of, round_left, while_left_in, each_left_in}
@@ -51,7 +51,7 @@ on_refusal (Err e) P Q h p = h e p
 -- ---- a machine
 
 -- the run that was refused is what was left at a place
-pub cut_at : {a b : Account} (plan : Tree) (run : Beside → Run Ending) (m : Machine) (place : Place) (between new : UserState) (limit : Beside → Run Ending) (error : VarError)
+pub cut_at : {a b : Account} (plan : Tree) (run : Beside → Run Ending) (m : Position) (place : Place) (between new : UserState) (limit : Beside → Run Ending) (error : VarError)
     → ((beside : Beside) → run beside ≡ left_at plan m place (state_at m beside between)) → ((beside : Beside) → Refused a (run beside) b (limit beside) error)
     → StandsLater between new → IsCut plan a run b new
 cut_at {a} {b} plan run m place between new limit error is refused stands = record {
@@ -64,7 +64,7 @@ cut_at {a} {b} plan run m place between new limit error is refused stands = reco
   rest = λ beside. refused-left (subst (λ r. Refused a r b (limit beside) error) (is beside) (refused beside));
 }
 
-pub cut_here : {B : Type 0} (a b : Account) (plan : Tree) (m : Machine) (place : Place) (between new : UserState) (on : Beside → B → Run Ending) (limit : Beside → Run Ending) (res : Result B VarError)
+pub cut_here : {B : Type 0} (a b : Account) (plan : Tree) (m : Position) (place : Place) (between new : UserState) (on : Beside → B → Run Ending) (limit : Beside → Run Ending) (res : Result B VarError)
     → ((beside : Beside) → CameTo a (left_at plan m place (state_at m beside between)) b (on beside) (limit beside) res)
     → StandsLater between new → OnErr res (IsCut plan a (λ beside. left_at plan m place (state_at m beside between)) b new)
 cut_here a b plan m place between new on limit (Ok x) came stands = tt
@@ -179,7 +179,7 @@ cut_frame here g f fs e before new own cut there =
     ∙ sym (innermost here g (record { element = f.element; round = f.round; depth = f.depth; cursor = cut.cursor }) fs e (state_of cut.between own) there)
 
 -- the machine with the open element as it stood
-abbrev pub with_frame : Machine → Frame → Cursor → Machine
+abbrev pub with_frame : Position → Frame → Cursor → Position
 with_frame m f c = record {
   group = m.group;
   stack = record { frames = record { element = f.element; round = f.round; depth = f.depth; cursor = c } ∷ m.stack.frames; room = m.stack.room };
@@ -190,7 +190,7 @@ with_frame m f c = record {
   links = m.links;
 }
 
-pub cut_inside : {a b : Account} (plan : Tree) (m : Machine) (f : Frame) (e : Element) (before new : UserState) (limit : Beside → Run Ending) (error : VarError) → slice_get plan.elements f.element ≡ Some e
+pub cut_inside : {a b : Account} (plan : Tree) (m : Position) (f : Frame) (e : Element) (before new : UserState) (limit : Beside → Run Ending) (error : VarError) → slice_get plan.elements f.element ≡ Some e
     → m.signal ≡ Normal → IsCutIn e f.cursor before new → ((beside : Beside) → Refused a (left_from plan m f (over (normal (state_at m beside before)))) b (limit beside) error)
     → IsCut plan a (λ beside. left_from plan m f (over (normal (state_at m beside before)))) b new
 cut_inside plan m f e before new limit error there signal cut refused =

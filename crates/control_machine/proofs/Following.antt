@@ -20,17 +20,17 @@ use Rattle.jm_meaning.specs.Beginning.{max_rounds}
 use Rattle.jm_meaning.specs.Meaning.{Here, meaning, group_rounds}
 use Rattle.jm_meaning.proofs.PartLaws.{next-round, round_at, no-rounds, one-round}
 use Rattle.control_machine.specs.declared.stack.Frame.{Frame}
-use Rattle.control_machine.specs.declared.machine.Group.{Group}
-use Rattle.control_machine.specs.declared.machine.Machine.{Machine}
+use Rattle.control_machine.specs.declared.position.Group.{Group}
+use Rattle.control_machine.specs.declared.position.Position.{Position}
 use Rattle.control_machine.specs.Left.{left_in, rest_of, left_of, here_in, children_at, ended}
 use Rattle.control_machine.proofs.PassLaws.{prefix, none-left, all-left}
 
 -- what is left in a machine whose signal is Normal
-pub left_normal : (plan : Tree) (m : Machine) (s : State) → m.signal ≡ Normal → left_of plan m s ≡ left_in (here_in plan m) m.group m.stack.frames (over (normal s))
+pub left_normal : (plan : Tree) (m : Position) (s : State) → m.signal ≡ Normal → left_of plan m s ≡ left_in (here_in plan m) m.group m.stack.frames (over (normal s))
 left_normal plan m s is = rw is refl
 
 -- and in a later one of the same thread
-pub left_later : (plan : Tree) (m n : Machine) (group : Group) (frames : List Frame) (s : State) → n.group ≡ group → n.at_failure ≡ m.at_failure → n.signal ≡ Normal → n.stack.frames ≡ frames
+pub left_later : (plan : Tree) (m n : Position) (group : Group) (frames : List Frame) (s : State) → n.group ≡ group → n.at_failure ≡ m.at_failure → n.signal ≡ Normal → n.stack.frames ≡ frames
     → left_of plan n s ≡ left_in (here_in plan m) group frames (over (normal s))
 left_later plan m n group frames s g f is fs = rw (is, g, f, fs) refl
 

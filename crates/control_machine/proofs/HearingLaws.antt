@@ -13,7 +13,7 @@ use Rattle.jm_meaning.specs.Beginning.{max_rounds}
 use Rattle.control_machine.specs.declared.cursor.Cursor.{Cursor}
 use Rattle.control_machine.specs.declared.cursor.Cursor.TheVariants.{Transaction}
 use Rattle.control_machine.specs.declared.stack.Frame.{Frame}
-use Rattle.control_machine.specs.declared.machine.Machine.{Machine}
+use Rattle.control_machine.specs.declared.position.Position.{Position}
 use Rattle.control_machine.specs.Cursors.{shut_of, lock_in, begun_of, FitsKind}
 use Rattle.control_machine.specs.Left.{KeepsLock, open_lock, IsAlone, IsOpen, AreOpen, AreApart, IsOut, StandsIn}
 use Rattle.control_machine.specs.declared.moves.Leave.{Leave}
@@ -103,7 +103,7 @@ out_after : (ok : Bool) (failure : Signal) → IsOut failure → IsOut (after_sa
 out_after true failure h = tt
 out_after false failure h = h
 
-pub told_stands : (plan : Tree) (sample : Sample) (m : Machine) → StandsIn plan m → StandsIn plan (told sample m)
+pub told_stands : (plan : Tree) (sample : Sample) (m : Position) → StandsIn plan m → StandsIn plan (told sample m)
 told_stands plan sample m s = record {
   group = s.group;
   open_ = all_open_hearing sample plan.elements m.rounds m.stack.frames s.open_;
@@ -118,5 +118,5 @@ out_left leaves.NextLoop = tt
 out_left leaves.StopThread = tt
 out_left leaves.StopTest = tt
 
-pub left_stands : (plan : Tree) (how : Leave) (m : Machine) → StandsIn plan m → StandsIn plan (record m { signal = signal_left how })
+pub left_stands : (plan : Tree) (how : Leave) (m : Position) → StandsIn plan m → StandsIn plan (record m { signal = signal_left how })
 left_stands plan how m s = record { group = s.group; open_ = s.open_; apart = s.apart; failure = s.failure; signal = out_left how; links = s.links }

@@ -9,15 +9,15 @@ use Rattle.jm_meaning.specs.declared.signal.Signal.{Signal}
 use Rattle.jm_meaning.specs.declared.signal.Signal.TheVariants.{Normal, NextLoop, Stop}
 use Rattle.jm_meaning.specs.State.{Own, state_of, at_rounds, normal}
 use Rattle.control_machine.specs.declared.stack.Frame.{Frame}
-use Rattle.control_machine.specs.declared.machine.Group.{Group}
-use Rattle.control_machine.specs.declared.machine.Machine.{Machine}
+use Rattle.control_machine.specs.declared.position.Group.{Group}
+use Rattle.control_machine.specs.declared.position.Position.{Position}
 use Rattle.control_machine.specs.declared.moves.Move.{Move}
 use Rattle.control_machine.specs.declared.moves.Move.TheVariants.{Iteration, RunSampler, EnterSection, LeaveSection, TransactionSample, Finished}
 use Rattle.control_machine.specs.Left.{here_in, left_in, left_of, ended, AreOpen, AreApart, GroupIsOpen, IsOut, StandsIn}
 use Rattle.control_machine.specs.Turns.{went, closing_of, IsNormalAt}
 use Rattle.control_machine.proofs.Answered.{out, out_of_one, all_out, next_loop, round_over}
 
-pub stop_same : (plan : Tree) (m : Machine) (end : End) (user : UserState) (own : Own) → m.stack.frames ≡ [] → m.signal ≡ Stop end → StandsIn plan m → own.rounds ≡ m.rounds
+pub stop_same : (plan : Tree) (m : Position) (end : End) (user : UserState) (own : Own) → m.stack.frames ≡ [] → m.signal ≡ Stop end → StandsIn plan m → own.rounds ≡ m.rounds
     → left_of plan m (state_of user own) ≡ over (ended end (state_of user (at_rounds own m.rounds)))
 stop_same plan m end user own empty is stands same = all_out plan m end user own empty is stands.signal m.rounds (sym same)
 
@@ -28,7 +28,7 @@ next_is NextLoop away other = refl
 next_is (Stop end) away other = absurd (other end refl)
 
 -- a way out to the next round is over: the group goes on where its round is over
-pub loop_same : (plan : Tree) (m : Machine) (user : UserState) (own : Own) → m.stack.frames ≡ [] → (m.signal ≡ Normal → ⊥) → ((end : End) → m.signal ≡ Stop end → ⊥)
+pub loop_same : (plan : Tree) (m : Position) (user : UserState) (own : Own) → m.stack.frames ≡ [] → (m.signal ≡ Normal → ⊥) → ((end : End) → m.signal ≡ Stop end → ⊥)
     → left_of plan m (state_of user own) ≡ left_of plan (record { group = round_over m.group; stack = m.stack; rounds = m.rounds; places = m.places; at_failure = m.at_failure; signal = Normal; links = m.links }) (state_of user own)
 loop_same plan m user own empty away other =
     ap (λ x. left_in (here_in plan m) m.group m.stack.frames (out (state_of user own) x)) (next_is m.signal away other)
@@ -39,7 +39,7 @@ loop_same plan m user own empty away other =
 pub loop_group : (elements : List Element) (left : ℕ) (g : Group) → GroupIsOpen elements left g → GroupIsOpen elements left (round_over g)
 loop_group elements left g o = record { element = o.element; there = o.there; below = o.below; apart = o.apart; pass = o.pass; bound = o.bound }
 
-pub loop_stands : (plan : Tree) (m m' : Machine) → m.stack.frames ≡ [] → StandsIn plan m → GroupIsOpen plan.elements m'.rounds m'.group
+pub loop_stands : (plan : Tree) (m m' : Position) → m.stack.frames ≡ [] → StandsIn plan m → GroupIsOpen plan.elements m'.rounds m'.group
     → (m'.stack ≡ m.stack) × (m'.signal ≡ Normal) × (m'.links ≡ m.links) → m'.at_failure ≡ m.at_failure → StandsIn plan m'
 loop_stands plan m m' empty stands group rest failure = record {
   group = group;
@@ -51,7 +51,7 @@ loop_stands plan m m' empty stands group rest failure = record {
 }
 
 -- an element that was taken out of the open ones, on a way out
-pub popped_same : (plan : Tree) (m m' : Machine) (f : Frame) (user : UserState) (own : Own) → m.stack.frames ≡ f ∷ m'.stack.frames → (m.signal ≡ Normal → ⊥)
+pub popped_same : (plan : Tree) (m m' : Position) (f : Frame) (user : UserState) (own : Own) → m.stack.frames ≡ f ∷ m'.stack.frames → (m.signal ≡ Normal → ⊥)
     → m'.group ≡ m.group → m'.at_failure ≡ m.at_failure → m'.signal ≡ m.signal → (k : ℕ) → k ≡ own.rounds
     → left_of plan m (state_of user own) ≡ went plan m' (state_of user (at_rounds own k)) (closing_of m'.signal f)
 popped_same plan m m' f user own frames away group failure signal k same =

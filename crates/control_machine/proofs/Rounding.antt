@@ -14,7 +14,7 @@ use Rattle.jm_meaning.specs.declared.signal.Signal.TheVariants.{Normal}
 use Rattle.jm_meaning.specs.State.{Own, state_of, at_rounds, normal}
 use Rattle.jm_meaning.specs.Rounds.{round_start}
 use Rattle.jm_meaning.specs.Children.{children_of}
-use Rattle.control_machine.specs.declared.machine.Machine.{Machine}
+use Rattle.control_machine.specs.declared.position.Position.{Position}
 use Rattle.control_machine.specs.declared.moves.Move.{Move}
 use Rattle.control_machine.specs.declared.moves.Move.TheVariants.{Iteration, RunSampler, EnterSection, LeaveSection, TransactionSample, Finished}
 use Rattle.control_machine.specs.Left.{here_in, left_in, left_of, left_after, children_at, ended, GroupIsOpen}
@@ -28,7 +28,7 @@ none_means p h = grind (arith, h)
 pub all_of : (elements : List Element) (n : ℕ) (e : Element) (count : ℕ) → slice_get elements n ≡ Some e → count ≡ length (children_of elements e) → count ≡ length (children_at elements n)
 all_of elements n e count there is = is ∙ ap (λ o. length (unwrap_or (option_map (children_of elements) o) [])) (sym there)
 
-module _ (plan : Tree) (m : Machine) (user : UserState) (own : Own) (open' : GroupIsOpen plan.elements m.rounds m.group) (empty : m.stack.frames ≡ []) (signal : m.signal ≡ Normal)
+module _ (plan : Tree) (m : Position) (user : UserState) (own : Own) (open' : GroupIsOpen plan.elements m.rounds m.group) (empty : m.stack.frames ≡ []) (signal : m.signal ≡ Normal)
     (past_all : m.group.pass.children ≤ m.group.pass.next) (same : own.rounds ≡ m.rounds) where
   at_group : left_of plan m (state_of user own) ≡ left_in (here_in plan m) m.group [] (over (normal (state_of user own)))
   at_group = left_normal plan m (state_of user own) signal ∙ ap (λ fs. left_in (here_in plan m) m.group fs (over (normal (state_of user own)))) empty

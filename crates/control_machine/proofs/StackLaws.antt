@@ -21,9 +21,9 @@ use Rattle.jm_meaning.specs.Sections.{leaving_open}
 use Rattle.control_machine.specs.declared.cursor.Cursor.{Cursor}
 use Rattle.control_machine.specs.declared.cursor.Cursor.TheVariants.{Transaction}
 use Rattle.control_machine.specs.declared.stack.Frame.{Frame}
-use Rattle.control_machine.specs.declared.machine.Group.{Group}
-use Rattle.control_machine.specs.declared.machine.Machine.{Machine}
-use Rattle.control_machine.specs.declared.machine.Went.TheVariants.{On, To}
+use Rattle.control_machine.specs.declared.position.Group.{Group}
+use Rattle.control_machine.specs.declared.position.Position.{Position}
+use Rattle.control_machine.specs.declared.position.Went.TheVariants.{On, To}
 use Rattle.control_machine.specs.declared.moves.Move.TheVariants.{TransactionSample}
 use Rattle.control_machine.specs.Moves.{past}
 use Rattle.control_machine.specs.Cursors.{cursor_left, Shut, Plain, Summing, Leaving, shut_of, lock_in}
@@ -159,7 +159,7 @@ module _ (here : Here) (sample : Sample) where
 -- ---- an element is left
 
 -- The sample of a transaction is the next move, where it gives one, or that a section is left.
-pub closed_out : (plan : Tree) (m : Machine) (element : ℕ) (o : Shut) (s : State)
+pub closed_out : (plan : Tree) (m : Position) (element : ℕ) (o : Shut) (s : State)
     → left_after plan m (closing (label_at plan.elements element) o (over (record { state = s; signal = m.signal }))) ≡ went plan m s (closing_move element o (gives_sample m.signal))
 closed_out plan m element Plain s = refl
 closed_out plan m element (Leaving lock) s =

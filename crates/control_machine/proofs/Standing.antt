@@ -15,11 +15,11 @@ use Rattle.jm_meaning.specs.Beginning.{max_rounds}
 use Rattle.control_machine.specs.declared.cursor.Cursor.{Cursor}
 use Rattle.control_machine.specs.declared.cursor.Cursor.TheVariants.{Simple, Once, Loop, If, While, Each, Interleave, Random, Order, Switch, Transaction, Section}
 use Rattle.control_machine.specs.declared.stack.Frame.{Frame}
-use Rattle.control_machine.specs.declared.machine.Group.{Group}
+use Rattle.control_machine.specs.declared.position.Group.{Group}
 use Rattle.control_machine.specs.Cursors.{Shut, Plain, Summing, Leaving, shut_of, lock_in, FitsKind, begun_of}
-use Rattle.control_machine.specs.declared.machine.Machine.{Machine}
-use Rattle.control_machine.specs.declared.machine.Went.{Went}
-use Rattle.control_machine.specs.declared.machine.Went.TheVariants.{On, To}
+use Rattle.control_machine.specs.declared.position.Position.{Position}
+use Rattle.control_machine.specs.declared.position.Went.{Went}
+use Rattle.control_machine.specs.declared.position.Went.TheVariants.{On, To}
 use Rattle.control_machine.specs.declared.moves.Move.TheVariants.{EnterSection}
 use Rattle.var_functions.specs.declared.error.VarError.{VarError}
 use Rattle.var_functions.specs.declared.error.VarError.TheVariants.{NoMemory}
@@ -177,7 +177,7 @@ opened_apart elements fs n round depth c e there fits free below =
 
 -- ---- where a cursor was pushed
 
-abbrev pub Pushed : Machine → Machine → Frame → Result Went VarError → Type 0
+abbrev pub Pushed : Position → Position → Frame → Result Went VarError → Type 0
 Pushed m m' f res = MatchResult res (λ w. (w ≡ opening_move (shut_of f.cursor)) × (m'.stack.frames ≡ f ∷ m.stack.frames)) (λ e. e ≡ NoMemory)
 
 -- what holds of going on and of a section that is entered holds of an element that is opened
@@ -197,7 +197,7 @@ opening_lock Plain outer alone = refl
 opening_lock (Summing tally) outer alone = refl
 opening_lock (Leaving lock) outer alone = (alone, refl)
 
-pub pushed_turn : (plan : Tree) (m m' : Machine) (f : Frame) (res : Result Went VarError) → Pushed m m' f res → SameRest m m' → IsOpen plan.elements max_rounds m.rounds f
+pub pushed_turn : (plan : Tree) (m m' : Position) (f : Frame) (res : Result Went VarError) → Pushed m m' f res → SameRest m m' → IsOpen plan.elements max_rounds m.rounds f
     → IsApart plan.elements m.stack.frames f → StandsIn plan m → IfOk res (TakesTurn plan m.rounds (open_lock m.stack.frames) m')
 pushed_turn plan m m' f (Ok w) pushed rest open' apart stands = rw pushed.0 (record {
   given = opening_given plan.elements f.element open'.element (shut_of f.cursor) open'.there open'.lock;
@@ -216,7 +216,7 @@ pushed_turn plan m m' f (Ok w) pushed rest open' apart stands = rw pushed.0 (rec
 })
 pushed_turn plan m m' f (Err e) pushed rest open' apart stands = tt
 
-pub pushed_opens : (plan : Tree) (m m' : Machine) (n round depth : ℕ) (c : Cursor) (e : Element) → slice_get plan.elements n ≡ Some e → FitsKind n (length (children_of plan.elements e)) e.kind c → (res : Result Went VarError)
+pub pushed_opens : (plan : Tree) (m m' : Position) (n round depth : ℕ) (c : Cursor) (e : Element) → slice_get plan.elements n ≡ Some e → FitsKind n (length (children_of plan.elements e)) e.kind c → (res : Result Went VarError)
     → Pushed m m' (record { element = n; round = round; depth = depth - 1; cursor = c }) res → IfOk res (λ w. IsOpened plan.elements depth m.stack.frames m'.stack.frames)
 pushed_opens plan m m' n round depth c e there fits (Ok w) pushed =
     let p = few_in_pass n (length (children_of plan.elements e)) e.kind c fits in

@@ -20,13 +20,13 @@ use Rattle.jm_meaning.specs.Meaning.{Here, here_at, meaning, signal_of, failure_
 use Rattle.node_table.specs.declared.element_links.Link.{Link}
 use Rattle.node_table.specs.ElementLinks.{links_of}
 use Rattle.control_machine.specs.Opened.{Opened}
-use Rattle.control_machine.specs.declared.machine.Machine.{Machine}
+use Rattle.control_machine.specs.declared.position.Position.{Position}
 use Rattle.control_machine.specs.Left.{left_in, rest_of, left_of, children_at, AreOpen, AreApart, IsOut, StandsIn}
 use Rattle.control_machine.proofs.PassLaws.{none-left, count-is}
 use Rattle.control_machine.proofs.CursorCalls.{same_element}
 
 -- the machine of this group
-abbrev pub first_of : ℕ → Loops → ℕ → Opened → List ℕ → Signal → List Link → Machine
+abbrev pub first_of : ℕ → Loops → ℕ → Opened → List ℕ → Signal → List Link → Position
 first_of number loops children stack places failure links = record {
   group = record { element = number; loops = loops; begun = 0; pass = record { children = children; next = children } };
   stack = stack;
@@ -86,7 +86,7 @@ new_whole plan thread number e loops on_error ramp_ms threads children stack pla
     ∙ ap (λ o. group_part here number o s) there
     ∙ ap (λ f. group_part (record { plan = plan; at_failure = f }) number (slice_get plan.elements number) s) (action ∙ ap failure_in (sym kind) ∙ ap failure_of there)
     ∙ ap (λ n. group_part (here_at plan n) n (slice_get plan.elements n) s) is where
-      m : Machine
+      m : Position
       m = first_of number loops children stack places failure links
 
       here : Here

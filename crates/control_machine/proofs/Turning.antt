@@ -16,9 +16,9 @@ use Rattle.jm_meaning.specs.Sections.{leaving_open}
 use Rattle.jm_meaning.specs.Meaning.{Here, children_in, meaning, kind_meaning}
 use Rattle.control_machine.specs.declared.cursor.Cursor.{Cursor}
 use Rattle.control_machine.specs.declared.stack.Frame.{Frame}
-use Rattle.control_machine.specs.declared.machine.Machine.{Machine}
-use Rattle.control_machine.specs.declared.machine.Went.{Went}
-use Rattle.control_machine.specs.declared.machine.Went.TheVariants.{On, To}
+use Rattle.control_machine.specs.declared.position.Position.{Position}
+use Rattle.control_machine.specs.declared.position.Went.{Went}
+use Rattle.control_machine.specs.declared.position.Went.TheVariants.{On, To}
 use Rattle.control_machine.specs.declared.moves.Move.TheVariants.{RunSampler}
 use Rattle.control_machine.specs.Moves.{past}
 use Rattle.control_machine.specs.Cursors.{cursor_left, Shut, Plain, Summing, Leaving, shut_of}
@@ -38,13 +38,13 @@ pub at_own : (user : UserState) (own : Own) (k : ℕ) → k ≡ own.rounds → s
 at_own user own k is = ap (state_of user) (sym (own_same own k is))
 
 -- another machine of the same thread, with the same group and on no way out
-pub record IsLike (m n : Machine) : Type 0 where
+pub record IsLike (m n : Position) : Type 0 where
   pub group : n.group ≡ m.group
   pub failure : n.at_failure ≡ m.at_failure
   pub signal : n.signal ≡ Normal
 
 -- what is left where an element was opened: a section takes a unit and is entered
-module _ (plan : Tree) (m m' : Machine) (part : Part) (apart : AreApart plan.elements m.stack.frames) (same : (s : State) → left_after plan m (part s) ≡ left_of plan m' s) where
+module _ (plan : Tree) (m m' : Position) (part : Part) (apart : AreApart plan.elements m.stack.frames) (same : (s : State) → left_after plan m (part s) ≡ left_of plan m' s) where
   by_units : (lock : ℕ) (s : State) → open_lock m.stack.frames ≡ None → (k : ℕ)
       → left_after plan m (taking_unit k s (λ s. give (Entered lock) (part s))) ≡ taking_unit k s (λ s. give (Entered lock) (left_of plan m' s))
   by_units lock s alone zero =
@@ -58,7 +58,7 @@ module _ (plan : Tree) (m m' : Machine) (part : Part) (apart : AreApart plan.ele
   opened_is (Summing tally) alone s = same s
   opened_is (Leaving lock) alone s = by_units lock s alone s.own.units
 
-module _ (plan : Tree) (m : Machine) (n round depth : ℕ) (e : Element) (user user' : UserState) (own own' : Own) (a b : Account)
+module _ (plan : Tree) (m : Position) (n round depth : ℕ) (e : Element) (user user' : UserState) (own own' : Own) (a b : Account)
     (some : 1 ≤ depth) (there : slice_get plan.elements n ≡ Some e) where
   abbrev here : Here
   here = here_in plan m
@@ -85,7 +85,7 @@ module _ (plan : Tree) (m : Machine) (n round depth : ℕ) (e : Element) (user u
   open_sampler goes = rw there (inside (kind_part (here_in plan m) n e e.kind (state_of user' own')) goes)
 
   -- a controller
-  pub open_frame : (m' : Machine) (c : Cursor) (limit : Run Ending) (res : Result Went VarError) → IsLike m m' → (o : Own) → o ≡ own' → AreApart plan.elements m.stack.frames
+  pub open_frame : (m' : Position) (c : Cursor) (limit : Run Ending) (res : Result Went VarError) → IsLike m m' → (o : Own) → o ≡ own' → AreApart plan.elements m.stack.frames
       → IsAlone (shut_of c) (open_lock m.stack.frames)
       → MatchResult res (λ w. (w ≡ opening_move (shut_of c)) × (m'.stack.frames ≡ record { element = n; round = round; depth = depth - 1; cursor = c } ∷ m.stack.frames)) (λ e. e ≡ NoMemory)
       → Goes a (kind_meaning (here_in plan m) (meaning (here_in plan m) (depth - 1)) n e e.kind round (state_of user own)) []
@@ -111,5 +111,5 @@ module _ (plan : Tree) (m : Machine) (n round depth : ℕ) (e : Element) (user u
       (sym (meant (here_in plan m) depth n round (state_of user own) e some there)) (refused_left (here_in plan m) m.group m.stack.frames apart refused)
 
 -- the same, in a machine that keeps the same rounds and places
-pub own_is : (m n : Machine) (beside : Beside) → n.rounds ≡ m.rounds → n.places ≡ m.places → own_at n beside ≡ own_at m beside
+pub own_is : (m n : Position) (beside : Beside) → n.rounds ≡ m.rounds → n.places ≡ m.places → own_at n beside ≡ own_at m beside
 own_is m n beside rounds places = rw (rounds, places) refl

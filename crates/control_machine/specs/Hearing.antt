@@ -6,7 +6,7 @@ use Rattle.jm_meaning.specs.Transactions.{with_sample}
 use Rattle.control_machine.specs.declared.cursor.Cursor.{Cursor}
 use Rattle.control_machine.specs.declared.cursor.Cursor.TheVariants.{Transaction}
 use Rattle.control_machine.specs.declared.stack.Frame.{Frame}
-use Rattle.control_machine.specs.declared.machine.Machine.{Machine}
+use Rattle.control_machine.specs.declared.position.Position.{Position}
 
 -- a transaction counts the sample
 abbrev pub hearing : Sample → Cursor → Cursor
@@ -20,7 +20,7 @@ abbrev pub all_hearing : Sample → List Frame → List Frame
 all_hearing sample frames = map (frame_hearing sample) frames
 
 -- A machine that was told of a sample: the open transactions count it, and where it failed the group's action follows.
-abbrev pub told : Sample → Machine → Machine
+abbrev pub told : Sample → Position → Position
 told sample m = record {
   group = m.group;
   stack = record { frames = all_hearing sample m.stack.frames; room = m.stack.room };

@@ -24,8 +24,8 @@ use Rattle.jm_meaning.specs.Beginning.{max_rounds}
 use Rattle.jm_meaning.specs.Meaning.{Here, children_in, meaning, group_rounds}
 use Rattle.node_table.specs.ElementLinks.{links_of}
 use Rattle.control_machine.specs.declared.stack.Frame.{Frame}
-use Rattle.control_machine.specs.declared.machine.Group.{Group}
-use Rattle.control_machine.specs.declared.machine.Machine.{Machine}
+use Rattle.control_machine.specs.declared.position.Group.{Group}
+use Rattle.control_machine.specs.declared.position.Position.{Position}
 use Rattle.control_machine.specs.declared.moves.Move.{Move}
 use Rattle.control_machine.specs.declared.moves.Move.TheVariants.{Iteration, RunSampler, EnterSection, LeaveSection, TransactionSample, Finished}
 use Rattle.control_machine.specs.Moves.{pass_left}
@@ -74,15 +74,15 @@ unfoldable pub left_in : Here → Group → List Frame → Run Ending → Run En
 left_in here g fs inner = group_around here g (rest_of here fs inner)
 
 -- a machine's thread
-abbrev pub here_in : Tree → Machine → Here
+abbrev pub here_in : Tree → Position → Here
 here_in plan m = record { plan = plan; at_failure = m.at_failure }
 
 -- what is left of a thread's rounds after a part of its run
-abbrev pub left_after : Tree → Machine → Run Ending → Run Ending
+abbrev pub left_after : Tree → Position → Run Ending → Run Ending
 left_after plan m inner = left_in (here_in plan m) m.group m.stack.frames inner
 
 -- what is left of a thread's rounds
-abbrev pub left_of : Tree → Machine → State → Run Ending
+abbrev pub left_of : Tree → Position → State → Run Ending
 left_of plan m s = left_after plan m (over (record { state = s; signal = m.signal }))
 
 -- what a thread carries beside its variables and its machine: the units left, and the places of Counters and data sets
@@ -91,10 +91,10 @@ pub record Beside : Type 0 where
   pub config : List ℕ
 
 -- with what the machine keeps: the rounds left, and the places of the Interleave Controllers
-abbrev pub own_at : Machine → Beside → Own
+abbrev pub own_at : Position → Beside → Own
 own_at m beside = record { units = beside.units; rounds = m.rounds; places = m.places; config = beside.config }
 
-abbrev pub state_at : Machine → Beside → UserState → State
+abbrev pub state_at : Position → Beside → UserState → State
 state_at m beside user = state_of user (own_at m beside)
 
 -- ---- moves
@@ -114,7 +114,7 @@ ended Completed s = normal s
 ended end s = stopped end s
 
 -- what is left after a move
-abbrev pub moved : Tree → Machine → State → Move → Run Ending
+abbrev pub moved : Tree → Position → State → Move → Run Ending
 moved plan m s (Iteration index) = left_after plan m (round_start plan.elements m.group.element s)
 moved plan m s (RunSampler number) = left_after plan m (sampler_part (here_in plan m) number (slice_get plan.elements number) s)
 moved plan m s (EnterSection lock) = with_unit s (λ s. give (EnteredEvent lock) (left_of plan m s))
@@ -228,7 +228,7 @@ IsOut (Stop RoundLimit) = Unit {0}
 IsOut (Stop end) = ⊥
 
 -- a machine stands in the plan for which it was made, and has the links of its elements
-pub record StandsIn (plan : Tree) (m : Machine) : Type 0 where
+pub record StandsIn (plan : Tree) (m : Position) : Type 0 where
   pub group : GroupIsOpen plan.elements m.rounds m.group
   pub open_ : AreOpen plan.elements m.rounds m.stack.frames
   pub apart : AreApart plan.elements m.stack.frames

@@ -7,3 +7,4 @@ pub mod Entering
 pub mod Turns
 pub mod Hearing
 pub mod MachineCut
+pub mod NextMove

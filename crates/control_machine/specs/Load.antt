@@ -7,7 +7,7 @@ use Rattle.choice_controllers.specs.RandomOrderController.{order_of}
 use Rattle.control_machine.specs.declared.cursor.Cursor.{Cursor}
 use Rattle.control_machine.specs.declared.cursor.Cursor.TheVariants.{Simple, Once, Loop, If, While, Each, Interleave, Random, Order, Switch, Transaction, Section}
 use Rattle.control_machine.specs.declared.stack.Frame.{Frame}
-use Rattle.control_machine.specs.declared.machine.Machine.{Machine}
+use Rattle.control_machine.specs.declared.position.Position.{Position}
 
 -- how many children the elements have together
 unfoldable pub children_count : List Element → ℕ
@@ -43,6 +43,6 @@ load children [] = 0
 load children (f ∷ fs) = suc (children_left f.cursor) * scale children f.depth + load children fs
 
 -- with that of the group's round and of the rounds left
-abbrev pub load_of : List Element → Machine → ℕ
+abbrev pub load_of : List Element → Position → ℕ
 load_of elements m =
     load (children_count elements) m.stack.frames + (remaining m.group.pass + m.rounds) * scale (children_count elements) 31

@@ -11,7 +11,7 @@ use Rattle.jm_meaning.specs.Children.{Below}
 use Rattle.jm_meaning.specs.Meaning.{meaning}
 use Rattle.jm_meaning.specs.Cut.{StandsLater}
 use Rattle.control_machine.specs.declared.cursor.Cursor.{Cursor}
-use Rattle.control_machine.specs.declared.machine.Machine.{Machine}
+use Rattle.control_machine.specs.declared.position.Position.{Position}
 use Rattle.control_machine.specs.Cursors.{cursor_left, shut_of}
 use Rattle.control_machine.specs.Left.{Beside, left_of, left_after, here_in, state_at}
 
@@ -20,14 +20,14 @@ pub data Place : Type 0 where
   between_turns : Place
   before_element : (depth number round : ℕ) → Place
 
-abbrev pub left_at : Tree → Machine → Place → State → Run Ending
+abbrev pub left_at : Tree → Position → Place → State → Run Ending
 left_at plan m between_turns s = left_of plan m s
 left_at plan m (before_element depth number round) s = left_after plan m (meaning (here_in plan m) depth number round s)
 
 -- The steps that are done have come to a place of the thread's run. Since then the variables are as they were, functions
 -- stand at a later moment, and the outside has been asked for what is left at this place alone.
 pub record IsCut (plan : Tree) (before : Account) (run : Beside → Run Ending) (after : Account) (new : UserState) : Type 0 where
-  pub machine : Machine
+  pub machine : Position
   pub place : Place
   pub between : UserState
   pub moment : Account

@@ -16,10 +16,10 @@ use Rattle.jm_meaning.specs.Children.{children_of}
 use Rattle.jm_meaning.specs.Meaning.{meaning}
 use Rattle.jm_meaning.specs.Sections.{leaving_open}
 use Rattle.control_machine.specs.declared.stack.Frame.{Frame}
-use Rattle.control_machine.specs.declared.machine.Group.{Group}
-use Rattle.control_machine.specs.declared.machine.Machine.{Machine}
-use Rattle.control_machine.specs.declared.machine.Went.{Went}
-use Rattle.control_machine.specs.declared.machine.Went.TheVariants.{On, To}
+use Rattle.control_machine.specs.declared.position.Group.{Group}
+use Rattle.control_machine.specs.declared.position.Position.{Position}
+use Rattle.control_machine.specs.declared.position.Went.{Went}
+use Rattle.control_machine.specs.declared.position.Went.TheVariants.{On, To}
 use Rattle.control_machine.specs.declared.moves.Move.{Move}
 use Rattle.control_machine.specs.declared.moves.Move.TheVariants.{Iteration, RunSampler, EnterSection, LeaveSection, TransactionSample, Finished}
 use Rattle.control_machine.specs.declared.moves.Leave.{Leave}
@@ -32,7 +32,7 @@ use Rattle.control_machine.specs.MachineCut.{IsCut}
 use Rattle.control_machine.specs.Load.{children_count, scale, load, remaining, children_left}
 
 -- what is left after a turn
-abbrev pub went : Tree → Machine → State → Went → Run Ending
+abbrev pub went : Tree → Position → State → Went → Run Ending
 went plan m s On = left_of plan m s
 went plan m s (To move) = moved plan m s move
 
@@ -68,17 +68,17 @@ signal_left leaves.StopThread = Stop StopThread
 signal_left leaves.StopTest = Stop StopTest
 
 -- what is left where this element is open inside the machine's
-abbrev pub left_from : Tree → Machine → Frame → Run Ending → Run Ending
+abbrev pub left_from : Tree → Position → Frame → Run Ending → Run Ending
 left_from plan m f inner = left_in (here_in plan m) m.group (f ∷ m.stack.frames) inner
 
 -- what is left where an element that was taken out of the open ones has answered
-abbrev pub left_answered : Tree → Machine → Frame → Element → Turn → State → Run Ending
+abbrev pub left_answered : Tree → Position → Frame → Element → Turn → State → Run Ending
 left_answered plan m f e turn s =
     left_after plan m (closed (here_in plan m) f (turned (meaning (here_in plan m) f.depth) (round_in f.round f.cursor) (children_of plan.elements e)
     (cursor_left (meaning (here_in plan m) f.depth) f.round (children_of plan.elements e) e f.cursor) s turn))
 
 -- the load of these open elements, in a machine
-abbrev pub load_in : List Element → Machine → List Frame → ℕ
+abbrev pub load_in : List Element → Position → List Frame → ℕ
 load_in elements m frames = load (children_count elements) frames + (remaining m.group.pass + m.rounds) * scale (children_count elements) 31
 
 -- the open elements where a child was opened at which elements nest that deep: one more of them, or none
@@ -129,19 +129,19 @@ MovesLockOn (To move) old new = MovesLock move old new
 -- ---- a turn
 
 -- what is left of a thread's rounds before a turn, by what is kept beside the machine
-abbrev pub left_before : Tree → Machine → UserState → Beside → Run Ending
+abbrev pub left_before : Tree → Position → UserState → Beside → Run Ending
 left_before plan m user beside = left_of plan m (state_at m beside user)
 
 -- Between two moments of the outside a machine came from this run to what is left after its turn; or past a limit, where the
 -- section of this lock is left. Where it was refused, it was cut on its way.
-pub record Turns (plan : Tree) (before : Account) (run : Beside → Run Ending) (section : Option ℕ) (after : Account) (new : Machine) (user : UserState) (result : Result Went VarError) : Type 0 where
+pub record Turns (plan : Tree) (before : Account) (run : Beside → Run Ending) (section : Option ℕ) (after : Account) (new : Position) (user : UserState) (result : Result Went VarError) : Type 0 where
   pub came : (beside : Beside) → CameTo before (run beside) after (went plan new (state_at new beside user)) (leaving_open section (past (state_at new beside user))) result
   pub cut : OnErr result (IsCut plan before run after user)
 
 -- A machine after a turn that was not refused: it stands in its plan, and so does what it names; it is on no way out where it
 -- names a sampler or the begin of a round; the section that is open is the one that the move leaves open; no round is given
 -- back, and a round that begins is named by its index. Before the turn this many rounds were left, and this section was open.
-pub record TakesTurn (plan : Tree) (left : ℕ) (section : Option ℕ) (new : Machine) (w : Went) : Type 0 where
+pub record TakesTurn (plan : Tree) (left : ℕ) (section : Option ℕ) (new : Position) (w : Went) : Type 0 where
   pub given : IsWent plan.elements w
   pub stands : StandsIn plan new
   pub normal : IsNormalOn w new.signal
@@ -150,11 +150,11 @@ pub record TakesTurn (plan : Tree) (left : ℕ) (section : Option ℕ) (new : Ma
   pub index : IsRoundIn w new.group
 
 -- the same thread: its group, and what a failed sample leads to
-abbrev pub SameThread : Machine → Machine → Type 0
+abbrev pub SameThread : Position → Position → Type 0
 SameThread old new = (new.group.element ≡ old.group.element) × (new.at_failure ≡ old.at_failure)
 
 -- the same but for the open elements and the places of the Interleave Controllers
-pub record SameRest (old new : Machine) : Type 0 where
+pub record SameRest (old new : Position) : Type 0 where
   pub group : new.group ≡ old.group
   pub rounds : new.rounds ≡ old.rounds
   pub failure : new.at_failure ≡ old.at_failure

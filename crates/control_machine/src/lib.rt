@@ -6,6 +6,7 @@ mod enter;
 pub mod machine;
 pub mod moves;
 mod opens;
+pub mod position;
 mod section;
 pub mod stack;
 mod transaction;
@@ -13,8 +14,9 @@ mod turns;
 
 pub use cursor::Cursor;
 pub use jm_meaning::Tally;
-pub use machine::{Group, Machine};
+pub use machine::Machine;
 pub use moves::{Leave, Move};
+pub use position::{Group, Position};
 pub use section::OpenSection;
 pub use stack::{Frame, Stack};
 pub use transaction::OpenTransaction;

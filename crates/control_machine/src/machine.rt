@@ -1,4 +1,4 @@
-// The machine: the group's rounds, and the elements that are open in its round.
+// The machine of a thread: it goes from one move to the next.
 
 ghost use Rattle.std.specs.Prelude.{◌≡◌, ◌<◌, None, slice_get, length, IfOk, OnErr};
 ghost use Rattle.element_tree.specs.Tree.{Tree, threads_of, group_of};
@@ -11,52 +11,34 @@ ghost use Rattle.jm_meaning.specs.Meaning.{group_part, here_at, failure_of};
 ghost use Rattle.jm_meaning.specs.Beginning.{max_rounds, first_places};
 ghost use Rattle.control_machine.specs.Moves.{past};
 ghost use Rattle.control_machine.specs.Left.{Beside, StandsIn, left_of, state_at, moved, IsMove, open_lock};
-ghost use Rattle.control_machine.specs.Turns.{Lightens, TakesRound, IsNormalAt, IsRoundOf, MovesLock, TakesTurn, Turns, SameThread, left_before, signal_left};
-ghost use Rattle.control_machine.specs.Load.{load_of};
+ghost use Rattle.control_machine.specs.Turns.{TakesRound, IsNormalAt, IsRoundOf, MovesLock, signal_left};
 ghost use Rattle.control_machine.specs.Hearing.{told};
 ghost use Rattle.control_machine.specs.MachineCut.{IsCut};
 
 use crate::moves::{Leave, Move};
+use crate::position::{Group, Position};
 use crate::stack::Stack;
 use cursor_steps::{Pass, run_count};
-use element_tree::{Kind, Loops, Plan};
+use element_tree::{Kind, Plan};
 use jm_base::{End, M, Outside, Sample};
 use jm_meaning::{Places, Signal, signal_of};
 use node_table::Links;
 use std::alloc::Global;
+use std::marker::Model;
 use var_functions::{UserState, VarError};
 
-/// The rounds of the thread's group.
-#[derive(Clone, Copy)]
-pub struct Group {
-    /// The number of the group's element.
-    pub element: u16,
-    pub loops: Loops,
-    /// How many rounds have begun.
-    pub begun: u32,
-    /// The children in the round that began last.
-    pub pass: Pass,
-}
-
-/// A thread's place in its plan: the group's rounds, the open elements, the rounds that the thread has left, the places of
-/// its Interleave Controllers, what a failed sample leads to, whether the thread is on its way out, and the links of the
-/// plan's elements. It is used with the plan for which it was made.
+/// A thread in its plan, between two of its moves. It is used with the plan for which it was made. Contracts see its position.
 #[derive(Drop)]
 pub struct Machine {
-    pub group: Group,
-    pub stack: Stack,
-    pub rounds: u32,
-    pub places: Places,
-    pub at_failure: Signal,
-    pub signal: Signal,
-    pub(crate) links: Links,
+    position: Position,
 }
 
-/// What a turn comes to: the next turn, or a move.
-#[derive(Drop)]
-pub enum Went {
-    On,
-    To(Move),
+impl Model for Machine {
+    ghost use Rattle.control_machine.specs.declared.position.Position.{Position};
+
+    ghost Value = { Position };
+
+    ghost view = { λ m. m.position };
 }
 
 impl Machine {
@@ -89,21 +71,23 @@ impl Machine {
         let places = Places::first(alloc, plan)?;
         let links = Links::of(alloc, plan)?;
         Ok(Machine {
-            group: Group {
-                element: number,
-                loops: *loops,
-                begun: 0,
-                pass: Pass {
-                    children,
-                    next: children,
+            position: Position {
+                group: Group {
+                    element: number,
+                    loops: *loops,
+                    begun: 0,
+                    pass: Pass {
+                        children,
+                        next: children,
+                    },
                 },
+                stack: Stack::new(alloc),
+                rounds: 16_777_216,
+                places,
+                at_failure: signal_of(*on_error),
+                signal: Signal::Normal,
+                links,
             },
-            stack: Stack::new(alloc),
-            rounds: 16_777_216,
-            places,
-            at_failure: signal_of(*on_error),
-            signal: Signal::Normal,
-            links,
         })
     }
 
@@ -135,13 +119,7 @@ impl Machine {
         ensures later { IsLater state.old.fns state.new.fns }
         ensures cut { OnErr result (IsCut plan.now (O.account outside.old) (λ beside. left_of plan.now self.old (state_at self.old beside state.old)) (O.account outside.new) state.new) }
     {
-        'turns: loop {
-            match self.turn(alloc, plan, state, outside) {
-                Ok(Went::On) => {}
-                Ok(Went::To(next)) => return Ok(next),
-                Err(error) => return Err(error),
-            }
-        }
+        self.position.next(alloc, plan, state, outside)
     }
 
     /// Tells of the sample of the sampler that the last move named: the open transactions count it, and where it failed the
@@ -151,8 +129,8 @@ impl Machine {
         ensures stands { (plan : Tree) → StandsIn plan self.old → StandsIn plan self.new }
         ensures lock { open_lock self.new.stack.frames ≡ open_lock self.old.stack.frames }
     {
-        self.stack.hear(sample);
-        self.signal = signal_after(sample.ok, self.at_failure);
+        self.position.stack.hear(sample);
+        self.position.signal = signal_after(sample.ok, self.position.at_failure);
     }
 
     /// Makes the next moves those of a way out.
@@ -160,29 +138,7 @@ impl Machine {
         ensures left { self.new ≡ record self.old { signal = signal_left how } }
         ensures stands { (plan : Tree) → StandsIn plan self.old → StandsIn plan self.new }
     {
-        self.signal = signal_left(how);
-    }
-
-    // One turn: a child is opened, a round begun, or an element left.
-    fn turn<O: Outside>(
-        &mut self,
-        alloc: Global,
-        plan: &Plan,
-        state: &mut UserState,
-        outside: &mut O,
-    ) -> Result<Went, VarError>
-        requires { StandsIn plan.now self.old }
-        ensures turns { Turns plan.now (O.account outside.old) (left_before plan.now self.old state.old)
-            (open_lock self.old.stack.frames) (O.account outside.new) self.new state.new result }
-        ensures lighter { IfOk result (λ w. Lightens w (load_of plan.now.elements self.old) (load_of plan.now.elements self.new)) }
-        ensures goes { IfOk result (TakesTurn plan.now self.old.rounds (open_lock self.old.stack.frames) self.new) }
-        ensures thread { SameThread self.old self.new }
-        ensures later { IsLater state.old.fns state.new.fns }
-    {
-        match self.signal {
-            Signal::Normal => self.go_on(alloc, plan, state, outside),
-            Signal::NextLoop | Signal::Stop(_) => Ok(self.leave_one()),
-        }
+        self.position.signal = signal_left(how);
     }
 }
 

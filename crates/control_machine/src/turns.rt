@@ -20,8 +20,8 @@ ghost use Rattle.control_machine.specs.Load.{children_left, load_of};
 
 use crate::cursor::Cursor;
 use crate::enter::{Entered, enter};
-use crate::machine::{Machine, Went};
 use crate::moves::Move;
+use crate::position::{Position, Went};
 use crate::stack::Frame;
 use element_tree::{Plan, Turn};
 use jm_base::{End, Outside};
@@ -31,7 +31,7 @@ use node_table::Links;
 use std::alloc::Global;
 use var_functions::{UserState, VarError};
 
-impl Machine {
+impl Position {
     // On a way out: the innermost open element is left, or the way out is over.
     pub(crate) fn leave_one(&mut self) -> Went
         requires { self.old.group.begun + self.old.rounds ≤ max_rounds }
@@ -146,17 +146,9 @@ impl Machine {
         ensures thread { SameThread self.old self.new }
         ensures later { IsLater state.old.fns state.new.fns }
     {
-        let mut cursor = frame.cursor;
-        match cursor.next(alloc, plan, frame.round, state, outside) {
-            Ok(turn) => {
-                let frame = Frame {
-                    element: frame.element,
-                    round: frame.round,
-                    depth: frame.depth,
-                    cursor,
-                };
-                self.follow(frame, turn, alloc, plan, state, outside)
-            }
+        let mut frame = frame;
+        match frame.cursor.next(alloc, plan, frame.round, state, outside) {
+            Ok(turn) => self.follow(frame, turn, alloc, plan, state, outside),
             Err(error) => Err(error),
         }
     }

@@ -26,7 +26,7 @@ use Rattle.jm_meaning.specs.Sampling.{sampling, given_sample, given, after_waite
 use Rattle.jm_meaning.specs.Sections.{leaving_open}
 use Rattle.jm_meaning.specs.Meaning.{Here, and_end, end_of}
 use Rattle.jm_meaning.proofs.PartLaws.{no-units, one-unit}
-use Rattle.control_machine.specs.declared.machine.Machine.{Machine}
+use Rattle.control_machine.specs.declared.position.Position.{Position}
 use Rattle.control_machine.specs.declared.moves.Move.TheVariants.{RunSampler}
 use Rattle.control_machine.specs.Moves.{past}
 use Rattle.control_machine.specs.Opened.{Opened}
@@ -61,7 +61,7 @@ abbrev event_of : ℕ → Option Sample → Event
 event_of number None = Nothing number
 event_of number (Some sample) = Sampled Sampler sample
 
-abbrev stack_behind : Machine → Option Sample → Opened
+abbrev stack_behind : Position → Option Sample → Opened
 stack_behind m None = m.stack
 stack_behind m (Some sample) = (told sample m).stack
 
@@ -69,18 +69,18 @@ abbrev signal_after : Signal → Option Sample → Signal
 signal_after failure None = Normal
 signal_after failure (Some sample) = after_sample sample.ok failure
 
-abbrev machine_behind : Machine → Option Sample → Machine
+abbrev machine_behind : Position → Option Sample → Position
 machine_behind m o = record m { stack = stack_behind m o; signal = signal_after m.at_failure o }
 
 -- the sample is given, or that there is none
-given_at : (plan : Tree) (m : Machine) (number : ℕ) (s : State) (o : Option Sample)
+given_at : (plan : Tree) (m : Position) (number : ℕ) (s : State) (o : Option Sample)
     → left_after plan m (given_sample number m.at_failure o s) ≡ give (event_of number o) (left_of plan (machine_behind m o) s)
 given_at plan m number s None = left_gives (here_in plan m) m.group m.stack.frames (Nothing number) (over (normal s)) (λ t. refl)
 given_at plan m number s (Some sample) =
     left_hears (here_in plan m) sample m.group m.stack.frames (over (record { state = s; signal = after_sample sample.ok m.at_failure }))
 
 -- after the pause
-given_all : (a : Account) (plan : Tree) (m : Machine) (number : ℕ) (s : State) (o : Option Sample) (ms : ℕ)
+given_all : (a : Account) (plan : Tree) (m : Position) (number : ℕ) (s : State) (o : Option Sample) (ms : ℕ)
     → Goes a (left_after plan m (after_waited ms (given_sample number m.at_failure o s))) (events_waited ms) (give (event_of number o) (left_of plan (machine_behind m o) s)) a
 given_all a plan m number s o zero =
     subst (λ k. Goes a (left_after plan m (given_sample number m.at_failure o s)) [] k a) (given_at plan m number s o) (goes-nothing a (left_after plan m (given_sample number m.at_failure o s)))
@@ -149,7 +149,7 @@ module _ (w : Runner) (number : ℕ) (r : IsSampler w.plan.now.elements number) 
         → new ≡ record w { user = user; order = new.order; units = w.units - 1; machine = machine_behind w.machine done.sample; owed = new.owed; trace = new.trace }
         → Goes a (and_end sampler_run) (events_waited done.paused) (give (event_of number done.sample) (rest (standing_of new false))) b
     gave done new paused last begun goes new_is =
-        let m : Machine = machine_behind w.machine done.sample in
+        let m : Position = machine_behind w.machine done.sample in
         let es : List Event = events_waited done.paused in
         let e : Event = event_of number done.sample in
         let at : Runner = record w { user = user; order = new.order; units = w.units - 1; machine = m; owed = new.owed; trace = new.trace } in

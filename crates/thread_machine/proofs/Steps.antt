@@ -24,7 +24,7 @@ use Rattle.config_elements.specs.RoundStart.{Config, first_config, begin_round}
 use Rattle.jm_meaning.specs.Beginning.{Options, max_rounds, first_places, first_of, set_first}
 use Rattle.jm_meaning.specs.RampUp.{pause_of}
 use Rattle.jm_meaning.specs.Meaning.{and_end, after_pause, end_of, events, thread_part, group_part, here_at}
-use Rattle.control_machine.specs.declared.machine.Machine.{Machine}
+use Rattle.control_machine.specs.declared.position.Position.{Position}
 use Rattle.control_machine.specs.declared.moves.Move.{Move}
 use Rattle.control_machine.specs.declared.moves.Move.TheVariants.{Iteration, RunSampler, EnterSection, LeaveSection, TransactionSample, Finished}
 use Rattle.control_machine.specs.Moves.{past}
@@ -69,12 +69,12 @@ left_first w begun =
 -- ---- from move to move
 
 -- the start of a round comes after its move
-pub round_goes : (a b : Account) (plan : Tree) (m : Machine) (s : State) (run : Run Ending) (move : Move) (index : ℕ) → move ≡ Iteration index
+pub round_goes : (a b : Account) (plan : Tree) (m : Position) (s : State) (run : Run Ending) (move : Move) (index : ℕ) → move ≡ Iteration index
     → Goes a run [] (moved plan m s move) b → Goes a run [] (left_after plan m (round_start plan.elements m.group.element s)) b
 round_goes a b plan m s run move index is g = subst (λ k. Goes a run [] (moved plan m s k) b) is g
 
 -- Counters and data sets have advanced, or were refused
-pub fed_came : (a b : Account) (plan : Tree) (m : Machine) (units : ℕ) (before after : List ℕ) (old new : UserState) (res : Result Bool VarError) → AreApart plan.elements m.stack.frames
+pub fed_came : (a b : Account) (plan : Tree) (m : Position) (units : ℕ) (before after : List ℕ) (old new : UserState) (res : Result Bool VarError) → AreApart plan.elements m.stack.frames
     → CameTo a (begin_round plan.elements m.group.element before old) b (λ ok. answers ok after new) (step_past_limit after new) res
     → CameTo a (left_after plan m (round_start plan.elements m.group.element (state_at m (record { units = units; config = before }) old))) b
     (λ ok. left_after plan m (where_fed ok (state_at m (record { units = units; config = after }) new))) (leaving_open (open_lock m.stack.frames) (past (state_at m (record { units = units; config = after }) new))) res
@@ -85,12 +85,12 @@ fed_came a b plan m units before after old new res apart came =
     (on_fed (own_at m (record { units = units; config = before }))) came)
 
 -- the round goes on
-pub fed_on : (a b : Account) (plan : Tree) (m : Machine) (s : State) (run : Run Ending) → m.signal ≡ Normal
+pub fed_on : (a b : Account) (plan : Tree) (m : Position) (s : State) (run : Run Ending) → m.signal ≡ Normal
     → Goes a run [] (left_after plan m (where_fed true s)) b → Goes a run [] (left_of plan m s) b
 fed_on a b plan m s run calm goes = subst (λ r. Goes a run [] r b) (sym (left_normal plan m s calm)) goes
 
 -- or the thread stops
-pub fed_out : (a b : Account) (plan : Tree) (m n : Machine) (units : ℕ) (after : List ℕ) (user : UserState) (run : Run Ending) → n ≡ record m { signal = Stop StopThread }
+pub fed_out : (a b : Account) (plan : Tree) (m n : Position) (units : ℕ) (after : List ℕ) (user : UserState) (run : Run Ending) → n ≡ record m { signal = Stop StopThread }
     → Goes a run [] (left_after plan m (where_fed false (state_at m (record { units = units; config = after }) user))) b
     → Goes a run [] (left_of plan n (state_at n (record { units = units; config = after }) user)) b
 fed_out a b plan m n units after user run is goes = rw is goes
@@ -232,7 +232,7 @@ finished a b w mid new s end move step move_is is closed goes mid_is new_is item
 
 -- ---- a step after what came before it
 
-ends_behind : (a m b : Account) (run run' : Run (Unit {0})) (w : Standing) (begun : Bool) (user : UserState) (config : Config) (machine : Machine) (new : Standing) (end : End) → Goes a run [] run' m
+ends_behind : (a m b : Account) (run run' : Run (Unit {0})) (w : Standing) (begun : Bool) (user : UserState) (config : Config) (machine : Position) (new : Standing) (end : End) → Goes a run [] run' m
     → Ends m b run' (record w { begun = begun; user = user; config = config; machine = machine }) new end → Ends a b run w new end
 ends_behind a m b run run' w begun user config machine new Completed go g = record { goes = goes-append go g.goes; settled = g.settled; fewer = g.fewer; new_is = g.new_is }
 ends_behind a m b run run' w begun user config machine new StopThread go g = record { goes = goes-append go g.goes; settled = g.settled; fewer = g.fewer; new_is = g.new_is }
@@ -243,7 +243,7 @@ ends_behind a m b run run' w begun user config machine new RoundLimit go g = rec
 ends_behind a m b run run' w begun user config machine new PastValueLimit go g = record { goes = goes-append go g.goes; settled = g.settled; fewer = g.fewer; new_is = g.new_is }
 ends_behind a m b run run' w begun user config machine new EndNoMemory go g = record { left = g.left; goes = goes-append go g.goes; fewer = g.fewer; new_is = g.new_is }
 
-step_behind : (a m b : Account) (run run' : Run (Unit {0})) (w : Standing) (begun : Bool) (user : UserState) (config : Config) (machine : Machine) (new : Standing) (step : Step) → Goes a run [] run' m
+step_behind : (a m b : Account) (run run' : Run (Unit {0})) (w : Standing) (begun : Bool) (user : UserState) (config : Config) (machine : Position) (new : Standing) (step : Step) → Goes a run [] run' m
     → Gives m b run' (record w { begun = begun; user = user; config = config; machine = machine }) new step → Gives a b run w new step
 step_behind a m b run run' w begun user config machine new (SampledStep entry) go g = record {
   giver = g.giver;

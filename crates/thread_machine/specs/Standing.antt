@@ -13,7 +13,7 @@ use Rattle.jm_meaning.specs.Beginning.{Options, set_first}
 use Rattle.jm_meaning.specs.Meaning.{events, and_end, after_pause}
 use Rattle.jm_meaning.specs.TraceShown.{shown}
 use Rattle.config_elements.specs.RoundStart.{Config}
-use Rattle.control_machine.specs.declared.machine.Machine.{Machine}
+use Rattle.control_machine.specs.declared.position.Position.{Position}
 use Rattle.control_machine.specs.Left.{left_of}
 use Rattle.thread_machine.specs.declared.trace.TraceItem.{TraceItem}
 use Rattle.thread_machine.specs.Bare.{bare}
@@ -30,7 +30,7 @@ pub record Standing : Type 0 where
   pub user : UserState
   pub units : ℕ
   pub config : Config
-  pub machine : Machine
+  pub machine : Position
   pub owed : Option Sample
   pub entering : Option ℕ
   pub section : Option ℕ

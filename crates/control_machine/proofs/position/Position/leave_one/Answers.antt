@@ -3,7 +3,7 @@ use Rattle.control_machine.specs.Left.{own_at, open_lock}
 use Rattle.control_machine.proofs.Leaving.{popped_same}
 use Rattle.control_machine.proofs.Closed.{closed_given, closed_normal, closed_rounds, closed_index, closed_lightens, closed_lock}
 use Rattle.control_machine.proofs.Lightening.{popped_light}
-use Rattle.control_machine.proofs.machine.Machine.leave_one.Goals as goal
+use Rattle.control_machine.proofs.position.Position.leave_one.Goals as goal
 
 pub returns-in-Some-clause-same : goal.returns-in-Some-clause-same
 returns-in-Some-clause-same c = λ plan beside user stands away.

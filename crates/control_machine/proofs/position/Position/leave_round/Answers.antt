@@ -1,7 +1,7 @@
 use Rattle.std.proofs.Common.{◌∙◌, refl, arith}
 use Rattle.control_machine.specs.Left.{own_at}
 use Rattle.control_machine.proofs.Leaving.{stop_same, loop_same, loop_stands, loop_group, at_normal}
-use Rattle.control_machine.proofs.machine.Machine.leave_round.Goals as goal
+use Rattle.control_machine.proofs.position.Position.leave_round.Goals as goal
 
 pub returns-in-Stop-clause-same : goal.returns-in-Stop-clause-same
 returns-in-Stop-clause-same c = λ plan beside user stands away. stop_same plan c.args.self.now c.in-Stop.end user (own_at c.args.self.now beside) c.requires.empty c.in-Stop.is stands refl

@@ -1,7 +1,7 @@
 use Rattle.std.proofs.Common.{refl, sym, ◌∙◌}
 use Rattle.control_machine.specs.Left.{own_at}
 use Rattle.control_machine.proofs.Rounding.{rounds_are_over, rounds_are_spent, round_has_begun}
-use Rattle.control_machine.proofs.machine.Machine.next_round.Goals as goal
+use Rattle.control_machine.proofs.position.Position.next_round.Goals as goal
 
 pub returns-then-not-round_begins-clause-same : goal.returns-then-not-round_begins-clause-same
 returns-then-not-round_begins-clause-same c = λ plan beside user open' empty signal past_all.

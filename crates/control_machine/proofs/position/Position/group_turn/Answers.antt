@@ -9,7 +9,7 @@ use Rattle.control_machine.proofs.Standing.{child_nests, child_apart}
 use Rattle.control_machine.proofs.Leaving.{at_normal}
 use Rattle.control_machine.proofs.Lightening.{group_lighter}
 use Rattle.var_functions.proofs.LaterLaws.{later_same}
-use Rattle.control_machine.proofs.machine.Machine.group_turn.Goals as goal
+use Rattle.control_machine.proofs.position.Position.group_turn.Goals as goal
 
 pub open-requires-clause-nests : goal.open-requires-clause-nests
 open-requires-clause-nests g c =

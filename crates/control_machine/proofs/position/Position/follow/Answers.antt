@@ -10,7 +10,7 @@ use Rattle.control_machine.proofs.Standing.{fewer_group, fewer_open, round_open,
 use Rattle.control_machine.proofs.Lightening.{over_lighter, round_lighter, child_lighter, none_lighter}
 use Rattle.control_machine.proofs.Opening.{nests_at}
 use Rattle.var_functions.proofs.LaterLaws.{later_same}
-use Rattle.control_machine.proofs.machine.Machine.follow.Goals as goal
+use Rattle.control_machine.proofs.position.Position.follow.Goals as goal
 
 pub returns-in-Over-clause-turns : goal.returns-in-Over-clause-turns
 returns-in-Over-clause-turns g c = λ e there.

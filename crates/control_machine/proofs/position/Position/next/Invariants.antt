@@ -3,7 +3,7 @@ use Rattle.jm_base.specs.Outside.{Goes}
 use Rattle.var_functions.specs.FunctionState.{IsLater}
 use Rattle.control_machine.specs.Left.{Beside, StandsIn, left_of, state_at, open_lock}
 use Rattle.control_machine.specs.Load.{load_of}
-use Rattle.control_machine.proofs.machine.Machine.next.Given as goal
+use Rattle.control_machine.proofs.position.Position.next.Given as goal
 
 abbrev pub invariant-turns : goal.invariant-turns
 invariant-turns g l = record {

@@ -1,7 +1,7 @@
 use Rattle.var_functions.proofs.LaterLaws.{later_same}
 use Rattle.control_machine.proofs.Coming.{turns_still}
 use Rattle.control_machine.proofs.Leaving.{not_normal}
-use Rattle.control_machine.proofs.machine.Machine.turn.Goals as goal
+use Rattle.control_machine.proofs.position.Position.turn.Goals as goal
 
 pub returns-in-NextLoop : goal.returns-in-NextLoop
 returns-in-NextLoop g c =

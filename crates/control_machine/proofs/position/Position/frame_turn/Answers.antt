@@ -4,7 +4,7 @@ use Rattle.control_machine.proofs.StackLaws.{framed_goes, framed_refused}
 use Rattle.control_machine.proofs.Standing.{answered_open, apart_on}
 use Rattle.control_machine.proofs.Coming.{turns_behind, turns_inside}
 use Rattle.var_functions.proofs.LaterLaws.{later_then}
-use Rattle.control_machine.proofs.machine.Machine.frame_turn.Goals as goal
+use Rattle.control_machine.proofs.position.Position.frame_turn.Goals as goal
 
 pub follow-requires-clause-open : goal.follow-requires-clause-open
 follow-requires-clause-open g c =

@@ -6,7 +6,7 @@ use Rattle.control_machine.specs.Left.{here_in, left_in, state_at, open_lock}
 use Rattle.control_machine.specs.Turns.{TakesTurn}
 use Rattle.control_machine.proofs.Coming.{turns_as}
 use Rattle.control_machine.proofs.Following.{left_normal}
-use Rattle.control_machine.proofs.machine.Machine.go_on.Goals as goal
+use Rattle.control_machine.proofs.position.Position.go_on.Goals as goal
 
 pub returns-in-Some-clause-turns : goal.returns-in-Some-clause-turns
 returns-in-Some-clause-turns g c =

@@ -9,7 +9,7 @@ use Rattle.control_machine.proofs.Standing.{opened_apart, pushed_opens, pushed_t
 use Rattle.control_machine.specs.Moves.{past}
 use Rattle.control_machine.specs.MachineCut.{before_element}
 use Rattle.control_machine.proofs.Coming.{turns_at}
-use Rattle.control_machine.proofs.machine.Machine.open.Goals as goal
+use Rattle.control_machine.proofs.position.Position.open.Goals as goal
 
 pub push-requires : goal.push-requires
 push-requires g c = (nests_at c.args.plan.now.elements c.args.depth c.args.child c.requires.nests).some

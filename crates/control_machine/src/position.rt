@@ -1,0 +1,95 @@
+// The place of a thread in its plan: the group's rounds, and the elements that are open in its round.
+
+ghost use Rattle.std.specs.Prelude.{◌≡◌, IfOk};
+ghost use Rattle.var_functions.specs.FunctionState.{IsLater};
+ghost use Rattle.control_machine.specs.Left.{StandsIn, open_lock};
+ghost use Rattle.control_machine.specs.Turns.{Lightens, TakesTurn, Turns, SameThread, left_before};
+ghost use Rattle.control_machine.specs.Load.{load_of};
+ghost use Rattle.control_machine.specs.NextMove.{NextMove};
+
+use crate::moves::Move;
+use crate::stack::Stack;
+use cursor_steps::Pass;
+use element_tree::{Loops, Plan};
+use jm_base::Outside;
+use jm_meaning::{Places, Signal};
+use node_table::Links;
+use std::alloc::Global;
+use var_functions::{UserState, VarError};
+
+/// The rounds of the thread's group.
+#[derive(Clone, Copy)]
+pub struct Group {
+    /// The number of the group's element.
+    pub element: u16,
+    pub loops: Loops,
+    /// How many rounds have begun.
+    pub begun: u32,
+    /// The children in the round that began last.
+    pub pass: Pass,
+}
+
+/// A thread's place in its plan, which is what contracts see of a machine: the group's rounds, the open elements, the rounds
+/// that the thread has left, the places of its Interleave Controllers, what a failed sample leads to, whether the thread is on
+/// its way out, and the links of the plan's elements.
+#[derive(Drop)]
+pub struct Position {
+    pub group: Group,
+    pub stack: Stack,
+    pub rounds: u32,
+    pub places: Places,
+    pub at_failure: Signal,
+    pub signal: Signal,
+    pub links: Links,
+}
+
+/// What a turn comes to: the next turn, or a move.
+#[derive(Drop)]
+pub enum Went {
+    On,
+    To(Move),
+}
+
+impl Position {
+    // The next move, after as many turns as it takes.
+    pub(crate) fn next<O: Outside>(
+        &mut self,
+        alloc: Global,
+        plan: &Plan,
+        state: &mut UserState,
+        outside: &mut O,
+    ) -> Result<Move, VarError>
+        requires { StandsIn plan.now self.old }
+        ensures { NextMove plan.now (O.account outside.old) self.old state.old (O.account outside.new) self.new state.new result }
+    {
+        'turns: loop {
+            match self.turn(alloc, plan, state, outside) {
+                Ok(Went::On) => {}
+                Ok(Went::To(next)) => return Ok(next),
+                Err(error) => return Err(error),
+            }
+        }
+    }
+
+    // One turn: a child is opened, a round begun, or an element left.
+    fn turn<O: Outside>(
+        &mut self,
+        alloc: Global,
+        plan: &Plan,
+        state: &mut UserState,
+        outside: &mut O,
+    ) -> Result<Went, VarError>
+        requires { StandsIn plan.now self.old }
+        ensures turns { Turns plan.now (O.account outside.old) (left_before plan.now self.old state.old)
+            (open_lock self.old.stack.frames) (O.account outside.new) self.new state.new result }
+        ensures lighter { IfOk result (λ w. Lightens w (load_of plan.now.elements self.old) (load_of plan.now.elements self.new)) }
+        ensures goes { IfOk result (TakesTurn plan.now self.old.rounds (open_lock self.old.stack.frames) self.new) }
+        ensures thread { SameThread self.old self.new }
+        ensures later { IsLater state.old.fns state.new.fns }
+    {
+        match self.signal {
+            Signal::Normal => self.go_on(alloc, plan, state, outside),
+            Signal::NextLoop | Signal::Stop(_) => Ok(self.leave_one()),
+        }
+    }
+}
