@@ -11,7 +11,7 @@ ghost use Rattle.cursor_steps.specs.RunningChildren.{IsAmong, Passes, begun_afte
 ghost use Rattle.logic_controllers.specs.ControllerRounds.{opened};
 ghost use Rattle.logic_controllers.specs.ForEachController.{input_name, value_at, output_vars, each_goes, each_opens, each_next, AllSet, EachKept};
 
-use crate::rounds::{Rounds, put_text};
+use crate::rounds::Rounds;
 use cursor_steps::{Controller, run_count};
 use element_tree::{Kind, Plan, Turn};
 use jm_base::{M, Outside, Text};
@@ -231,7 +231,7 @@ impl EachCursor {
         ensures taken { self.new ≡ record self.old { value = None } }
     {
         match self.value.take() {
-            Some(value) => put_text(vars, output.copy(alloc), Ok(value)),
+            Some(value) => vars.put_copy(alloc, output.bytes(), value.bytes()),
             None => Ok(()),
         }
     }

@@ -17,6 +17,6 @@ pub use each_cursor::{EachCursor, Span, value_at};
 pub use if_cursor::{IfCursor, is_true};
 pub use loop_cursor::{LoopCursor, loops_of, round_begins};
 pub use once_cursor::OnceCursor;
-pub use rounds::{Rounds, index_name};
+pub use rounds::{Rounds, set_index};
 pub use simple_cursor::SimpleCursor;
 pub use while_cursor::{WhileCursor, goes_on, last_ok};

@@ -1,13 +1,12 @@
 // The rounds of a looping controller: how many have begun, and the children of the last one.
 
-ghost use Rattle.std.specs.Prelude.{◌≡◌, ◌+◌, ◌-◌, ◌^◌, ◌<◌, OnOk, OnErr, IfOk, decimal, List, ℕ};
+ghost use Rattle.std.specs.Prelude.{◌≡◌, ◌+◌, ◌-◌, ◌^◌, ◌<◌, OnOk, OnErr, decimal};
 ghost use Rattle.var_functions.specs.Vars.{put_var, Puts};
 ghost use Rattle.logic_controllers.specs.ControllerRounds.{before_rounds, round_begun, index_name, opened_vars, opened};
 
 use cursor_steps::Pass;
-use jm_base::{M, Text};
 use std::alloc::Global;
-use var_functions::{VarError, Vars, decimal_text};
+use var_functions::{VarError, Vars};
 
 /// The rounds of a Loop, While or ForEach.
 #[derive(Clone, Copy)]
@@ -20,39 +19,12 @@ pub struct Rounds {
     pub pass: Pass,
 }
 
-/// The name of the index variable of an element of this name.
-pub fn index_name(alloc: Global, name: &[u8]) -> M<Text>
-    ensures { IfOk result (λ t. t ≡ index_name name.now) }
-{
-    let mut text = Vec::with_capacity(alloc, name.len() + 11)?;
-    text.extend_from_slice(b"__jm__")?;
-    text.extend_from_slice(name)?;
-    text.extend_from_slice(b"__idx")?;
-    Ok(Text::of(text))
-}
-
-/// Sets a variable, where there was memory for its name and its value.
-pub(crate) fn put_text(vars: &mut Vars, name: M<Text>, value: M<Text>) -> Result<(), VarError>
-    ensures { (n v : List ℕ) → IfOk name (λ t. t ≡ n) → IfOk value (λ t. t ≡ v) → Puts (put_var n v vars.old) vars.old vars.new result }
-{
-    let Ok(name) = name else {
-        return Err(VarError::NoMemory);
-    };
-    let Ok(value) = value else {
-        return Err(VarError::NoMemory);
-    };
-    vars.put(name, value)
-}
-
-/// Sets the index variable of an element of this name.
-fn set_index(alloc: Global, name: &[u8], index: u32, vars: &mut Vars) -> Result<(), VarError>
+/// Sets the index variable of an element of this name, `__jm__NAME__idx`, to the index of a round. A call that refuses changes
+/// nothing; `ValueLimit` comes where the variables would pass their limit.
+pub fn set_index(alloc: Global, name: &[u8], index: u32, vars: &mut Vars) -> Result<(), VarError>
     ensures { Puts (put_var (index_name name.now) (decimal index) vars.old) vars.old vars.new result }
 {
-    put_text(
-        vars,
-        index_name(alloc, name),
-        decimal_text(alloc, u64::from(index)),
-    )
+    vars.put_number(alloc, b"__jm__", name, b"__idx", u64::from(index))
 }
 
 impl Rounds {

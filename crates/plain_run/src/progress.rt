@@ -5,7 +5,6 @@ ghost use Rattle.jm_base.specs.declared.types.End.TheVariants.{ValueLimit as Pas
 ghost use Rattle.jm_base.specs.Run.{over};
 ghost use Rattle.jm_base.specs.Outside.{Account, Goes};
 ghost use Rattle.config_elements.specs.RoundStart.{feeds_of};
-ghost use Rattle.logic_controllers.specs.ControllerRounds.{index_name};
 ghost use Rattle.jm_meaning.specs.State.{and_then, normal, place_of, put, text, with_round, with_unit};
 ghost use Rattle.jm_meaning.specs.Rounds.{set_index, round_start};
 ghost use Rattle.jm_meaning.specs.Choices.{moved_on};
@@ -17,13 +16,13 @@ use config_elements::{ConfigState, begin_round};
 use element_tree::Plan;
 use jm_base::{End, M, NoMemory, Outside, Sample, Text};
 use jm_meaning::{Item, Places, Signal, Tally, set_first};
-use logic_controllers::index_name;
+use logic_controllers::set_index;
 use sampler_pipeline::{Done, run_one};
 use scope_resolver::package;
 use std::alloc::Global;
 use template_text::Template;
 use var_changes::put_copy;
-use var_functions::{UserState, VarError, decimal_text, expand};
+use var_functions::{UserState, VarError, expand};
 
 /// How far a thread has come.
 #[derive(Drop)]
@@ -93,10 +92,10 @@ impl Progress {
         ensures plays { IfOk result (λ signal. (a : Account) → Plays a self.old (set_index name.now index) signal self.new a) }
         ensures same { self.new ≡ record self.old { user = self.new.user } }
     {
-        let name = index_name(self.alloc, name)?;
-        let value = decimal_text(self.alloc, u64::from(index))?;
-        let signal = self.put(name.bytes(), value.bytes())?;
-        Ok(signal)
+        match set_index(self.alloc, name, index, &mut self.user.vars) {
+            Ok(()) => Ok(Signal::Normal),
+            Err(error) => refused(error),
+        }
     }
 
     /// Takes one of the rounds left.

@@ -40,7 +40,5 @@ pub fn put_copy(alloc: Global, name: &[u8], value: &[u8], vars: &mut Vars) -> Re
     if vars.is_set(name, value) {
         return Ok(());
     }
-    let name = Text::new(alloc, name)?;
-    let value = Text::new(alloc, value)?;
-    vars.put(name, value)
+    vars.put_copy(alloc, name, value)
 }

@@ -1,6 +1,6 @@
 -- Variables in an ordered map, and how many bytes they have.
 use Rattle.std.proofs.Common.{◌≡◌, ℕ, ◌+◌, ◌-◌, ◌≤◌, ◌<◌, Vec, Global, List, [], ◌∷◌, map, Bool, true, false, cond, length, Option, Some, None, refl, sym, ap, ◌∙◌, subst, arith}
-use Rattle.std.specs.Prelude.{if◌then◌else◌, nat_le, nat_eq, ◌&&◌, ◌↔◌, MatchBool, unwrap_or}
+use Rattle.std.specs.Prelude.{if◌then◌else◌, nat_le, nat_eq, ◌&&◌, ◌↔◌, MatchBool, unwrap_or, IsSome}
 use Rattle.std.specs.Bool.{Decides}
 use Rattle.std.proofs.lemmas.Slice.Eq.{slice_eq-Decides}
 use lib.Pointwise.{pointwise}
@@ -12,7 +12,7 @@ use Rattle.std.specs.Cmp.Lexicographic.{slice_cmp, nat_list_cmp_total}
 use Rattle.std.specs.FinMap.{slice_cmp-IsAntisymmetric, nat_cmp-IsAntisymmetric}
 use Rattle.std.specs.List.{AllByRecursion}
 use Rattle.std.specs.List.Sorted.{IsStrictlySortedBy}
-use Rattle.std.specs.Map.{lookup, remove_entry, keys_of}
+use Rattle.std.specs.Map.{lookup, remove_entry, set_value, keys_of}
 use Rattle.std.specs.BTreeMap.{is_at, insert_entry}
 use Rattle.std.proofs.lemmas.Cmp.{tied_itself}
 use Rattle.std.specs.Cmp.{eq_by_cmp_equiv}
@@ -241,3 +241,47 @@ pub found_is : (name value : List ℕ) (vars : Variables) (old : List ℕ) (r : 
 found_is name value vars old r found is =
     let d : Decides r (old ≡ value) = slice_eq-Decides Decides-eqb old value r is in
     (λ h. found ∙ ap Some (d.0 h), λ h. d.1 (ap (λ o. unwrap_or o old) (sym found ∙ h)))
+
+-- ---- a value that is written over
+
+over_step : (name value : List ℕ) (e : Entry) (es : List Entry) → IsStrictlySortedBy by_bytes (keys_of (map seen (e ∷ es)))
+    → (IsSome (value_of name (map seen es)) → map seen (set_value (is_at (λ k. slice_cmp nat_cmp name k.items)) es value) ≡ with_var name value (map seen es))
+    → IsSome (value_of name (map seen (e ∷ es))) → (o : Ordering) → by_bytes name e.0.items ≡ o
+    → map seen (cond (is_eq o) ((e.0, value) ∷ es) (e ∷ set_value (is_at (λ k. slice_cmp nat_cmp name k.items)) es value))
+    ≡ match_ordering o ((name, value) ∷ seen e ∷ map seen es) ((e.0.items, value) ∷ map seen es) (seen e ∷ with_var name value (map seen es))
+over_step name value e es sorted more found Less is =
+    let none : value_of name (map seen (e ∷ es)) ≡ None = lookup-none (is_at (by_bytes name)) (map seen (e ∷ es)) (none_below_head nat_list_cmp_total name (seen e) (map seen es) sorted is) in
+    let some : IsSome {T = List ℕ} None = subst IsSome none found in
+    cc
+over_step name value e es sorted more found Equal is = refl
+over_step name value e es sorted more found Greater is =
+    ap (λ l. seen e ∷ l) (more (subst IsSome (ap (λ o. cond (is_eq o) (Some e.1) (value_of name (map seen es))) is) found))
+
+-- writing over the value of a name that is defined sets it
+over-seen : (name value : List ℕ) (es : List Entry) → IsStrictlySortedBy by_bytes (keys_of (map seen es)) → IsSome (value_of name (map seen es))
+    → map seen (set_value (is_at (λ k. slice_cmp nat_cmp name k.items)) es value) ≡ with_var name value (map seen es)
+over-seen name value [] sorted found = cc
+over-seen name value (e ∷ es) sorted found =
+    over_step name value e es sorted (over-seen name value es (sorted_tail by_bytes e.0.items (keys_of (map seen es)) sorted)) found (by_bytes name e.0.items) refl
+
+module _ (name : List ℕ) (es : List Entry) (vars : Variables) (bytes : ℕ) (kept : IsKept bytes vars) (is : map seen es ≡ vars) (before : List ℕ)
+    (found : Some before ≡ lookup (is_at (λ k. slice_cmp nat_cmp name k.items)) es) where
+  pub over_found : value_of name vars ≡ Some before
+  over_found = sym (found ∙ lookup-seen name es ∙ ap (value_of name) is)
+
+  pub entries_over : (value : List ℕ) (new : List Entry) → new ≡ set_value (is_at (λ k. slice_cmp nat_cmp name k.items)) es value → map seen new ≡ with_var name value vars
+  entries_over value new over =
+      ap (map seen) over
+      ∙ over-seen name value es (subst (λ vs. IsStrictlySortedBy by_bytes (keys_of vs)) (sym is) kept.ordered) (subst IsSome (found ∙ lookup-seen name es) refl)
+      ∙ ap (with_var name value) is
+
+  -- with the value that it had
+  pub entries_same : (new : List Entry) → new ≡ set_value (is_at (λ k. slice_cmp nat_cmp name k.items)) es before → map seen new ≡ vars
+  entries_same new over = entries_over before new over ∙ with_var-same name before vars kept.ordered over_found
+
+  -- the name is defined, so its bytes are among those of all
+  pub before_fits : length before ≤ bytes
+  before_fits = omega (arith, kept.sum, bytes_at-le name vars, ap (bytes_found name) over_found)
+
+  pub bytes_over : (value : List ℕ) → bytes - length before + length value ≡ bytes - bytes_at name vars + (length name + length value)
+  bytes_over value = omega (arith, kept.sum, bytes_at-le name vars, ap (bytes_found name) over_found)

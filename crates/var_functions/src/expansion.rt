@@ -21,6 +21,9 @@ use jm_base::{Outside, Text};
 use std::alloc::Global;
 use template_text::{Piece, Template, spell_call, spell_variable};
 
+// Most expansions are no longer than this, and take memory once.
+const USUAL_LENGTH: usize = 64;
+
 /// Whether the text is within the limit.
 fn check_length(out: &[u8]) -> Result<(), VarError>
     ensures grown { Grows out.now out.now result }
@@ -169,7 +172,7 @@ fn argument_texts<O: Outside>(
 {
     let mut texts = Vec::new(alloc);
     for argument in args {
-        let mut text = Vec::new(alloc);
+        let mut text = text_with_room(alloc);
         if let Err(error) = write_pieces(alloc, argument, vars, fns, outside, &mut text) {
             return Err(error);
         }
@@ -178,6 +181,15 @@ fn argument_texts<O: Outside>(
         };
     }
     Ok(texts)
+}
+
+// An empty text with room for one that is not long, where there is memory for it.
+fn text_with_room(alloc: Global) -> Vec<u8>
+    ensures { result.items ≡ [] }
+{
+    let mut text = Vec::new(alloc);
+    let _wished = text.reserve(USUAL_LENGTH);
+    text
 }
 
 /// Writes what a piece stands for at the end.
@@ -249,7 +261,7 @@ pub fn expand<O: Outside>(
     ensures later { IsLater state.old.fns state.new.fns }
     ensures vars { state.new.vars ≡ state.old.vars }
 {
-    let mut text = Vec::new(alloc);
+    let mut text = text_with_room(alloc);
     match write_pieces(
         alloc,
         template,

@@ -1,14 +1,16 @@
 // The variables of a thread.
 
-ghost use Rattle.std.specs.Prelude.{◌≡◌, ◌↔◌, ◌≤◌, ◌<◌, ◌^◌, ◌-◌, ◌+◌, length, IfSome, MatchBool, true, [], None, Some, ℕ, List, OnOk, if◌then◌else◌};
+ghost use Rattle.std.specs.Prelude.{◌≡◌, ◌≢◌, ◌↔◌, ◌≤◌, ◌<◌, ◌^◌, ◌-◌, ◌+◌, ◌++◌, length, decimal, IfSome, MatchBool, true, [], None, Some, ℕ, List, OnOk, OnErr, IsOk, if◌then◌else◌};
 ghost use Rattle.std.specs.Option.{option_copied};
 ghost use Rattle.var_functions.specs.Vars.{value_of, put_var, without_var, is_same, Puts, bytes_at, bytes_of, bytes_found, most_bytes};
 
 use crate::error::VarError;
-use jm_base::Text;
+use itoa::Buffer;
+use jm_base::{M, Text};
 use std::alloc::Global;
 use std::collections::BTreeMap;
 use std::marker::Model;
+use std::mem::replace;
 
 /// How many bytes a value may have, and so an argument of a function and a whole expansion.
 pub const MOST_TEXT: usize = 65536;
@@ -21,6 +23,8 @@ const MOST_BYTES: usize = 4194304;
 pub struct Vars {
     pairs: BTreeMap<Vec<u8>, Text>,
     bytes: usize,
+    // The name that was put together last. Its memory is for the next one.
+    joined: Vec<u8>,
 }
 
 impl Model for Vars {
@@ -45,6 +49,49 @@ fn bytes_found(named: usize, value: &Option<Text>) -> usize
     }
 }
 
+/// Writes a value over another one, in its memory where it has as many bytes. A call that refuses changes nothing.
+fn write_over(alloc: Global, text: &mut Text, value: &[u8]) -> M<()>
+    ensures ok { OnOk result (text.new ≡ value.now) }
+    ensures err { OnErr result (text.new ≡ text.old) }
+    ensures memory { length text.old ≡ length value.now → IsOk result }
+{
+    if text.bytes().len() != value.len() {
+        *text = Text::new(alloc, value)?;
+        return Ok(());
+    }
+    let mut bytes = replace(text, Text::of(Vec::new(alloc))).into_vec();
+    bytes.copy_from_slice(value);
+    *text = Text::of(bytes);
+    Ok(())
+}
+
+/// Whether a text is three parts, one after another.
+fn is_joined(text: &[u8], prefix: &[u8], name: &[u8], suffix: &[u8]) -> bool
+    ensures { result ≡ true → text.now ≡ prefix.now ++ name.now ++ suffix.now }
+{
+    let Some(rest) = text.strip_prefix(prefix) else {
+        return false;
+    };
+    match rest.strip_suffix(suffix) {
+        Some(middle) => middle == name,
+        None => false,
+    }
+}
+
+/// Makes a text of three parts, one after another. Nothing is written where it is that already.
+fn join(text: &mut Vec<u8>, prefix: &[u8], name: &[u8], suffix: &[u8]) -> M<()>
+    ensures { OnOk result (text.new.items ≡ prefix.now ++ name.now ++ suffix.now) }
+{
+    if is_joined(text, prefix, name, suffix) {
+        return Ok(());
+    }
+    text.clear();
+    text.extend_from_slice(prefix)?;
+    text.extend_from_slice(name)?;
+    text.extend_from_slice(suffix)?;
+    Ok(())
+}
+
 impl Vars {
     /// No variables. What is put later is kept in memory of `alloc`.
     pub fn new(alloc: Global) -> Vars
@@ -53,6 +100,7 @@ impl Vars {
         Vars {
             pairs: BTreeMap::new(alloc),
             bytes: 0,
+            joined: Vec::new(alloc),
         }
     }
 
@@ -109,6 +157,57 @@ impl Vars {
             }
             Err(_) => Err(VarError::NoMemory),
         }
+    }
+
+    /// Sets a variable to a copy of a value, in place of the value that it had, and in its memory where that has as many
+    /// bytes: then it takes none. The time is that of a search in an ordered map. A call that refuses changes nothing.
+    ///
+    /// `ValueLimit` comes where the value would have more than 65,536 bytes, or all names and values together more than
+    /// 4,194,304, without the old value of this name.
+    pub fn put_copy(&mut self, alloc: Global, name: &[u8], value: &[u8]) -> Result<(), VarError>
+        ensures exact { Puts (put_var name.now value.now self.old) self.old self.new result }
+        ensures memory { IfSome (value_of name.now self.old) (λ old. length old ≡ length value.now → result ≢ Err VarError.NoMemory) }
+    {
+        let length = value.len();
+        if length > MOST_TEXT {
+            return Err(VarError::ValueLimit);
+        }
+        if !self.has_room(name, name.len() + length) {
+            return Err(VarError::ValueLimit);
+        }
+        match self.pairs.get_mut(name) {
+            Some(old) => {
+                let before = old.bytes().len();
+                write_over(alloc, old, value)?;
+                self.bytes = self.bytes - before + length;
+                Ok(())
+            }
+            None => self.put(Text::new(alloc, name)?, Text::new(alloc, value)?),
+        }
+    }
+
+    /// Sets a variable to the decimal text of a number, as `put_copy` sets one to a value. Its name is `prefix`, `name` and
+    /// `suffix` one after another, which takes memory only where it is longer than each one that was put together before.
+    ///
+    /// `ValueLimit` comes where all names and values together would have more than 4,194,304 bytes, without the old value of
+    /// this name.
+    pub fn put_number(
+        &mut self,
+        alloc: Global,
+        prefix: &[u8],
+        name: &[u8],
+        suffix: &[u8],
+        number: u64,
+    ) -> Result<(), VarError>
+        ensures { Puts (put_var (prefix.now ++ name.now ++ suffix.now) (decimal number) self.old) self.old self.new result }
+    {
+        let mut joined = replace(&mut self.joined, Vec::new(alloc));
+        let put = match join(&mut joined, prefix, name, suffix) {
+            Ok(()) => self.put_copy(alloc, &joined, Buffer::new().format(number).as_bytes()),
+            Err(_) => Err(VarError::NoMemory),
+        };
+        self.joined = joined;
+        put
     }
 
     /// Whether a name is defined with this value, so that setting it again changes nothing. The time is that of a search in

@@ -1,4 +1,4 @@
-use Rattle.std.proofs.Common.{◌≡◌, ◌≤◌, ◌<◌, ◌+◌, ◌-◌, ap, subst, arith}
+use Rattle.std.proofs.Common.{◌≡◌, ◌≤◌, ◌<◌, ◌+◌, ◌-◌, subst, arith}
 use Rattle.std.specs.Prelude.{nat_le, MatchBool}
 use Rattle.var_functions.specs.Vars.{IsKept, bytes_of, bytes_at, most_bytes}
 use Rattle.var_functions.proofs.VarLaws.{bytes_at-le, within, at_once}
