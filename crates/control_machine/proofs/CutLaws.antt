@@ -182,7 +182,7 @@ cut_frame here g f fs e before new own cut there =
 abbrev pub with_frame : Position → Frame → Cursor → Position
 with_frame m f c = record {
   group = m.group;
-  stack = record { frames = record { element = f.element; round = f.round; depth = f.depth; cursor = c } ∷ m.stack.frames; room = m.stack.room };
+  stack = record { frames = record { element = f.element; round = f.round; depth = f.depth; cursor = c } ∷ m.stack.frames };
   rounds = m.rounds;
   places = m.places;
   at_failure = m.at_failure;

@@ -1,25 +1,29 @@
 -- Ways out: an open element is left, or the way out is over.
-use Rattle.std.proofs.Common.{◌≡◌, ◌⊎◌, inl, inr, ℕ, List, [], ◌∷◌, refl, sym, ap, ◌∙◌, subst}
+use Rattle.std.proofs.Common.{◌≡◌, ◌⊎◌, inl, inr, ℕ, [], ◌∷◌, refl, sym, ap, ◌∙◌}
 use Rattle.jm_base.specs.declared.types.End.{End}
+use Rattle.jm_base.specs.declared.types.End.TheVariants.{RoundLimit, StopThread, StopTest}
 use Rattle.jm_base.specs.Run.{over}
-use Rattle.element_tree.specs.declared.kinds.Element.{Element}
 use Rattle.element_tree.specs.Tree.{Tree}
 use Rattle.var_functions.specs.declared.state.UserState.{UserState}
 use Rattle.jm_meaning.specs.declared.signal.Signal.{Signal}
 use Rattle.jm_meaning.specs.declared.signal.Signal.TheVariants.{Normal, NextLoop, Stop}
 use Rattle.jm_meaning.specs.State.{Own, state_of, at_rounds, normal}
 use Rattle.control_machine.specs.declared.stack.Frame.{Frame}
-use Rattle.control_machine.specs.declared.position.Group.{Group}
 use Rattle.control_machine.specs.declared.position.Position.{Position}
-use Rattle.control_machine.specs.declared.moves.Move.{Move}
-use Rattle.control_machine.specs.declared.moves.Move.TheVariants.{Iteration, RunSampler, EnterSection, LeaveSection, TransactionSample, Finished}
-use Rattle.control_machine.specs.Left.{here_in, left_in, left_of, ended, AreOpen, AreApart, GroupIsOpen, IsOut, StandsIn}
-use Rattle.control_machine.specs.Turns.{went, closing_of, IsNormalAt}
+use Rattle.control_machine.specs.Left.{here_in, left_in, left_of, ended, IsOut, IsFinish, StandsIn}
+use Rattle.control_machine.specs.Turns.{went, closing_of}
 use Rattle.control_machine.proofs.Answered.{out, out_of_one, all_out, next_loop, round_over}
 
 pub stop_same : (plan : Tree) (m : Position) (end : End) (user : UserState) (own : Own) → m.stack.frames ≡ [] → m.signal ≡ Stop end → StandsIn plan m → own.rounds ≡ m.rounds
     → left_of plan m (state_of user own) ≡ over (ended end (state_of user (at_rounds own m.rounds)))
 stop_same plan m end user own empty is stands same = all_out plan m end user own empty is stands.signal m.rounds (sym same)
+
+-- the ends of a way out are those that a machine finishes with
+pub finishes : (end : End) → IsOut (Stop end) → IsFinish end
+finishes StopThread h = tt
+finishes StopTest h = tt
+finishes RoundLimit h = tt
+finishes end h = absurd h
 
 -- a signal that is neither Normal nor a Stop
 next_is : (signal : Signal) → (signal ≡ Normal → ⊥) → ((end : End) → signal ≡ Stop end → ⊥) → signal ≡ NextLoop
@@ -36,18 +40,15 @@ loop_same plan m user own empty away other =
     ∙ next_loop (here_in plan m) m.group (state_of user own)
     ∙ ap (λ fs. left_in (here_in plan m) (round_over m.group) fs (over (normal (state_of user own)))) (sym empty)
 
-pub loop_group : (elements : List Element) (left : ℕ) (g : Group) → GroupIsOpen elements left g → GroupIsOpen elements left (round_over g)
-loop_group elements left g o = record { element = o.element; there = o.there; below = o.below; apart = o.apart; pass = o.pass; bound = o.bound }
-
-pub loop_stands : (plan : Tree) (m m' : Position) → m.stack.frames ≡ [] → StandsIn plan m → GroupIsOpen plan.elements m'.rounds m'.group
-    → (m'.stack ≡ m.stack) × (m'.signal ≡ Normal) × (m'.links ≡ m.links) → m'.at_failure ≡ m.at_failure → StandsIn plan m'
-loop_stands plan m m' empty stands group rest failure = record {
-  group = group;
-  open_ = subst (AreOpen plan.elements m'.rounds) (sym (ap (λ s. s.frames) rest.0 ∙ empty)) tt;
-  apart = subst (AreApart plan.elements) (sym (ap (λ s. s.frames) rest.0 ∙ empty)) tt;
-  failure = subst IsOut (sym failure) stands.failure;
-  signal = subst IsOut (sym rest.1) tt;
-  links = rest.2 ∙ stands.links;
+-- the machine in which the group's round is over
+pub loop_stands : (plan : Tree) (m : Position) → StandsIn plan m → StandsIn plan (record m { signal = Normal; group = round_over m.group })
+loop_stands plan m stands = let o = stands.group in record {
+  group = record { element = o.element; there = o.there; below = o.below; apart = o.apart; pass = o.pass; bound = o.bound };
+  open_ = stands.open_;
+  apart = stands.apart;
+  failure = stands.failure;
+  signal = tt;
+  links = stands.links;
 }
 
 -- an element that was taken out of the open ones, on a way out
@@ -56,14 +57,6 @@ pub popped_same : (plan : Tree) (m m' : Position) (f : Frame) (user : UserState)
     → left_of plan m (state_of user own) ≡ went plan m' (state_of user (at_rounds own k)) (closing_of m'.signal f)
 popped_same plan m m' f user own frames away group failure signal k same =
     out_of_one plan m m' f user own away frames group failure signal k same
-
-pub at_normal : (move : Move) (signal : Signal) → signal ≡ Normal → IsNormalAt move signal
-at_normal (Iteration index) signal is = is
-at_normal (RunSampler number) signal is = is
-at_normal (EnterSection lock) signal is = tt
-at_normal (LeaveSection lock) signal is = tt
-at_normal (TransactionSample element tally) signal is = tt
-at_normal (Finished end) signal is = tt
 
 pub not_normal : (signal : Signal) → (signal ≡ NextLoop) ⊎ ((end : End) × (signal ≡ Stop end)) → signal ≡ Normal → ⊥
 not_normal signal (inl is) h = let i : NextLoop ≡ Normal = sym is ∙ h in cc

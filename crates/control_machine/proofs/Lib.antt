@@ -24,4 +24,5 @@ pub mod GroupChild
 pub mod Leaving
 pub mod CutLaws
 pub mod Coming
+pub mod Topmost
 pub mod Starting

@@ -17,7 +17,7 @@ use Rattle.jm_meaning.specs.Children.{children_of}
 use Rattle.control_machine.specs.declared.position.Position.{Position}
 use Rattle.control_machine.specs.declared.moves.Move.{Move}
 use Rattle.control_machine.specs.declared.moves.Move.TheVariants.{Iteration, RunSampler, EnterSection, LeaveSection, TransactionSample, Finished}
-use Rattle.control_machine.specs.Left.{here_in, left_in, left_of, left_after, children_at, ended, GroupIsOpen}
+use Rattle.control_machine.specs.Left.{here_in, left_in, left_of, left_after, children_at, ended, GroupIsOpen, StandsIn}
 use Rattle.control_machine.specs.Turns.{TakesRound}
 use Rattle.control_machine.proofs.Following.{left_normal, rounds_over, rounds_stop, round_begun, next_group}
 
@@ -51,6 +51,18 @@ module _ (plan : Tree) (m : Position) (user : UserState) (own : Own) (open' : Gr
       ∙ round_begun (here_in plan m) m.group user own (m.rounds - 1) (none_means m.group.pass past_all) within begins
       (all_of plan.elements m.group.element open'.element m.group.pass.children open'.there open'.pass) (omega (arith, same, some))
       ∙ ap (λ fs. left_in (here_in plan m) (next_group m.group) fs (round_start plan.elements m.group.element (state_of user (at_rounds own (m.rounds - 1))))) (sym empty)
+
+-- the machine in which a round of the group has begun
+pub round_stands : (plan : Tree) (m : Position) → StandsIn plan m → m.stack.frames ≡ [] → (m.rounds ≡ 0 → ⊥)
+    → StandsIn plan (record { group = next_group m.group; stack = m.stack; rounds = m.rounds - 1; places = m.places; at_failure = m.at_failure; signal = m.signal; links = m.links })
+round_stands plan m stands empty some = let o = stands.group in record {
+  group = record { element = o.element; there = o.there; below = o.below; apart = o.apart; pass = o.pass; bound = omega (arith, o.bound, some) };
+  open_ = rw empty tt;
+  apart = rw empty tt;
+  failure = stands.failure;
+  signal = stands.signal;
+  links = stands.links;
+}
 
 -- no move gives a round back
 pub later_rounds : (move : Move) (a b c : ℕ) → b ≤ a → TakesRound move b c → TakesRound move a c

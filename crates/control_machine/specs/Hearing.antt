@@ -23,7 +23,7 @@ all_hearing sample frames = map (frame_hearing sample) frames
 abbrev pub told : Sample → Position → Position
 told sample m = record {
   group = m.group;
-  stack = record { frames = all_hearing sample m.stack.frames; room = m.stack.room };
+  stack = record { frames = all_hearing sample m.stack.frames };
   rounds = m.rounds;
   places = m.places;
   at_failure = m.at_failure;

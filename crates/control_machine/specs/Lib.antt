@@ -8,3 +8,4 @@ pub mod Turns
 pub mod Hearing
 pub mod MachineCut
 pub mod NextMove
+pub mod Answers

@@ -1,5 +1,5 @@
 -- What one turn of a machine comes to.
-use Rattle.std.specs.Prelude.{◌≡◌, ◌⊎◌, ℕ, ◌+◌, ◌-◌, ◌*◌, ◌<◌, ◌≤◌, List, ◌∷◌, Option, Some, None, Bool, ◌&&◌, nat_lt, if◌then◌else◌, Result, OnErr}
+use Rattle.std.specs.Prelude.{◌≡◌, ◌⊎◌, ℕ, ◌+◌, ◌-◌, ◌*◌, ◌<◌, ◌≤◌, List, ◌∷◌, Option, Some, None, Bool, ◌&&◌, nat_lt, if◌then◌else◌, Result, IfOk, OnErr}
 use Rattle.jm_base.specs.declared.types.End.TheVariants.{StopThread, StopTest}
 use Rattle.jm_base.specs.Run.{Run}
 use Rattle.jm_base.specs.Outside.{Account}
@@ -9,6 +9,7 @@ use Rattle.element_tree.specs.Tree.{Tree}
 use Rattle.var_functions.specs.declared.error.VarError.{VarError}
 use Rattle.var_functions.specs.declared.state.UserState.{UserState}
 use Rattle.var_functions.specs.Came.{CameTo}
+use Rattle.var_functions.specs.FunctionState.{IsLater}
 use Rattle.jm_meaning.specs.declared.signal.Signal.{Signal}
 use Rattle.jm_meaning.specs.declared.signal.Signal.TheVariants.{Normal, NextLoop, Stop}
 use Rattle.jm_meaning.specs.State.{State, Ending}
@@ -29,7 +30,7 @@ use Rattle.control_machine.specs.Moves.{turned, past}
 use Rattle.control_machine.specs.Cursors.{cursor_left, round_in, Shut, Plain, Summing, Leaving, shut_of}
 use Rattle.control_machine.specs.Left.{Beside, StandsIn, left_of, left_in, left_after, closed, here_in, state_at, moved, IsMove, open_lock}
 use Rattle.control_machine.specs.MachineCut.{IsCut}
-use Rattle.control_machine.specs.Load.{children_count, scale, load, remaining, children_left}
+use Rattle.control_machine.specs.Load.{children_count, scale, load, load_of, remaining, children_left}
 
 -- what is left after a turn
 abbrev pub went : Tree → Position → State → Went → Run Ending
@@ -160,3 +161,18 @@ pub record SameRest (old new : Position) : Type 0 where
   pub failure : new.at_failure ≡ old.at_failure
   pub signal : new.signal ≡ old.signal
   pub links : new.links ≡ old.links
+
+-- A turn of a machine, between two moments of the outside: what is left has come to what is left after it, and where it is not
+-- refused the machine stands so and its load is lighter, or it names a move. After every answer the thread is the same, and
+-- functions stand at a later moment, out of memory too.
+pub record TurnsOn (plan : Tree) (before : Account) (old : Position) (state : UserState) (after : Account) (new : Position) (user : UserState) (result : Result Went VarError) : Type 0 where
+  pub turns : Turns plan before (left_before plan old state) (open_lock old.stack.frames) after new user result
+  pub lighter : IfOk result (λ w. Lightens w (load_of plan.elements old) (load_of plan.elements new))
+  pub goes : IfOk result (TakesTurn plan old.rounds (open_lock old.stack.frames) new)
+  pub thread : SameThread old new
+  pub later : IsLater state.fns user.fns
+
+-- On a way out: what was left is what is left after this, and the machine stands so.
+pub record LeavesOn (plan : Tree) (old new : Position) (w : Went) : Type 0 where
+  pub same : (beside : Beside) (user : UserState) → left_of plan old (state_at old beside user) ≡ went plan new (state_at new beside user) w
+  pub goes : TakesTurn plan old.rounds (open_lock old.stack.frames) new w

@@ -1,10 +1,7 @@
 // The place of a thread in its plan: the group's rounds, and the elements that are open in its round.
 
-ghost use Rattle.std.specs.Prelude.{◌≡◌, IfOk};
-ghost use Rattle.var_functions.specs.FunctionState.{IsLater};
-ghost use Rattle.control_machine.specs.Left.{StandsIn, open_lock};
-ghost use Rattle.control_machine.specs.Turns.{Lightens, TakesTurn, Turns, SameThread, left_before};
-ghost use Rattle.control_machine.specs.Load.{load_of};
+ghost use Rattle.control_machine.specs.Left.{StandsIn};
+ghost use Rattle.control_machine.specs.Turns.{TurnsOn};
 ghost use Rattle.control_machine.specs.NextMove.{NextMove};
 
 use crate::moves::Move;
@@ -80,12 +77,7 @@ impl Position {
         outside: &mut O,
     ) -> Result<Went, VarError>
         requires { StandsIn plan.now self.old }
-        ensures turns { Turns plan.now (O.account outside.old) (left_before plan.now self.old state.old)
-            (open_lock self.old.stack.frames) (O.account outside.new) self.new state.new result }
-        ensures lighter { IfOk result (λ w. Lightens w (load_of plan.now.elements self.old) (load_of plan.now.elements self.new)) }
-        ensures goes { IfOk result (TakesTurn plan.now self.old.rounds (open_lock self.old.stack.frames) self.new) }
-        ensures thread { SameThread self.old self.new }
-        ensures later { IsLater state.old.fns state.new.fns }
+        ensures { TurnsOn plan.now (O.account outside.old) self.old state.old (O.account outside.new) self.new state.new result }
     {
         match self.signal {
             Signal::Normal => self.go_on(alloc, plan, state, outside),

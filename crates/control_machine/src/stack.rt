@@ -1,12 +1,16 @@
 // The open elements of a thread's round.
 
-ghost use Rattle.std.specs.Prelude.{◌≡◌, ◌<◌, [], ◌∷◌, OnOk, OnErr, MatchOption, vec_capacity};
+ghost use Rattle.std.specs.Prelude.{◌≡◌, List, [], ◌∷◌, OnOk, OnErr, MatchOption};
+ghost use Rattle.var_functions.specs.FunctionState.{IsLater};
+ghost use Rattle.control_machine.specs.Answers.{StandsAt, TopAnswers};
 ghost use Rattle.control_machine.specs.Hearing.{all_hearing};
 
 use crate::cursor::Cursor;
-use jm_base::{M, Sample};
+use element_tree::{Plan, Turn};
+use jm_base::{M, Outside, Sample};
 use std::alloc::Global;
 use std::marker::Model;
+use var_functions::{UserState, VarError};
 
 /// An open element: the round of its nearest looping ancestor, how deep the elements below it nest at most, and its cursor.
 #[derive(Drop)]
@@ -18,19 +22,19 @@ pub struct Frame {
     pub cursor: Cursor,
 }
 
-/// The open elements, and room for more.
+/// The open elements.
 #[derive(Drop)]
 pub struct Stack {
     frames: Vec<Frame>,
 }
 
 impl Model for Stack {
-    ghost use Rattle.std.specs.Prelude.{reverse, ◌-◌, vec_len, vec_capacity};
+    ghost use Rattle.std.specs.Prelude.{reverse};
     ghost use Rattle.control_machine.specs.Opened.{Opened};
 
     ghost Value = { Opened };
 
-    ghost view = { λ s. record { frames = reverse s.frames.items; room = vec_capacity s.frames - vec_len s.frames } };
+    ghost view = { λ s. record { frames = reverse s.frames.items } };
 }
 
 impl Stack {
@@ -52,28 +56,43 @@ impl Stack {
         Ok(())
     }
 
-    /// Takes the innermost open element out, and leaves room for it.
+    /// Takes the innermost open element out.
     pub fn pop(&mut self) -> Option<Frame>
-        ensures { MatchOption result ((self.old.frames ≡ []) × (self.new ≡ self.old))
-            (λ f. (self.old.frames ≡ f ∷ self.new.frames) × (0 < self.new.room)) }
+        ensures { MatchOption result ((self.old.frames ≡ []) × (self.new ≡ self.old)) (λ f. self.old.frames ≡ f ∷ self.new.frames) }
     {
         self.frames.pop()
     }
 
-    /// Puts an element back into the room that it left, so that no memory is asked for.
-    pub fn put(&mut self, frame: Frame)
-        requires { 0 < self.old.room }
-        ensures { self.new.frames ≡ frame ∷ self.old.frames }
+    /// The innermost open element.
+    pub fn top(&self) -> Option<&Frame>
+        ensures { MatchOption result (self.now.frames ≡ []) (λ f. (rest : List Frame) × (self.now.frames ≡ f.now ∷ rest)) }
     {
-        let pushed = self.frames.push(frame);
-        if pushed.is_err() {
+        self.frames.last()
+    }
+
+    /// What the innermost open element does next. Its cursor moves on in its place.
+    pub fn answer<O: Outside>(
+        &mut self,
+        alloc: Global,
+        plan: &Plan,
+        state: &mut UserState,
+        outside: &mut O,
+    ) -> Result<Turn, VarError>
+        requires { (f : Frame) × (rest : List Frame) × (self.old.frames ≡ f ∷ rest) × StandsAt plan.now f.element f.cursor }
+        ensures answers { (f : Frame) (rest : List Frame) → self.old.frames ≡ f ∷ rest
+            → TopAnswers plan.now (O.account outside.old) f rest state.old (O.account outside.new) self.new.frames state.new result }
+        // After every answer, out of memory too.
+        ensures later { IsLater state.old.fns state.new.fns }
+    {
+        let Some(frame) = self.frames.last_mut() else {
             unreachable!();
-        }
+        };
+        frame.cursor.next(alloc, plan, frame.round, state, outside)
     }
 
     /// Tells the open elements of a sampler's sample.
     pub fn hear(&mut self, sample: &Sample)
-        ensures { self.new ≡ record { frames = all_hearing sample.now self.old.frames; room = self.old.room } }
+        ensures { self.new ≡ record { frames = all_hearing sample.now self.old.frames } }
     {
         hear_all(&mut self.frames, sample);
     }
@@ -81,8 +100,7 @@ impl Stack {
 
 // Tells each of the elements of a sampler's sample.
 fn hear_all(frames: &mut Vec<Frame>, sample: &Sample)
-    ensures frames { frames.new.items ≡ all_hearing sample.now frames.old.items }
-    ensures room { vec_capacity frames.new ≡ vec_capacity frames.old }
+    ensures { frames.new.items ≡ all_hearing sample.now frames.old.items }
 {
     for frame in frames.iter_mut() {
         frame.cursor.hear(sample);

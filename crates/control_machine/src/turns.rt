@@ -3,18 +3,17 @@
 ghost use Rattle.std.specs.Prelude.{◌≡◌, is_some, ◌+◌, ◌-◌, ◌≤◌, ◌<◌, slice_get, Some, List, [], ◌∷◌, IfOk, MatchResult};
 ghost use Rattle.element_tree.specs.declared.kinds.Element.{Element};
 ghost use Rattle.element_tree.specs.Tree.{Tree, Nests, Apart};
-ghost use Rattle.jm_base.specs.Run.{over};
 ghost use Rattle.var_functions.specs.FunctionState.{IsLater};
-ghost use Rattle.cursor_steps.specs.RunningChildren.{begun_after, TakesChild};
-ghost use Rattle.jm_meaning.specs.State.{normal};
+ghost use Rattle.cursor_steps.specs.RunningChildren.{TakesChild};
 ghost use Rattle.jm_meaning.specs.Children.{children_of};
 ghost use Rattle.jm_meaning.specs.Meaning.{meaning};
 ghost use Rattle.jm_meaning.specs.Transactions;
 ghost use Rattle.jm_meaning.specs.Beginning.{max_rounds};
 ghost use Rattle.jm_meaning.specs.declared.signal.Signal.{Signal};
 ghost use Rattle.node_table.specs.ElementLinks.{links_of};
-ghost use Rattle.control_machine.specs.Left.{Beside, StandsIn, GroupIsOpen, IsOpen, IsApart, left_of, left_after, state_at, moved, IsMove, here_in, open_lock};
-ghost use Rattle.control_machine.specs.Turns.{Lightens, TakesRound, IsRoundless, IsNormalAt, IsNormalOn, IsRoundOf, IsRoundIn, MovesLock, MovesLockOn, went, IsWent, opening_move, closing_move, closing_of, left_from, left_answered, load_in, IsOpened, TakesTurn, Turns, SameThread, SameRest, left_before};
+ghost use Rattle.control_machine.specs.Left.{StandsIn, left_after, state_at, here_in, open_lock};
+ghost use Rattle.control_machine.specs.Turns.{Lightens, LeavesOn, opening_move, closing_move, closing_of, left_answered, load_in, IsOpened, TakesTurn, Turns, TurnsOn, SameThread, SameRest};
+ghost use Rattle.control_machine.specs.Answers.{with_frames, HasAnswered};
 ghost use Rattle.control_machine.specs.Cursors.{shut_of, Summing};
 ghost use Rattle.control_machine.specs.Load.{children_left, load_of};
 
@@ -22,7 +21,7 @@ use crate::cursor::Cursor;
 use crate::enter::{Entered, enter};
 use crate::moves::Move;
 use crate::position::{Position, Went};
-use crate::stack::Frame;
+use crate::stack::{Frame, Stack};
 use element_tree::{Plan, Turn};
 use jm_base::{End, Outside};
 use jm_meaning::{Signal, Tally, gives_sample};
@@ -35,15 +34,8 @@ impl Position {
     // On a way out: the innermost open element is left, or the way out is over.
     pub(crate) fn leave_one(&mut self) -> Went
         requires { self.old.group.begun + self.old.rounds ≤ max_rounds }
-        ensures same { (plan : Tree) (beside : Beside) (user : UserState) → StandsIn plan self.old → (self.old.signal ≡ Signal.Normal → ⊥)
-            → left_of plan self.old (state_at self.old beside user) ≡ went plan self.new (state_at self.new beside user) result }
-        ensures given { (plan : Tree) → StandsIn plan self.old → (self.old.signal ≡ Signal.Normal → ⊥) → IsWent plan.elements result }
-        ensures stands { (plan : Tree) → StandsIn plan self.old → StandsIn plan self.new }
+        ensures leaves { (plan : Tree) → StandsIn plan self.old → (self.old.signal ≡ Signal.Normal → ⊥) → LeavesOn plan self.old self.new result }
         ensures lighter { (elements : List Element) → Lightens result (load_of elements self.old) (load_of elements self.new) }
-        ensures normal { (plan : Tree) → StandsIn plan self.old → IsNormalOn result self.new.signal }
-        ensures lock { (plan : Tree) → StandsIn plan self.old → MovesLockOn result (open_lock self.old.stack.frames) (open_lock self.new.stack.frames) }
-        ensures rounds { IsRoundless result self.old.rounds self.new.rounds }
-        ensures index { IsRoundIn result self.new.group }
         ensures thread { SameThread self.old self.new }
     {
         match self.stack.pop() {
@@ -56,14 +48,7 @@ impl Position {
     fn leave_round(&mut self) -> Move
         requires bound { self.old.group.begun + self.old.rounds ≤ max_rounds }
         requires empty { self.old.stack.frames ≡ [] }
-        ensures same { (plan : Tree) (beside : Beside) (user : UserState) → StandsIn plan self.old → (self.old.signal ≡ Signal.Normal → ⊥)
-            → left_of plan self.old (state_at self.old beside user) ≡ moved plan self.new (state_at self.new beside user) result }
-        ensures given { (plan : Tree) → StandsIn plan self.old → (self.old.signal ≡ Signal.Normal → ⊥) → IsMove plan.elements result }
-        ensures stands { (plan : Tree) → StandsIn plan self.old → StandsIn plan self.new }
-        ensures normal { IsNormalAt result self.new.signal }
-        ensures lock { MovesLock result (open_lock self.old.stack.frames) (open_lock self.new.stack.frames) }
-        ensures rounds { TakesRound result self.old.rounds self.new.rounds }
-        ensures index { IsRoundOf result self.new.group }
+        ensures leaves { (plan : Tree) → StandsIn plan self.old → (self.old.signal ≡ Signal.Normal → ⊥) → LeavesOn plan self.old self.new (Went.To result) }
         ensures thread { SameThread self.old self.new }
     {
         if let Signal::Stop(end) = self.signal {
@@ -77,15 +62,8 @@ impl Position {
     // After the last child of a round of the group: the next round begins, or the rounds are over.
     fn next_round(&mut self) -> Move
         requires { self.old.group.begun + self.old.rounds ≤ max_rounds }
-        ensures same { (plan : Tree) (beside : Beside) (user : UserState) → GroupIsOpen plan.elements self.old.rounds self.old.group → self.old.stack.frames ≡ []
-            → self.old.signal ≡ Signal.Normal → self.old.group.pass.children ≤ self.old.group.pass.next
-            → left_of plan self.old (state_at self.old beside user) ≡ moved plan self.new (state_at self.new beside user) result }
-        ensures given { (elements : List Element) → IsMove elements result }
-        ensures group { (elements : List Element) → GroupIsOpen elements self.old.rounds self.old.group → GroupIsOpen elements self.new.rounds self.new.group }
-        ensures rest { (self.new.stack ≡ self.old.stack) × (self.new.signal ≡ self.old.signal) × (self.new.links ≡ self.old.links) }
-        ensures lock { self.old.stack.frames ≡ [] → MovesLock result (open_lock self.old.stack.frames) (open_lock self.new.stack.frames) }
-        ensures rounds { TakesRound result self.old.rounds self.new.rounds }
-        ensures index { IsRoundOf result self.new.group }
+        ensures leaves { (plan : Tree) → StandsIn plan self.old → self.old.stack.frames ≡ [] → self.old.signal ≡ Signal.Normal
+            → self.old.group.pass.children ≤ self.old.group.pass.next → LeavesOn plan self.old self.new (Went.To result) }
         ensures thread { SameThread self.old self.new }
     {
         let index = self.group.begun;
@@ -111,23 +89,17 @@ impl Position {
     ) -> Result<Went, VarError>
         requires stands { StandsIn plan.now self.old }
         requires normal { self.old.signal ≡ Signal.Normal }
-        ensures turns { Turns plan.now (O.account outside.old) (left_before plan.now self.old state.old)
-            (open_lock self.old.stack.frames) (O.account outside.new) self.new state.new result }
-        ensures lighter { IfOk result (λ w. Lightens w (load_of plan.now.elements self.old) (load_of plan.now.elements self.new)) }
-        ensures goes { IfOk result (TakesTurn plan.now self.old.rounds (open_lock self.old.stack.frames) self.new) }
-        ensures thread { SameThread self.old self.new }
-        ensures later { IsLater state.old.fns state.new.fns }
+        ensures { TurnsOn plan.now (O.account outside.old) self.old state.old (O.account outside.new) self.new state.new result }
     {
-        match self.stack.pop() {
-            Some(frame) => self.frame_turn(frame, alloc, plan, state, outside),
+        match self.stack.top() {
+            Some(_) => self.top_turn(alloc, plan, state, outside),
             None => self.group_turn(alloc, plan, state, outside),
         }
     }
 
-    // An element that was taken out of the open ones comes next.
-    fn frame_turn<O: Outside>(
+    // The innermost open element comes next.
+    fn top_turn<O: Outside>(
         &mut self,
-        frame: Frame,
         alloc: Global,
         plan: &Plan,
         state: &mut UserState,
@@ -135,63 +107,53 @@ impl Position {
     ) -> Result<Went, VarError>
         requires stands { StandsIn plan.now self.old }
         requires normal { self.old.signal ≡ Signal.Normal }
-        requires open { IsOpen plan.now.elements max_rounds self.old.rounds frame }
-        requires apart { IsApart plan.now.elements self.old.stack.frames frame }
-        requires room { 0 < self.old.stack.room }
-        ensures turns { Turns plan.now (O.account outside.old)
-            (λ beside. left_from plan.now self.old frame (over (normal (state_at self.old beside state.old))))
-            (open_lock (frame ∷ self.old.stack.frames)) (O.account outside.new) self.new state.new result }
-        ensures lighter { IfOk result (λ w. Lightens w (load_in plan.now.elements self.old (frame ∷ self.old.stack.frames)) (load_of plan.now.elements self.new)) }
-        ensures goes { IfOk result (TakesTurn plan.now self.old.rounds (open_lock (frame ∷ self.old.stack.frames)) self.new) }
-        ensures thread { SameThread self.old self.new }
-        ensures later { IsLater state.old.fns state.new.fns }
+        requires top { (f : Frame) × (rest : List Frame) × (self.old.stack.frames ≡ f ∷ rest) }
+        ensures { TurnsOn plan.now (O.account outside.old) self.old state.old (O.account outside.new) self.new state.new result }
     {
-        let mut frame = frame;
-        match frame.cursor.next(alloc, plan, frame.round, state, outside) {
-            Ok(turn) => self.follow(frame, turn, alloc, plan, state, outside),
+        match self.stack.answer(alloc, plan, state, outside) {
+            Ok(turn) => self.follow(turn, alloc, plan, state, outside),
             Err(error) => Err(error),
         }
     }
 
-    // What an element that was taken out of the open ones answered is followed.
+    // What the innermost open element answered is followed.
     fn follow<O: Outside>(
         &mut self,
-        frame: Frame,
         turn: Turn,
         alloc: Global,
         plan: &Plan,
         state: &mut UserState,
         outside: &mut O,
     ) -> Result<Went, VarError>
-        requires stands { StandsIn plan.now self.old }
         requires normal { self.old.signal ≡ Signal.Normal }
-        requires open { IsOpen plan.now.elements (begun_after max_rounds turn) self.old.rounds frame }
-        requires apart { IsApart plan.now.elements self.old.stack.frames frame }
-        requires room { 0 < self.old.stack.room }
-        ensures turns { (e : Element) → slice_get plan.now.elements frame.element ≡ Some e
-            → Turns plan.now (O.account outside.old) (λ beside. left_answered plan.now self.old frame e turn (state_at self.old beside state.old))
-            (open_lock (frame ∷ self.old.stack.frames)) (O.account outside.new) self.new state.new result }
-        ensures lighter { IfOk result (λ w. (old : Frame) → old.depth ≡ frame.depth → TakesChild (children_left old.cursor) (children_left frame.cursor) turn
-            → Lightens w (load_in plan.now.elements self.old (old ∷ self.old.stack.frames)) (load_of plan.now.elements self.new)) }
-        ensures goes { IfOk result (TakesTurn plan.now self.old.rounds (open_lock (frame ∷ self.old.stack.frames)) self.new) }
+        requires answered { (f : Frame) × (rest : List Frame) × HasAnswered plan.now self.old turn f rest }
+        ensures turns { (f : Frame) (rest : List Frame) (e : Element) → HasAnswered plan.now self.old turn f rest → slice_get plan.now.elements f.element ≡ Some e
+            → Turns plan.now (O.account outside.old) (λ beside. left_answered plan.now (with_frames self.old rest) f e turn (state_at self.old beside state.old))
+            (open_lock (f ∷ rest)) (O.account outside.new) self.new state.new result }
+        ensures lighter { IfOk result (λ w. (f old : Frame) (rest : List Frame) → HasAnswered plan.now self.old turn f rest → old.depth ≡ f.depth
+            → TakesChild (children_left old.cursor) (children_left f.cursor) turn
+            → Lightens w (load_in plan.now.elements self.old (old ∷ rest)) (load_of plan.now.elements self.new)) }
+        ensures goes { (f : Frame) (rest : List Frame) → HasAnswered plan.now self.old turn f rest
+            → IfOk result (TakesTurn plan.now self.old.rounds (open_lock (f ∷ rest)) self.new) }
         ensures thread { SameThread self.old self.new }
         ensures later { IsLater state.old.fns state.new.fns }
     {
         match turn {
-            Turn::Over => Ok(close(&frame, self.signal)),
+            Turn::Over => Ok(shut(&mut self.stack, self.signal)),
             Turn::Round => {
                 if self.rounds == 0 {
                     self.signal = Signal::Stop(End::RoundLimit);
-                    return Ok(close(&frame, self.signal));
+                    return Ok(shut(&mut self.stack, self.signal));
                 }
                 self.rounds -= 1;
-                self.stack.put(frame);
                 Ok(Went::On)
             }
             Turn::Child(place) => {
+                let Some(frame) = self.stack.top() else {
+                    unreachable!();
+                };
                 let round = frame.cursor.round(frame.round);
                 let (element, depth) = (frame.element, frame.depth);
-                self.stack.put(frame);
                 match child_at(&self.links, element, place) {
                     Some(child) => self.open(alloc, plan, child, round, depth, state, outside),
                     None => Ok(Went::On),
@@ -211,12 +173,7 @@ impl Position {
         requires stands { StandsIn plan.now self.old }
         requires normal { self.old.signal ≡ Signal.Normal }
         requires empty { self.old.stack.frames ≡ [] }
-        ensures turns { Turns plan.now (O.account outside.old) (left_before plan.now self.old state.old)
-            (open_lock self.old.stack.frames) (O.account outside.new) self.new state.new result }
-        ensures lighter { IfOk result (λ w. Lightens w (load_of plan.now.elements self.old) (load_of plan.now.elements self.new)) }
-        ensures goes { IfOk result (TakesTurn plan.now self.old.rounds (open_lock self.old.stack.frames) self.new) }
-        ensures thread { SameThread self.old self.new }
-        ensures later { IsLater state.old.fns state.new.fns }
+        ensures { TurnsOn plan.now (O.account outside.old) self.old state.old (O.account outside.new) self.new state.new result }
     {
         match self.group.pass.next_child() {
             Some(place) => {
@@ -298,6 +255,16 @@ fn opening_move(cursor: &Cursor) -> Went
     match cursor {
         Cursor::Section(open) => Went::To(Move::EnterSection(open.lock)),
         _ => Went::On,
+    }
+}
+
+// The innermost open element is left under this signal.
+fn shut(stack: &mut Stack, signal: Signal) -> Went
+    ensures { (f : Frame) (rest : List Frame) → stack.old.frames ≡ f ∷ rest → (stack.new.frames ≡ rest) × (result ≡ closing_of signal f) }
+{
+    match stack.pop() {
+        Some(frame) => close(&frame, signal),
+        None => Went::On,
     }
 }
 
