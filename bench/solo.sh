@@ -1,6 +1,7 @@
 #!/bin/sh
 # Prints how fast `solo` runs: samples a second from the start of the process to its exit, the peak of its memory,
-# and how long a loop without end over an empty controller takes to meet its limit of rounds. Over nested Loops, an If
+# how long a loop without end over an empty controller takes to meet its limit of rounds, what a critical section costs beside
+# a Simple Controller, and how much one long list of children costs beside many short ones. Over nested Loops, an If
 # and a ForEach with templates at least 250,000 samples a second is the aim, and where an element of each class applies to
 # the sampler at least 150,000.
 # Usage: bench/solo.sh    (it needs python3, for the clock and the memory of a child process)
@@ -27,9 +28,9 @@ def source(text):
     file.seek(0)
     return file
 
-def seconds(text, *words):
+def seconds(text, *words, times=5):
     best = None
-    for _ in range(5):
+    for _ in range(times):
         with source(text) as plan_file, open("/dev/null", "wb") as sink:
             start = time.perf_counter()
             child = subprocess.Popen([PROGRAM, *words], stdin=plan_file, stdout=sink, stderr=subprocess.PIPE)
@@ -97,4 +98,29 @@ print(f"make --size 2047: {took * 1000:.1f} ms; {report[report.index('all,'):]}"
 
 took, report = seconds(plan([{"type": "Loop", "props": {"loops": -1}, "children": [{"type": "Simple"}]}]), "solo")
 print(f"a loop without end over an empty Simple: {took:.2f} s; {report}")
+
+# Two plans in turn, since a machine's speed changes from minute to minute: the least of some runs of each, and the medians.
+def in_turn(first, second, times=15):
+    took = [], []
+    for _ in range(times):
+        for text, kept in zip((first, second), took):
+            kept.append(seconds(text, "solo", "--samples", "262144", times=1)[0])
+    return [(min(kept), sorted(kept)[times // 2]) for kept in took]
+
+def rounds_of(kind, **props):
+    return plan([controller("Loop", "L", [controller(kind, "C", [script("S", [{"ms": 1}])], **props)], loops=32_768)])
+
+for (section, simple), by in zip(zip(*in_turn(rounds_of("CriticalSection", lock="l"), rounds_of("Simple"))), ("least", "medians")):
+    print(f"a section beside a Simple Controller, 32,768 rounds, by the {by}: {(section - simple) / 32_768 * 1e9:.0f} ns more a round")
+
+# 3,969 samplers in one group, and the same in 63 controllers of 63.
+def group_of(children, loops):
+    return json.dumps({"type": "TestPlan", "children": [
+        {"type": "ThreadGroup", "name": "TG", "props": {"loops": loops}, "children": children}]}).encode()
+
+row = [script("S", [{}])] * 63
+for loops in (1, 60):
+    wide, deep = group_of(row * 63, loops), group_of([controller("Simple", "C", row)] * 63, loops)
+    for (one, many), by in zip(zip(*in_turn(wide, deep)), ("least", "medians")):
+        print(f"3,969 samplers in one group beside 63 controllers, rounds: {loops}, by the {by}: {one / many:.2f}")
 PY
