@@ -13,7 +13,7 @@ use Rattle.thread_machine.specs.declared.runner.Runner.{Runner}
 use Rattle.thread_machine.specs.declared.step.Step.{Step}
 use Rattle.thread_machine.specs.declared.step.Step.TheVariants.{Sampled, Leave, Ended}
 use Rattle.thread_machine.specs.Recorded.{Recorded}
-use Rattle.thread_machine.specs.Inside.{owed_count, held, IsLimit, MovesOn, GoesOn}
+use Rattle.thread_machine.specs.Inside.{owed_count, held, IsLimit, MovesOn, GoesOn, IsMoving, IsEntering}
 use Rattle.thread_machine.specs.Ran.{GoesOnAfter, EndsBy}
 
 -- ---- more moves
@@ -111,34 +111,32 @@ has_settled w n step end is owed entering section no_owed no_entering no_section
     subst (GoesOnAfter n) (sym is) (record { owed = owed ∙ no_owed; entering = entering ∙ no_entering; section = section ∙ no_section })
 
 -- a section is left where the thread comes out of its element
-pub left_goes : (w mid n : Runner) (lock : ℕ) (step : Step) → step ≡ Leave lock → MovesOn w → w.owed ≡ None → w.entering ≡ None → w.last ≡ None → 4 ≤ w.trace.room
+pub left_goes : (w mid n : Runner) (lock : ℕ) (step : Step) → step ≡ Leave lock → IsMoving w
     → mid ≡ record w { begun = mid.begun; user = mid.user; config = mid.config; machine = mid.machine } → mid.begun ≡ true → n ≡ record mid { section = None; trace = n.trace } → mid.trace.room ≤ n.trace.room + 1
     → StandsIn mid.plan.now mid.machine → mid.config.feeds ≡ feeds_of mid.plan.now.elements mid.machine.group.element → open_lock mid.machine.stack.frames ≡ None → GoesOnAfter n step
-left_goes w mid n lock step is m owed entering last room mid_is begun new_is left stands feeds none =
+left_goes w mid n lock step is m mid_is begun new_is left stands feeds none =
     let k : Runner = record mid { section = None; trace = n.trace } in
     let room_is : mid.trace.room ≡ w.trace.room = ap (λ r. r.trace.room) mid_is in
-    let no_owed : owed_count mid.owed ≡ 0 = ap owed_count (ap (λ r. r.owed) mid_is ∙ owed) in
-    let no_entering : mid.entering ≡ None = ap (λ r. r.entering) mid_is ∙ entering in
+    let no_owed : owed_count mid.owed ≡ 0 = ap owed_count (ap (λ r. r.owed) mid_is ∙ m.owed) in
+    let no_entering : mid.entering ≡ None = ap (λ r. r.entering) mid_is ∙ m.entering in
     let moves : MovesOn k = record {
       stands = stands;
       lock = ap (λ o. held o None) no_entering ∙ sym none;
       first = λ unbegun. absurd (let i : true ≡ false = sym begun ∙ unbegun in cc);
       feeds = feeds;
-      table = subst (λ (r : Runner). r.table ≡ packages_of r.plan.now.elements) (sym mid_is) m.table;
+      table = subst (λ (r : Runner). r.table ≡ packages_of r.plan.now.elements) (sym mid_is) m.moves.table;
     } in
-    let g : GoesOn k = goes_on k (ap (λ r. r.last) mid_is ∙ last) no_entering (omega (arith, room, room_is, no_owed, left)) moves tt in
+    let g : GoesOn k = goes_on k (ap (λ r. r.last) mid_is ∙ m.last) no_entering (omega (arith, m.room, room_is, no_owed, left)) moves tt in
     subst (GoesOnAfter n) (sym is) (subst GoesOn (sym new_is) g)
 
 -- a section is to be entered
-pub enters_goes : (w : Runner) (lock units : ℕ) → w.owed ≡ None → w.last ≡ None → w.begun ≡ true → w.section ≡ None → open_lock w.machine.stack.frames ≡ Some lock → StandsIn w.plan.now w.machine
-    → w.config.feeds ≡ feeds_of w.plan.now.elements w.machine.group.element → w.table ≡ packages_of w.plan.now.elements → 3 ≤ w.trace.room → IsLock w.plan.now.elements lock
-    → GoesOn (record w { units = units; entering = Some lock })
-enters_goes w lock units owed last begun closed has stands feeds table room there = record {
-  room = (let none = ap owed_count owed in omega (arith, room, none));
-  moves = λ h. record { stands = stands; lock = sym has; first = λ unbegun. closed; feeds = feeds; table = table };
-  limit = limit_none w.last (λ o end. IsLimit end × (w.section ≡ None)) last;
-  known = subst (λ o. IfSome o (IsLock w.plan.now.elements)) (sym closed) tt;
-  enters = (begun, last, closed, owed, there);
+pub enters_goes : (w : Runner) (lock units : ℕ) → IsEntering w lock → GoesOn (record w { units = units; entering = Some lock })
+enters_goes w lock units e = record {
+  room = (let none = ap owed_count e.owed in omega (arith, e.room, none));
+  moves = λ h. record { stands = e.stands; lock = sym e.held; first = λ unbegun. e.none_open; feeds = e.feeds; table = e.table };
+  limit = limit_none w.last (λ o end. IsLimit end × (w.section ≡ None)) e.last;
+  known = subst (λ o. IfSome o (IsLock w.plan.now.elements)) (sym e.none_open) tt;
+  enters = (e.begun, e.last, e.none_open, e.owed, e.there);
 }
 
 -- after the pause before the first variables
@@ -156,16 +154,66 @@ goes_paused w n is on owed entering room =
     } in
     subst GoesOn (sym is) g
 
+-- ---- a thread that is at its moves
+
+pub moving_first : (w n : Runner) → n ≡ record w { pause = 0; trace = n.trace } → GoesOn w → w.owed ≡ None → w.entering ≡ None → w.last ≡ None → 4 ≤ n.trace.room → IsMoving n
+moving_first w n is on owed entering last room =
+    let none : n.last ≡ None = ap (λ r. r.last) is ∙ last in
+    let g : GoesOn n = goes_paused w n is on owed entering room in
+    record {
+      owed = ap (λ r. r.owed) is ∙ owed;
+      entering = ap (λ r. r.entering) is ∙ entering;
+      last = none;
+      pause = ap (λ r. r.pause) is;
+      moves = g.moves none;
+      known = g.known;
+      room = room;
+    }
+
+module _ (w mid : Runner) (m : IsMoving w) (is : mid ≡ record w { begun = mid.begun; user = mid.user; config = mid.config; machine = mid.machine }) (begun : mid.begun ≡ true)
+    (stands : StandsIn mid.plan.now mid.machine) (feeds : mid.config.feeds ≡ feeds_of mid.plan.now.elements mid.machine.group.element) where
+  room_same : 4 ≤ mid.trace.room
+  room_same = subst (λ (r : Runner). 4 ≤ r.trace.room) (sym is) m.room
+
+  -- after a move that neither enters nor leaves a section
+  pub moving_next : open_lock mid.machine.stack.frames ≡ w.section → IsMoving mid
+  moving_next lock = record {
+    owed = ap (λ r. r.owed) is ∙ m.owed;
+    entering = ap (λ r. r.entering) is ∙ m.entering;
+    last = ap (λ r. r.last) is ∙ m.last;
+    pause = ap (λ r. r.pause) is ∙ m.pause;
+    moves = moves_on_next w mid m.moves m.entering is begun stands feeds lock;
+    known = known_on w mid (ap (λ r. r.plan.now) is) (ap (λ r. r.section) is) m.known;
+    room = room_same;
+  }
+
+  -- after a move that comes to a section
+  pub entering_next : (lock : ℕ) → (w.section ≡ None) × (open_lock mid.machine.stack.frames ≡ Some lock) → IsLock mid.plan.now.elements lock → IsEntering mid lock
+  entering_next lock opens there = record {
+    owed = ap (λ r. r.owed) is ∙ m.owed;
+    entering = ap (λ r. r.entering) is ∙ m.entering;
+    last = ap (λ r. r.last) is ∙ m.last;
+    pause = ap (λ r. r.pause) is ∙ m.pause;
+    begun = begun;
+    none_open = ap (λ r. r.section) is ∙ opens.0;
+    held = opens.1;
+    stands = stands;
+    feeds = feeds;
+    table = subst (λ (r : Runner). r.table ≡ packages_of r.plan.now.elements) (sym is) m.moves.table;
+    room = room_same;
+    there = there;
+  }
+
 -- ---- after a sampler and a transaction's sample
 
-module _ (w : Runner) (m : MovesOn w) (owed : w.owed ≡ None) (entering : w.entering ≡ None) (last : w.last ≡ None) (begun : w.begun ≡ true) (known : IfSome w.section (IsLock w.plan.now.elements)) (room : 4 ≤ w.trace.room) where
+module _ (w : Runner) (moving : IsMoving w) (begun : w.begun ≡ true) where
   module _ (ran_on mid : Runner) (ran_is : ran_on ≡ record w { user = ran_on.user; order = ran_on.order; units = w.units - 1 }) (mid_is : mid ≡ record ran_on { trace = mid.trace })
       (less : ran_on.trace.room ≤ mid.trace.room + 1) where
     mid_all : mid ≡ record w { user = ran_on.user; order = ran_on.order; units = w.units - 1; trace = mid.trace }
     mid_all = mid_is ∙ ap (λ (r : Runner). record r { trace = mid.trace }) ran_is
 
     room_left : 3 ≤ mid.trace.room
-    room_left = let same : ran_on.trace.room ≡ w.trace.room = ap (λ (r : Runner). r.trace.room) ran_is in omega (arith, room, same, less)
+    room_left = let same : ran_on.trace.room ≡ w.trace.room = ap (λ (r : Runner). r.trace.room) ran_is in omega (arith, moving.room, same, less)
 
     -- a sample is owed
     pub sampled_goes : (new : Runner) (sample : Sample) (entry : Entry) (step : Step) → step ≡ Sampled entry → new ≡ record mid { owed = Some sample; machine = told sample mid.machine }
@@ -185,10 +233,10 @@ module _ (w : Runner) (m : MovesOn w) (owed : w.owed ≡ None) (entering : w.ent
         let one : owed_count new.owed ≡ 1 = ap (λ r. owed_count r.owed) all in
         let left : new.trace.room ≡ mid.trace.room = ap (λ r. r.trace.room) new_is in
         let three : 3 ≤ mid.trace.room = room_left in
-        subst (GoesOnAfter new) (sym step_is) (goes_on new (next.last ∙ last) (next.entering ∙ entering) (omega (arith, one, left, three))
-        (moves_next w new next entering (ap (λ r. r.begun) all ∙ begun) m (stands (subst (λ (r : Runner). StandsIn r.plan.now r.machine) (sym mid_all) m.stands))
-        (subst (λ (r : Runner). r.table ≡ packages_of r.plan.now.elements) (sym all) m.table))
-        (known_on w new next.plan next.section known))
+        subst (GoesOnAfter new) (sym step_is) (goes_on new (next.last ∙ moving.last) (next.entering ∙ moving.entering) (omega (arith, one, left, three))
+        (moves_next w new next moving.entering (ap (λ r. r.begun) all ∙ begun) moving.moves (stands (subst (λ (r : Runner). StandsIn r.plan.now r.machine) (sym mid_all) moving.moves.stands))
+        (subst (λ (r : Runner). r.table ≡ packages_of r.plan.now.elements) (sym all) moving.moves.table))
+        (known_on w new next.plan next.section moving.known))
 
     -- none is
     pub null_goes : (t : Recorded) → mid.trace.room ≤ t.room + 1 → GoesOn (record mid { trace = t })
@@ -203,12 +251,12 @@ module _ (w : Runner) (m : MovesOn w) (owed : w.owed ≡ None) (entering : w.ent
           group = ap (λ r. r.machine.group.element) mid_all;
           lock = ap (λ r. open_lock r.machine.stack.frames) mid_all;
         } in
-        let none : owed_count mid.owed ≡ 0 = ap (λ r. owed_count r.owed) mid_all ∙ ap owed_count owed in
+        let none : owed_count mid.owed ≡ 0 = ap (λ r. owed_count r.owed) mid_all ∙ ap owed_count moving.owed in
         let three : 3 ≤ mid.trace.room = room_left in
-        goes_on n (next.last ∙ last) (next.entering ∙ entering) (omega (arith, none, less_yet, three))
-        (moves_next w n next entering (ap (λ r. r.begun) mid_all ∙ begun) m (subst (λ (r : Runner). StandsIn r.plan.now r.machine) (sym mid_all) m.stands)
-        (subst (λ (r : Runner). r.table ≡ packages_of r.plan.now.elements) (sym mid_all) m.table))
-        (known_on w n next.plan next.section known)
+        goes_on n (next.last ∙ moving.last) (next.entering ∙ moving.entering) (omega (arith, none, less_yet, three))
+        (moves_next w n next moving.entering (ap (λ r. r.begun) mid_all ∙ begun) moving.moves (subst (λ (r : Runner). StandsIn r.plan.now r.machine) (sym mid_all) moving.moves.stands)
+        (subst (λ (r : Runner). r.table ≡ packages_of r.plan.now.elements) (sym mid_all) moving.moves.table))
+        (known_on w n next.plan next.section moving.known)
 
   -- a transaction's sample is owed
   pub summed_goes : (new : Runner) (sample : Sample) (entry : Entry) (step : Step) → step ≡ Sampled entry → new ≡ record w { units = w.units - 1; owed = Some sample } → GoesOnAfter new step
@@ -224,7 +272,7 @@ module _ (w : Runner) (m : MovesOn w) (owed : w.owed ≡ None) (entering : w.ent
       } in
       let one : owed_count new.owed ≡ 1 = ap (λ r. owed_count r.owed) is in
       let left : new.trace.room ≡ w.trace.room = ap (λ r. r.trace.room) is in
-      subst (GoesOnAfter new) (sym step_is) (goes_on new (next.last ∙ last) (next.entering ∙ entering) (omega (arith, one, left, room))
-      (moves_next w new next entering (ap (λ r. r.begun) is ∙ begun) m (subst (λ (r : Runner). StandsIn r.plan.now r.machine) (sym is) m.stands)
-      (subst (λ (r : Runner). r.table ≡ packages_of r.plan.now.elements) (sym is) m.table))
-      (known_on w new next.plan next.section known))
+      subst (GoesOnAfter new) (sym step_is) (goes_on new (next.last ∙ moving.last) (next.entering ∙ moving.entering) (omega (arith, one, left, moving.room))
+      (moves_next w new next moving.entering (ap (λ r. r.begun) is ∙ begun) moving.moves (subst (λ (r : Runner). StandsIn r.plan.now r.machine) (sym is) moving.moves.stands)
+      (subst (λ (r : Runner). r.table ≡ packages_of r.plan.now.elements) (sym is) moving.moves.table))
+      (known_on w new next.plan next.section moving.known))

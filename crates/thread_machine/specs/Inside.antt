@@ -69,6 +69,32 @@ pub record GoesOn (r : Runner) : Type 0 where
   pub known : IfSome r.section (IsLock r.plan.now.elements)
   pub enters : IfSome r.entering (λ lock. (r.begun ≡ true) × (r.last ≡ None) × (r.section ≡ None) × (r.owed ≡ None) × IsLock r.plan.now.elements lock)
 
+-- A thread that is at its moves: nothing is owed to the trace, the pause before the first variables was made, no end comes
+-- next, and there is room for what a move shows.
+pub record IsMoving (r : Runner) : Type 0 where
+  pub owed : r.owed ≡ None
+  pub entering : r.entering ≡ None
+  pub last : r.last ≡ None
+  pub pause : r.pause ≡ 0
+  pub moves : MovesOn r
+  pub known : IfSome r.section (IsLock r.plan.now.elements)
+  pub room : 4 ≤ r.trace.room
+
+-- A thread whose machine has come to a section that is to be entered, where none is open.
+pub record IsEntering (r : Runner) (lock : ℕ) : Type 0 where
+  pub owed : r.owed ≡ None
+  pub entering : r.entering ≡ None
+  pub last : r.last ≡ None
+  pub pause : r.pause ≡ 0
+  pub begun : r.begun ≡ true
+  pub none_open : r.section ≡ None
+  pub held : open_lock r.machine.stack.frames ≡ Some lock
+  pub stands : StandsIn r.plan.now r.machine
+  pub feeds : r.config.feeds ≡ feeds_of r.plan.now.elements r.machine.group.element
+  pub table : r.table ≡ packages_of r.plan.now.elements
+  pub room : 4 ≤ r.trace.room
+  pub there : IsLock r.plan.now.elements lock
+
 -- nothing is owed to the trace, and no section is open
 pub record HasSettled (r : Runner) : Type 0 where
   pub owed : r.owed ≡ None

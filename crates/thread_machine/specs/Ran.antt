@@ -11,7 +11,11 @@ use Rattle.control_machine.specs.declared.moves.Move.{Move}
 use Rattle.control_machine.specs.declared.moves.Move.TheVariants.{Iteration, RunSampler, EnterSection, LeaveSection, TransactionSample, Finished}
 use Rattle.control_machine.specs.Moves.{past}
 use Rattle.jm_meaning.specs.Sections.{leaving_open}
-use Rattle.control_machine.specs.Left.{IsSampler, IsTransaction, IsLock, IsFinish}
+use Rattle.control_machine.specs.Left.{StandsIn, IsSampler, IsTransaction, IsLock, IsFinish, open_lock}
+use Rattle.control_machine.specs.Turns.{IsNormalAt, MovesLock}
+use Rattle.control_machine.specs.declared.position.Position.{Position}
+use Rattle.config_elements.specs.RoundStart.{Config, feeds_of}
+use Rattle.element_tree.specs.Tree.{Tree}
 use Rattle.thread_machine.specs.declared.runner.Runner.{Runner}
 use Rattle.thread_machine.specs.declared.step.Step.{Step}
 use Rattle.thread_machine.specs.declared.step.Step.TheVariants.{Sampled, Null, Enter, Leave, Ended}
@@ -36,6 +40,15 @@ IsTaken elements (EnterSection lock) = IsLock elements lock
 IsTaken elements (LeaveSection lock) = IsLock elements lock
 IsTaken elements (TransactionSample element tally) = IsTransaction elements element
 IsTaken elements (Finished end) = IsFinish end
+
+-- A move that ends a step has been made by a thread that had this section open: its machine stands in the plan and has moved
+-- the lock as the move says, and what the thread keeps of Counters and data sets is of the same group.
+pub record HasMoved (plan : Tree) (section : Option ℕ) (machine : Position) (config : Config) (move : Move) : Type 0 where
+  pub given : IsTaken plan.elements move
+  pub stands : StandsIn plan machine
+  pub lock : MovesLock move section (open_lock machine.stack.frames)
+  pub normal : IsNormalAt move machine.signal
+  pub feeds : config.feeds ≡ feeds_of plan.elements machine.group.element
 
 -- what is left of a thread's part of the plan
 abbrev pub left_to : Runner → Run Ending

@@ -16,11 +16,11 @@ ghost use Rattle.jm_meaning.specs.Meaning.{and_end};
 ghost use Rattle.control_machine.specs.Moves.{past};
 ghost use Rattle.control_machine.specs.Hearing.{told};
 ghost use Rattle.control_machine.specs.Left.{StandsIn, left_of, left_after, state_at, moved, open_lock, IsSampler, IsTransaction, IsLock};
-ghost use Rattle.control_machine.specs.Turns.{IsNormalAt, MovesLock};
-ghost use Rattle.thread_machine.specs.Inside.{standing_of, IsLimit, MovesOn, GoesOn};
+ghost use Rattle.control_machine.specs.Turns.{IsNormalAt};
+ghost use Rattle.thread_machine.specs.Inside.{standing_of, IsLimit, GoesOn, IsMoving, IsEntering};
 ghost use Rattle.thread_machine.specs.Standing.{IsAtStart, rest, state_in};
 ghost use Rattle.thread_machine.specs.Stepped.{entry_of, trace_paused, Gives, Steps};
-ghost use Rattle.thread_machine.specs.Ran.{left_to, IsTaken, IsRefusedAt, IsBegun, IsCutAt, IsCutAfter, EndsBy, GoesOnAfter, is_end};
+ghost use Rattle.thread_machine.specs.Ran.{left_to, HasMoved, IsRefusedAt, IsBegun, IsCutAt, IsCutAfter, EndsBy, GoesOnAfter, is_end};
 ghost use Rattle.thread_machine.specs.SectionOrder.{left_traced};
 
 use crate::step::Step;
@@ -170,12 +170,7 @@ impl<'p> Runner<'p> {
 
     // What comes next after the pause: a sampler runs, or the thread ends. A limit ends it.
     fn go_on<O: Outside>(&mut self, outside: &mut O) -> M<Step>
-        requires owed { self.old.owed ≡ None }
-        requires entering { self.old.entering ≡ None }
-        requires last { self.old.last ≡ None }
-        requires pause { self.old.pause ≡ 0 }
-        requires on { GoesOn self.old }
-        requires room { 4 ≤ self.old.trace.room }
+        requires { IsMoving self.old }
         ensures gives { IfOk result (λ step. Gives (O.account outside.old) (O.account outside.new) (rest (standing_of self.old false))
             (standing_of self.old false) (standing_of self.new (is_end step)) step) }
         ensures on { IfOk result (GoesOnAfter self.new) }
@@ -232,13 +227,7 @@ impl<'p> Runner<'p> {
     // The next move is made: a sampler runs, a transaction gives its sample, a section is entered or left, or the thread's
     // rounds are over.
     fn move_on<O: Outside>(&mut self, outside: &mut O) -> Result<Step, VarError>
-        requires owed { self.old.owed ≡ None }
-        requires entering { self.old.entering ≡ None }
-        requires last { self.old.last ≡ None }
-        requires pause { self.old.pause ≡ 0 }
-        requires moves { MovesOn self.old }
-        requires known { IfSome self.old.section (IsLock self.old.plan.now.elements) }
-        requires room { 4 ≤ self.old.trace.room }
+        requires { IsMoving self.old }
         ensures gives { IfOk result (λ step. Gives (O.account outside.old) (O.account outside.new) (and_end (left_to self.old))
             (standing_of self.old false) (standing_of self.new (is_end step)) step) }
         ensures on { IfOk result (GoesOnAfter self.new) }
@@ -257,18 +246,11 @@ impl<'p> Runner<'p> {
 
     // The next move that ends a step. The first variables are set before the first one.
     fn next_move<O: Outside>(&mut self, outside: &mut O) -> Result<Move, VarError>
-        requires stands { StandsIn self.old.plan.now self.old.machine }
-        requires lock { self.old.section ≡ open_lock self.old.machine.stack.frames }
-        requires first { self.old.begun ≡ false → self.old.section ≡ None }
-        requires feeds { self.old.config.feeds ≡ feeds_of self.old.plan.now.elements self.old.machine.group.element }
+        requires { IsMoving self.old }
         ensures came { CameTo (O.account outside.old) (left_to self.old) (O.account outside.new)
             (moved self.new.plan.now self.new.machine (state_in (standing_of self.new false)))
             (leaving_open self.old.section (past (state_in (standing_of self.new false)))) result }
-        ensures given { IfOk result (IsTaken self.new.plan.now.elements) }
-        ensures stands { IfOk result (λ m. StandsIn self.new.plan.now self.new.machine) }
-        ensures lock { IfOk result (λ m. MovesLock m self.old.section (open_lock self.new.machine.stack.frames)) }
-        ensures normal { IfOk result (λ m. IsNormalAt m self.new.machine.signal) }
-        ensures feeds { IfOk result (λ m. self.new.config.feeds ≡ feeds_of self.new.plan.now.elements self.new.machine.group.element) }
+        ensures moved { IfOk result (HasMoved self.new.plan.now self.old.section self.new.machine self.new.config) }
         ensures begun { IfOk result (λ m. self.new.begun ≡ true) }
         ensures kept { self.new ≡ record self.old { begun = self.new.begun; user = self.new.user; config = self.new.config; machine = self.new.machine } }
     {
@@ -308,15 +290,9 @@ impl<'p> Runner<'p> {
 
     // A unit is used, and the sampler of this number runs.
     fn sample<O: Outside>(&mut self, number: u16, outside: &mut O) -> Result<Step, VarError>
-        requires owed { self.old.owed ≡ None }
-        requires entering { self.old.entering ≡ None }
-        requires last { self.old.last ≡ None }
-        requires pause { self.old.pause ≡ 0 }
+        requires moving { IsMoving self.old }
         requires begun { self.old.begun ≡ true }
-        requires moves { MovesOn self.old }
-        requires known { IfSome self.old.section (IsLock self.old.plan.now.elements) }
         requires normal { IsNormalAt (Move.RunSampler number) self.old.machine.signal }
-        requires room { 4 ≤ self.old.trace.room }
         requires there { IsSampler self.old.plan.now.elements number }
         ensures gives { IfOk result (λ step. Gives (O.account outside.old) (O.account outside.new)
             (and_end (moved self.old.plan.now self.old.machine (state_in (standing_of self.old false)) (Move.RunSampler number)))
@@ -399,14 +375,8 @@ impl<'p> Runner<'p> {
 
     // A unit is used, and the transaction of this number gives its sample.
     fn sum_up(&mut self, element: u16, tally: Tally) -> Result<Step, VarError>
-        requires owed { self.old.owed ≡ None }
-        requires entering { self.old.entering ≡ None }
-        requires last { self.old.last ≡ None }
-        requires pause { self.old.pause ≡ 0 }
+        requires moving { IsMoving self.old }
         requires begun { self.old.begun ≡ true }
-        requires moves { MovesOn self.old }
-        requires known { IfSome self.old.section (IsLock self.old.plan.now.elements) }
-        requires room { 4 ≤ self.old.trace.room }
         requires there { IsTransaction self.old.plan.now.elements element }
         ensures gives { (a : Account) → IfOk result (λ step. Gives a a
             (and_end (moved self.old.plan.now self.old.machine (state_in (standing_of self.old false)) (Move.TransactionSample element tally)))
@@ -429,18 +399,7 @@ impl<'p> Runner<'p> {
 
     // A unit is used, and the section of this lock is to be entered.
     fn enter(&mut self, lock: u16) -> Step
-        requires owed { self.old.owed ≡ None }
-        requires last { self.old.last ≡ None }
-        requires pause { self.old.pause ≡ 0 }
-        requires begun { self.old.begun ≡ true }
-        requires entering { self.old.entering ≡ None }
-        requires none_open { self.old.section ≡ None }
-        requires held { open_lock self.old.machine.stack.frames ≡ Some lock }
-        requires stands { StandsIn self.old.plan.now self.old.machine }
-        requires feeds { self.old.config.feeds ≡ feeds_of self.old.plan.now.elements self.old.machine.group.element }
-        requires table { self.old.table ≡ packages_of self.old.plan.now.elements }
-        requires room { 3 ≤ self.old.trace.room }
-        requires there { IsLock self.old.plan.now.elements lock }
+        requires { IsEntering self.old lock }
         ensures gives { (a : Account) → Gives a a
             (and_end (moved self.old.plan.now self.old.machine (state_in (standing_of self.old false)) (Move.EnterSection lock)))
             (standing_of self.old false) (standing_of self.new (is_end result)) result }
@@ -470,11 +429,7 @@ fn walk<O: Outside>(
         → CameTo (O.account outside.old) (left_of plan.now machine.old (state_at machine.old (record { units = units; config = config.old.places }) user.old)) (O.account outside.new)
         (moved plan.now machine.new (state_at machine.new (record { units = units; config = config.new.places }) user.new))
         (leaving_open (open_lock machine.old.stack.frames) (past (state_at machine.new (record { units = units; config = config.new.places }) user.new))) result }
-    ensures given { IfOk result (IsTaken plan.now.elements) }
-    ensures stands { IfOk result (λ m. StandsIn plan.now machine.new) }
-    ensures feeds { IfOk result (λ m. config.new.feeds ≡ feeds_of plan.now.elements machine.new.group.element) }
-    ensures lock { IfOk result (λ m. MovesLock m (open_lock machine.old.stack.frames) (open_lock machine.new.stack.frames)) }
-    ensures normal { IfOk result (λ m. IsNormalAt m machine.new.signal) }
+    ensures moved { IfOk result (HasMoved plan.now (open_lock machine.old.stack.frames) machine.new config.new) }
 {
     'moves: loop {
         match machine.next(alloc, plan, user, outside) {

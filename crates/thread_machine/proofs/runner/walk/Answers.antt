@@ -38,11 +38,13 @@ returns-in-Err-feed-clause-came g c = λ units.
 pub returns-in_default : goal.returns-in_default
 returns-in_default g c = record {
   came = λ units. goes-append (c.moves.invariant.goes units) (c.in-Ok.ensures.came (record { units = units; config = c.moves.config.places }));
-  given = taken c.args.plan.now.elements c.in-Ok.next c.in-Ok.ensures.given c.in_default.not-Iteration;
-  stands = c.in-Ok.ensures.stands;
-  feeds = c.moves.invariant.feeds ∙ ap (feeds_of c.args.plan.now.elements) (sym c.next.ensures.thread.0);
-  lock = rw c.moves.invariant.lock at c.in-Ok.ensures.lock;
-  normal = c.in-Ok.ensures.normal;
+  moved = record {
+    given = taken c.args.plan.now.elements c.in-Ok.next c.in-Ok.ensures.given c.in_default.not-Iteration;
+    stands = c.in-Ok.ensures.stands;
+    lock = rw c.moves.invariant.lock at c.in-Ok.ensures.lock;
+    normal = c.in-Ok.ensures.normal;
+    feeds = c.moves.invariant.feeds ∙ ap (feeds_of c.args.plan.now.elements) (sym c.next.ensures.thread.0);
+  };
 }
 
 pub returns-in-Err-clause-came : goal.returns-in-Err-clause-came

@@ -20,4 +20,4 @@ returns-clause-gives c = λ a.
 
 pub returns-clause-on : goal.returns-clause-on
 returns-clause-on c =
-    enters_goes c.args.self.now c.args.lock (c.args.self.now.units - 1) c.requires.owed c.requires.last c.requires.begun c.requires.none_open c.requires.held c.requires.stands c.requires.feeds c.requires.table c.requires.room c.requires.there
+    enters_goes c.args.self.now c.args.lock (c.args.self.now.units - 1) c.requires

@@ -4,12 +4,6 @@ use Rattle.thread_machine.proofs.Going.{ends_on}
 use Rattle.thread_machine.proofs.Steps.{past_the_limit, cut_there}
 use Rattle.thread_machine.proofs.runner.Runner.go_on.Goals as goal
 
-pub move_on-requires-clause-moves : goal.move_on-requires-clause-moves
-move_on-requires-clause-moves g c = c.requires.on.moves c.requires.last
-
-pub move_on-requires-clause-known : goal.move_on-requires-clause-known
-move_on-requires-clause-known g c = c.requires.on.known
-
 pub end_by-requires : goal.end_by-requires
 end_by-requires g c =
     let same = ap (λ t. t.room) c.in-Err-ValueLimit.ensures.refused.trace in
@@ -18,7 +12,7 @@ end_by-requires g c =
 
 pub returns-in-Err-ValueLimit-clause-gives : goal.returns-in-Err-ValueLimit-clause-gives
 returns-in-Err-ValueLimit-clause-gives g c =
-    past_the_limit _ _ c.args.self.now c.move_on.new.self c.end_by.new.self c.in-Err-ValueLimit.field-0 c.end_by.result c.requires.pause c.requires.last c.requires.on.known c.in-Err-ValueLimit.field-0-is
+    past_the_limit _ _ c.args.self.now c.move_on.new.self c.end_by.new.self c.in-Err-ValueLimit.field-0 c.end_by.result c.requires.pause c.requires.last c.requires.known c.in-Err-ValueLimit.field-0-is
     c.in-Err-ValueLimit.ensures.refused c.end_by.ensures.ends
 
 pub returns-in-Err-ValueLimit-clause-on : goal.returns-in-Err-ValueLimit-clause-on

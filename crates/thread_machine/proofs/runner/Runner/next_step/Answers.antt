@@ -1,5 +1,5 @@
 use Rattle.std.proofs.Common.{◌∙◌, refl, ap, arith}
-use Rattle.thread_machine.proofs.Going.{goes_paused}
+use Rattle.thread_machine.proofs.Going.{moving_first}
 use Rattle.thread_machine.proofs.Steps.{cut_before, cut_at_once, cut_later, on_err, same_fewer}
 use Rattle.thread_machine.proofs.runner.Runner.next_step.Goals as goal
 
@@ -30,9 +30,9 @@ returns-in_err-pause_first-clause-cut g c =
 pub returns-in_err-pause_first-clause-room : goal.returns-in_err-pause_first-clause-room
 returns-in_err-pause_first-clause-room g c = on_err c.from_residual-in_err-pause_first.result _ (let a = c.in_err-pause_first.ensures.room in omega (arith, a))
 
-pub go_on-requires-clause-on : goal.go_on-requires-clause-on
-go_on-requires-clause-on g c =
-    goes_paused c.args.self.now c.pause_first.new.self c.in_ok-pause_first.ensures.begun.kept c.requires.on c.requires.owed c.requires.entering c.in_ok-pause_first.ensures.room
+pub go_on-requires : goal.go_on-requires
+go_on-requires g c =
+    moving_first c.args.self.now c.pause_first.new.self c.in_ok-pause_first.ensures.begun.kept c.requires.on c.requires.owed c.requires.entering c.requires.last c.in_ok-pause_first.ensures.room
 
 pub returns-clause-cut : goal.returns-clause-cut
 returns-clause-cut g c =

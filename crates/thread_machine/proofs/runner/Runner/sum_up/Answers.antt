@@ -8,12 +8,12 @@ use Rattle.thread_machine.proofs.runner.Runner.sum_up.Goals as goal
 
 pub returns-then-self-eq0-clause-gives : goal.returns-then-self-eq0-clause-gives
 returns-then-self-eq0-clause-gives c = λ a.
-    no_unit c.args.self.now c.args.element c.args.tally c.requires.there a c.end_by.new.self c.end_by.result c.if-self-eq0.true c.requires.moves.stands
-    (lock_open c.args.self.now c.requires.moves c.requires.entering) c.requires.known c.end_by.ensures.ends
+    no_unit c.args.self.now c.args.element c.args.tally c.requires.there a c.end_by.new.self c.end_by.result c.if-self-eq0.true c.requires.moving.moves.stands
+    (lock_open c.args.self.now c.requires.moving.moves c.requires.moving.entering) c.requires.moving.known c.end_by.ensures.ends
 
 pub returns-then-self-eq0-clause-on : goal.returns-then-self-eq0-clause-on
 returns-then-self-eq0-clause-on c =
-    ends_on c.args.self.now c.end_by.new.self SampleLimit c.end_by.result (tt {0}) c.requires.owed c.requires.entering (let r = c.requires.room in omega (arith, r)) c.end_by.ensures.room c.end_by.ensures.ends
+    ends_on c.args.self.now c.end_by.new.self SampleLimit c.end_by.result (tt {0}) c.requires.moving.owed c.requires.moving.entering (let r = c.requires.moving.room in omega (arith, r)) c.end_by.ensures.room c.end_by.ensures.ends
 
 pub label_of-label-requires : goal.label_of-label-requires
 label_of-label-requires c =
@@ -26,9 +26,9 @@ returns-in_default-clause-refused c = λ a. sum_wanting c.args.self.now c.args.e
 pub returns-clause-gives : goal.returns-clause-gives
 returns-clause-gives c = λ a.
     gave_sum c.args.self.now c.args.element c.args.tally c.requires.there c.if-self-eq0.false a c.in-Ok.sample c.label_of-label.result c.owe.new.self c.owe.result
-    c.requires.pause c.requires.last c.requires.begun c.in-Ok.ensures c.label_of-label.ensures c.owe.ensures.new c.owe.ensures.step
+    c.requires.moving.pause c.requires.moving.last c.requires.begun c.in-Ok.ensures c.label_of-label.ensures c.owe.ensures.new c.owe.ensures.step
 
 pub returns-clause-on : goal.returns-clause-on
 returns-clause-on c =
-    summed_goes c.args.self.now c.requires.moves c.requires.owed c.requires.entering c.requires.last c.requires.begun c.requires.known c.requires.room
+    summed_goes c.args.self.now c.requires.moving c.requires.begun
     c.owe.new.self c.in-Ok.sample (entry_of c.in-Ok.sample) c.owe.result c.owe.ensures.step c.owe.ensures.new
