@@ -10,7 +10,8 @@ ghost use Rattle.jm_meaning.specs.Children.{children_of, in_order, once_only, if
 ghost use Rattle.jm_meaning.specs.Choices.{chosen, interleave, random, random_order, switch};
 ghost use Rattle.jm_meaning.specs.Sections.{section};
 ghost use Rattle.jm_meaning.specs.Transactions.{transaction};
-ghost use Rattle.jm_meaning.specs.Meaning.{meaning, kind_meaning};
+ghost use Rattle.jm_meaning.specs.Meaning.{kind_meaning};
+ghost use Rattle.plain_run.specs.Levels.{at_level};
 ghost use Rattle.plain_run.specs.Plays.{Runs, here_of, IsLooping};
 
 use crate::children::{children_of, shuffled};
@@ -23,13 +24,18 @@ use jm_meaning::{Item, Signal, Tally};
 use logic_controllers::{Span, goes_on, is_true, last_ok, loops_of, round_begins, value_at};
 use template_text::Template;
 
-// Runs an element, at which and below which elements nest at most that deep, in a round of its nearest looping
-// ancestor.
+/// A level of a plan: what a failed sample leads to there, and how deep elements nest at it at most.
+#[derive(Clone, Copy)]
+pub struct Level<'p> {
+    pub plan: &'p Plan,
+    pub at_failure: Signal,
+    pub depth: u8,
+}
+
+// Runs an element of this level in a round of its nearest looping ancestor.
 #[cycle(elements)]
 fn run_element<O: Outside>(
-    plan: &Plan,
-    at_failure: Signal,
-    depth: u8,
+    level: Level<'_>,
     number: u16,
     round: u32,
     progress: &mut Progress,
@@ -37,16 +43,17 @@ fn run_element<O: Outside>(
 ) -> M<Signal>
     requires { progress.old.rounds ≤ max_rounds }
     ensures { Runs (O.account outside.old) progress.old
-        (meaning (here_of plan.now at_failure) depth number round) result progress.new (O.account outside.new) }
+        (at_level level.entry number round) result progress.new (O.account outside.new) }
 {
-    if depth == 0 {
+    if level.depth == 0 {
         return Ok(Signal::Normal);
     }
-    match plan.element(number) {
+    match level.plan.element(number) {
         Some(element) => run_kind(
-            plan,
-            at_failure,
-            depth - 1,
+            Level {
+                depth: level.depth - 1,
+                ..level
+            },
             number,
             element,
             round,
@@ -57,12 +64,10 @@ fn run_element<O: Outside>(
     }
 }
 
-// Runs an element by its kind, over its children, at which elements nest at most that deep.
+// Runs an element by its kind, over its children, which are of this level.
 #[cycle(elements)]
 fn run_kind<O: Outside>(
-    plan: &Plan,
-    at_failure: Signal,
-    depth: u8,
+    level: Level<'_>,
     number: u16,
     element: &Element,
     round: u32,
@@ -70,52 +75,46 @@ fn run_kind<O: Outside>(
     outside: &mut O,
 ) -> M<Signal>
     requires rounds { progress.old.rounds ≤ max_rounds }
-    requires there { slice_get plan.now.elements number ≡ Some element.now }
+    requires there { slice_get level.plan.now.elements number ≡ Some element.now }
     ensures { Runs (O.account outside.old) progress.old
-        (kind_meaning (here_of plan.now at_failure) (meaning (here_of plan.now at_failure) depth) number element.now element.now.kind round)
+        (kind_meaning (here_of level.entry.plan.now level.entry.at_failure) (at_level level.entry) number element.now element.now.kind round)
         result progress.new (O.account outside.new) }
 {
-    let children = children_of(progress.alloc, plan, element)?;
+    let children = children_of(progress.alloc, level.plan, element)?;
     let children = children.as_slice();
     match &element.kind {
-        Kind::Simple => run_children(plan, at_failure, depth, children, round, progress, outside),
-        Kind::OnceOnly => run_once(plan, at_failure, depth, children, round, progress, outside),
+        Kind::Simple => run_children(level, children, round, progress, outside),
+        Kind::OnceOnly => run_once(level, children, round, progress, outside),
         Kind::If { all, condition } => run_if(
-            plan, at_failure, depth, *all, condition, children, round, progress, outside,
+            level, *all, condition, children, round, progress, outside,
         ),
         Kind::Loop { .. } | Kind::While { .. } | Kind::ForEach { .. } => run_looping(
-            plan, at_failure, depth, element, children, progress, outside,
+            level, element, children, progress, outside,
         ),
         Kind::Switch { value } => run_switch(
-            plan, at_failure, depth, element, value, children, round, progress, outside,
+            level, element, value, children, round, progress, outside,
         ),
-        Kind::Interleave => run_interleave(
-            plan, at_failure, depth, number, children, round, progress, outside,
-        ),
-        Kind::Random => run_random(plan, at_failure, depth, children, round, progress, outside),
-        Kind::RandomOrder => run_order(plan, at_failure, depth, children, round, progress, outside),
+        Kind::Interleave => run_interleave(level, number, children, round, progress, outside),
+        Kind::Random => run_random(level, children, round, progress, outside),
+        Kind::RandomOrder => run_order(level, children, round, progress, outside),
         Kind::Transaction => run_transaction(
-            plan,
-            at_failure,
-            depth,
-            plan.label_of(number),
+            level,
+            level.plan.label_of(number),
             children,
             round,
             progress,
             outside,
         ),
         Kind::CriticalSection { .. } => run_section(
-            plan,
-            at_failure,
-            depth,
-            plan.lock_of(number),
+            level,
+            level.plan.lock_of(number),
             children,
             round,
             progress,
             outside,
         ),
-        Kind::Script { .. } => progress.sample(plan, number, at_failure, outside),
-        Kind::Http { .. } => progress.sample(plan, number, at_failure, outside),
+        Kind::Script { .. } => progress.sample(level.plan, number, level.at_failure, outside),
+        Kind::Http { .. } => progress.sample(level.plan, number, level.at_failure, outside),
         _ => Ok(Signal::Normal),
     }
 }
@@ -123,9 +122,7 @@ fn run_kind<O: Outside>(
 // Runs the children in the first round alone.
 #[cycle(elements)]
 fn run_once<O: Outside>(
-    plan: &Plan,
-    at_failure: Signal,
-    depth: u8,
+    level: Level<'_>,
     children: &[u16],
     round: u32,
     progress: &mut Progress,
@@ -133,11 +130,11 @@ fn run_once<O: Outside>(
 ) -> M<Signal>
     requires { progress.old.rounds ≤ max_rounds }
     ensures { Runs (O.account outside.old) progress.old
-        (once_only (meaning (here_of plan.now at_failure) depth) round children.now)
+        (once_only (at_level level.entry) round children.now)
         result progress.new (O.account outside.new) }
 {
     if round == 0 {
-        run_children(plan, at_failure, depth, children, round, progress, outside)
+        run_children(level, children, round, progress, outside)
     } else {
         Ok(Signal::Normal)
     }
@@ -146,9 +143,7 @@ fn run_once<O: Outside>(
 // An If, which evaluates its condition before each child or once.
 #[cycle(elements)]
 fn run_if<O: Outside>(
-    plan: &Plan,
-    at_failure: Signal,
-    depth: u8,
+    level: Level<'_>,
     all: bool,
     condition: &Template,
     children: &[u16],
@@ -158,26 +153,20 @@ fn run_if<O: Outside>(
 ) -> M<Signal>
     requires { progress.old.rounds ≤ max_rounds }
     ensures { Runs (O.account outside.old) progress.old
-        (if_part all (meaning (here_of plan.now at_failure) depth) round children.now (text condition.now))
+        (if_part all (at_level level.entry) round children.now (text condition.now))
         result progress.new (O.account outside.new) }
 {
     if all {
-        run_if_each(
-            plan, at_failure, depth, condition, children, round, progress, outside,
-        )
+        run_if_each(level, condition, children, round, progress, outside)
     } else {
-        run_if_once(
-            plan, at_failure, depth, condition, children, round, progress, outside,
-        )
+        run_if_once(level, condition, children, round, progress, outside)
     }
 }
 
 // Runs the rounds of a Loop, a While or a ForEach over its children.
 #[cycle(elements)]
 fn run_looping<O: Outside>(
-    plan: &Plan,
-    at_failure: Signal,
-    depth: u8,
+    level: Level<'_>,
     element: &Element,
     children: &[u16],
     progress: &mut Progress,
@@ -185,9 +174,9 @@ fn run_looping<O: Outside>(
 ) -> M<Signal>
     requires rounds { progress.old.rounds ≤ max_rounds }
     requires looping { IsLooping element.now.kind }
-    requires children { children.now ≡ children_of plan.now.elements element.now }
+    requires children { children.now ≡ children_of level.plan.now.elements element.now }
     ensures { (number round : ℕ) → Runs (O.account outside.old) progress.old
-        (kind_meaning (here_of plan.now at_failure) (meaning (here_of plan.now at_failure) depth) number element.now element.now.kind round)
+        (kind_meaning (here_of level.entry.plan.now level.entry.at_failure) (at_level level.entry) number element.now element.now.kind round)
         result progress.new (O.account outside.new) }
 {
     let name = element.name.bytes();
@@ -195,15 +184,11 @@ fn run_looping<O: Outside>(
         Kind::Loop { loops } => match progress.text(loops, outside)? {
             Some(text) => {
                 let loops = loops_of(text.bytes());
-                run_loop(
-                    plan, at_failure, depth, name, loops, children, progress, outside,
-                )
+                run_loop(level, name, loops, children, progress, outside)
             }
             None => Ok(Signal::Stop(End::ValueLimit)),
         },
-        Kind::While { condition } => run_while(
-            plan, at_failure, depth, name, condition, children, progress, outside,
-        ),
+        Kind::While { condition } => run_while(level, name, condition, children, progress, outside),
         Kind::ForEach {
             end,
             input,
@@ -217,7 +202,7 @@ fn run_looping<O: Outside>(
                 end: *end,
             };
             run_each(
-                plan, at_failure, depth, name, input, span, output, children, progress, outside,
+                level, name, input, span, output, children, progress, outside,
             )
         }
         _ => unreachable!(),
@@ -227,9 +212,7 @@ fn run_looping<O: Outside>(
 /// Runs these elements one after another, up to the first signal that isn't Normal.
 #[cycle(elements)]
 pub fn run_children<O: Outside>(
-    plan: &Plan,
-    at_failure: Signal,
-    depth: u8,
+    level: Level<'_>,
     children: &[u16],
     round: u32,
     progress: &mut Progress,
@@ -237,11 +220,11 @@ pub fn run_children<O: Outside>(
 ) -> M<Signal>
     requires { progress.old.rounds ≤ max_rounds }
     ensures { Runs (O.account outside.old) progress.old
-        (in_order (meaning (here_of plan.now at_failure) depth) round children.now)
+        (in_order (at_level level.entry) round children.now)
         result progress.new (O.account outside.new) }
 {
     for child in children {
-        match run_element(plan, at_failure, depth, *child, round, progress, outside)? {
+        match run_element(level, *child, round, progress, outside)? {
             Signal::Normal => {}
             other => return Ok(other),
         }
@@ -252,9 +235,7 @@ pub fn run_children<O: Outside>(
 // An If that evaluates its condition once: its children are run where it is true.
 #[cycle(elements)]
 fn run_if_once<O: Outside>(
-    plan: &Plan,
-    at_failure: Signal,
-    depth: u8,
+    level: Level<'_>,
     condition: &Template,
     children: &[u16],
     round: u32,
@@ -263,14 +244,14 @@ fn run_if_once<O: Outside>(
 ) -> M<Signal>
     requires { progress.old.rounds ≤ max_rounds }
     ensures { Runs (O.account outside.old) progress.old
-        (if_once (meaning (here_of plan.now at_failure) depth) round children.now (text condition.now))
+        (if_once (at_level level.entry) round children.now (text condition.now))
         result progress.new (O.account outside.new) }
 {
     let Some(text) = progress.text(condition, outside)? else {
         return Ok(Signal::Stop(End::ValueLimit));
     };
     if is_true(text.bytes()) {
-        run_children(plan, at_failure, depth, children, round, progress, outside)
+        run_children(level, children, round, progress, outside)
     } else {
         Ok(Signal::Normal)
     }
@@ -279,9 +260,7 @@ fn run_if_once<O: Outside>(
 // An If that evaluates its condition before each child, up to the first time that it isn't true.
 #[cycle(elements)]
 fn run_if_each<O: Outside>(
-    plan: &Plan,
-    at_failure: Signal,
-    depth: u8,
+    level: Level<'_>,
     condition: &Template,
     children: &[u16],
     round: u32,
@@ -290,7 +269,7 @@ fn run_if_each<O: Outside>(
 ) -> M<Signal>
     requires { progress.old.rounds ≤ max_rounds }
     ensures { Runs (O.account outside.old) progress.old
-        (if_each (meaning (here_of plan.now at_failure) depth) round children.now (text condition.now))
+        (if_each (at_level level.entry) round children.now (text condition.now))
         result progress.new (O.account outside.new) }
 {
     for child in children {
@@ -300,7 +279,7 @@ fn run_if_each<O: Outside>(
         if !is_true(text.bytes()) {
             return Ok(Signal::Normal);
         }
-        match run_element(plan, at_failure, depth, *child, round, progress, outside)? {
+        match run_element(level, *child, round, progress, outside)? {
             Signal::Normal => {}
             other => return Ok(other),
         }
@@ -311,9 +290,7 @@ fn run_if_each<O: Outside>(
 // The child at the place that was chosen, where there is one.
 #[cycle(elements)]
 fn run_chosen<O: Outside>(
-    plan: &Plan,
-    at_failure: Signal,
-    depth: u8,
+    level: Level<'_>,
     children: &[u16],
     pick: Option<u16>,
     round: u32,
@@ -322,14 +299,14 @@ fn run_chosen<O: Outside>(
 ) -> M<Signal>
     requires rounds { progress.old.rounds ≤ max_rounds }
     ensures { Runs (O.account outside.old) progress.old
-        (chosen (meaning (here_of plan.now at_failure) depth) round children.now pick)
+        (chosen (at_level level.entry) round children.now pick)
         result progress.new (O.account outside.new) }
 {
     let Some(place) = pick else {
         return Ok(Signal::Normal);
     };
     match children.get(usize::from(place)) {
-        Some(child) => run_element(plan, at_failure, depth, *child, round, progress, outside),
+        Some(child) => run_element(level, *child, round, progress, outside),
         None => Ok(Signal::Normal),
     }
 }
@@ -337,9 +314,7 @@ fn run_chosen<O: Outside>(
 // An Interleave moves on, and then runs the child at the place that it was at.
 #[cycle(elements)]
 fn run_interleave<O: Outside>(
-    plan: &Plan,
-    at_failure: Signal,
-    depth: u8,
+    level: Level<'_>,
     number: u16,
     children: &[u16],
     round: u32,
@@ -349,31 +324,20 @@ fn run_interleave<O: Outside>(
     requires rounds { progress.old.rounds ≤ max_rounds }
     requires few { length children.now ≤ 65535 }
     ensures { Runs (O.account outside.old) progress.old
-        (interleave (meaning (here_of plan.now at_failure) depth) round number children.now)
+        (interleave (at_level level.entry) round number children.now)
         result progress.new (O.account outside.new) }
 {
     if children.is_empty() {
         return Ok(Signal::Normal);
     }
     let place = progress.move_on(number, children.len() as u16);
-    run_chosen(
-        plan,
-        at_failure,
-        depth,
-        children,
-        Some(place),
-        round,
-        progress,
-        outside,
-    )
+    run_chosen(level, children, Some(place), round, progress, outside)
 }
 
 // A Random runs the child that a word picks.
 #[cycle(elements)]
 fn run_random<O: Outside>(
-    plan: &Plan,
-    at_failure: Signal,
-    depth: u8,
+    level: Level<'_>,
     children: &[u16],
     round: u32,
     progress: &mut Progress,
@@ -382,21 +346,17 @@ fn run_random<O: Outside>(
     requires rounds { progress.old.rounds ≤ max_rounds }
     requires few { length children.now ≤ 65535 }
     ensures { Runs (O.account outside.old) progress.old
-        (random (meaning (here_of plan.now at_failure) depth) round children.now)
+        (random (at_level level.entry) round children.now)
         result progress.new (O.account outside.new) }
 {
     let chosen = random_place(children.len() as u16, &mut progress.user.fns);
-    run_chosen(
-        plan, at_failure, depth, children, chosen, round, progress, outside,
-    )
+    run_chosen(level, children, chosen, round, progress, outside)
 }
 
 // A Random Order runs its children in an order that words make.
 #[cycle(elements)]
 fn run_order<O: Outside>(
-    plan: &Plan,
-    at_failure: Signal,
-    depth: u8,
+    level: Level<'_>,
     children: &[u16],
     round: u32,
     progress: &mut Progress,
@@ -404,27 +364,17 @@ fn run_order<O: Outside>(
 ) -> M<Signal>
     requires rounds { progress.old.rounds ≤ max_rounds }
     ensures { Runs (O.account outside.old) progress.old
-        (random_order (meaning (here_of plan.now at_failure) depth) round children.now)
+        (random_order (at_level level.entry) round children.now)
         result progress.new (O.account outside.new) }
 {
     let order = shuffled(progress.alloc, children, &mut progress.user.fns)?;
-    run_children(
-        plan,
-        at_failure,
-        depth,
-        order.as_slice(),
-        round,
-        progress,
-        outside,
-    )
+    run_children(level, order.as_slice(), round, progress, outside)
 }
 
 // A Switch runs the child that its text picks.
 #[cycle(elements)]
 fn run_switch<O: Outside>(
-    plan: &Plan,
-    at_failure: Signal,
-    depth: u8,
+    level: Level<'_>,
     element: &Element,
     value: &Template,
     children: &[u16],
@@ -434,24 +384,20 @@ fn run_switch<O: Outside>(
 ) -> M<Signal>
     requires rounds { progress.old.rounds ≤ max_rounds }
     ensures { Runs (O.account outside.old) progress.old
-        (switch (meaning (here_of plan.now at_failure) depth) round (run_names plan.now.elements element.now) children.now (text value.now))
+        (switch (at_level level.entry) round (run_names level.entry.plan.now.elements element.now) children.now (text value.now))
         result progress.new (O.account outside.new) }
 {
     let Some(text) = progress.text(value, outside)? else {
         return Ok(Signal::Stop(End::ValueLimit));
     };
-    let chosen = picks(plan, element, text.bytes());
-    run_chosen(
-        plan, at_failure, depth, children, chosen, round, progress, outside,
-    )
+    let chosen = picks(level.plan, element, text.bytes());
+    run_chosen(level, children, chosen, round, progress, outside)
 }
 
 // A Transaction runs its children, and then gives its sample. What it counts is counted by the one around it too.
 #[cycle(elements)]
 fn run_transaction<O: Outside>(
-    plan: &Plan,
-    at_failure: Signal,
-    depth: u8,
+    level: Level<'_>,
     label: u16,
     children: &[u16],
     round: u32,
@@ -460,12 +406,12 @@ fn run_transaction<O: Outside>(
 ) -> M<Signal>
     requires { progress.old.rounds ≤ max_rounds }
     ensures { Runs (O.account outside.old) progress.old
-        (transaction label (in_order (meaning (here_of plan.now at_failure) depth) round children.now))
+        (transaction label (in_order (at_level level.entry) round children.now))
         result progress.new (O.account outside.new) }
 {
     let around = progress.tally;
     progress.tally = Tally::none();
-    let signal = run_children(plan, at_failure, depth, children, round, progress, outside)?;
+    let signal = run_children(level, children, round, progress, outside)?;
     let inside = progress.tally;
     progress.tally = joined(around, inside);
     give_sum(progress, label, inside, signal)
@@ -474,9 +420,7 @@ fn run_transaction<O: Outside>(
 // A critical section uses a unit and is entered; its children run, and it is left, whatever they ended with.
 #[cycle(elements)]
 fn run_section<O: Outside>(
-    plan: &Plan,
-    at_failure: Signal,
-    depth: u8,
+    level: Level<'_>,
     lock: u16,
     children: &[u16],
     round: u32,
@@ -485,7 +429,7 @@ fn run_section<O: Outside>(
 ) -> M<Signal>
     requires { progress.old.rounds ≤ max_rounds }
     ensures { Runs (O.account outside.old) progress.old
-        (section lock (in_order (meaning (here_of plan.now at_failure) depth) round children.now))
+        (section lock (in_order (at_level level.entry) round children.now))
         result progress.new (O.account outside.new) }
 {
     if progress.units == 0 {
@@ -493,7 +437,7 @@ fn run_section<O: Outside>(
     }
     progress.units -= 1;
     progress.items.push(Item::Entered(lock))?;
-    let signal = run_children(plan, at_failure, depth, children, round, progress, outside)?;
+    let signal = run_children(level, children, round, progress, outside)?;
     progress.items.push(Item::Left(lock))?;
     Ok(signal)
 }
@@ -501,9 +445,7 @@ fn run_section<O: Outside>(
 // The rounds of a Loop.
 #[cycle(elements)]
 fn run_loop<O: Outside>(
-    plan: &Plan,
-    at_failure: Signal,
-    depth: u8,
+    level: Level<'_>,
     name: &[u8],
     loops: Loops,
     children: &[u16],
@@ -512,7 +454,7 @@ fn run_loop<O: Outside>(
 ) -> M<Signal>
     requires { progress.old.rounds ≤ max_rounds }
     ensures { Runs (O.account outside.old) progress.old
-        (rounds max_rounds (loop_turns name.now loops) (λ i. in_order (meaning (here_of plan.now at_failure) depth) i children.now) 0)
+        (rounds max_rounds (loop_turns name.now loops) (λ i. in_order (at_level level.entry) i children.now) 0)
         result progress.new (O.account outside.new) }
 {
     let mut round = 0;
@@ -521,7 +463,7 @@ fn run_loop<O: Outside>(
             Signal::Normal => {}
             other => return Ok(other),
         }
-        match run_children(plan, at_failure, depth, children, round, progress, outside)? {
+        match run_children(level, children, round, progress, outside)? {
             Signal::Normal => {}
             other => return Ok(other),
         }
@@ -533,9 +475,7 @@ fn run_loop<O: Outside>(
 // The rounds of a While.
 #[cycle(elements)]
 fn run_while<O: Outside>(
-    plan: &Plan,
-    at_failure: Signal,
-    depth: u8,
+    level: Level<'_>,
     name: &[u8],
     condition: &Template,
     children: &[u16],
@@ -544,7 +484,7 @@ fn run_while<O: Outside>(
 ) -> M<Signal>
     requires { progress.old.rounds ≤ max_rounds }
     ensures { Runs (O.account outside.old) progress.old
-        (rounds max_rounds (while_turns name.now condition.now) (λ i. in_order (meaning (here_of plan.now at_failure) depth) i children.now) 0)
+        (rounds max_rounds (while_turns name.now condition.now) (λ i. in_order (at_level level.entry) i children.now) 0)
         result progress.new (O.account outside.new) }
 {
     let mut round = 0;
@@ -559,7 +499,7 @@ fn run_while<O: Outside>(
             Signal::Normal => {}
             other => return Ok(other),
         }
-        match run_children(plan, at_failure, depth, children, round, progress, outside)? {
+        match run_children(level, children, round, progress, outside)? {
             Signal::Normal => {}
             other => return Ok(other),
         }
@@ -570,9 +510,7 @@ fn run_while<O: Outside>(
 // The rounds of a ForEach.
 #[cycle(elements)]
 fn run_each<O: Outside>(
-    plan: &Plan,
-    at_failure: Signal,
-    depth: u8,
+    level: Level<'_>,
     name: &[u8],
     input: &Text,
     span: Span,
@@ -585,7 +523,7 @@ fn run_each<O: Outside>(
     ensures { Runs (O.account outside.old) progress.old
         (rounds max_rounds
         (each_turns name.now (record { input = input.now; separator = span.separator; start = span.start; end = span.end }) output.now)
-        (λ i. in_order (meaning (here_of plan.now at_failure) depth) i children.now) 0)
+        (λ i. in_order (at_level level.entry) i children.now) 0)
         result progress.new (O.account outside.new) }
 {
     let mut round = 0;
@@ -600,7 +538,7 @@ fn run_each<O: Outside>(
             Signal::Normal => {}
             other => return Ok(other),
         }
-        match run_children(plan, at_failure, depth, children, round, progress, outside)? {
+        match run_children(level, children, round, progress, outside)? {
             Signal::Normal => {}
             other => return Ok(other),
         }

@@ -5,11 +5,12 @@ ghost use Rattle.jm_meaning.specs.Beginning.{max_rounds};
 ghost use Rattle.config_elements.specs.RoundStart.{feeds_of};
 ghost use Rattle.jm_meaning.specs.Rounds.{rounds, group_turns, round_of_group, round_start};
 ghost use Rattle.jm_meaning.specs.Children.{in_order};
-ghost use Rattle.jm_meaning.specs.Meaning.{meaning, group_part, here_at, thread_part};
-ghost use Rattle.plain_run.specs.Plays.{Runs, here_of, caught_signal};
+ghost use Rattle.jm_meaning.specs.Meaning.{group_part, here_at, thread_part};
+ghost use Rattle.plain_run.specs.Levels.{at_level};
+ghost use Rattle.plain_run.specs.Plays.{Runs, caught_signal};
 
 use crate::children::children_of;
-use crate::elements::run_children;
+use crate::elements::{Level, run_children};
 use crate::progress::Progress;
 use element_tree::{Kind, Loops, Plan};
 use jm_base::{M, Outside};
@@ -38,7 +39,7 @@ pub fn run_thread<O: Outside>(
     }
 }
 
-// Runs the rounds of the group at this element.
+// Runs the rounds of the group at this element, below which elements nest at most 30 deep.
 fn run_group<O: Outside>(
     plan: &Plan,
     group: u16,
@@ -62,41 +63,37 @@ fn run_group<O: Outside>(
         return Ok(Signal::Normal);
     };
     let children = children_of(progress.alloc, plan, element)?;
-    let signal = run_rounds(
+    let level = Level {
         plan,
-        group,
-        signal_of(*on_error),
-        *loops,
-        children.as_slice(),
-        progress,
-        outside,
-    )?;
+        at_failure: signal_of(*on_error),
+        depth: 30,
+    };
+    let signal = run_rounds(level, group, *loops, children.as_slice(), progress, outside)?;
     Ok(signal)
 }
 
-// The rounds of the group at this element. Below it elements nest at most 30 deep.
+// The rounds of the group at this element, over its children, which are of this level.
 fn run_rounds<O: Outside>(
-    plan: &Plan,
+    level: Level<'_>,
     group: u16,
-    at_failure: Signal,
     loops: Loops,
     children: &[u16],
     progress: &mut Progress,
     outside: &mut O,
 ) -> M<Signal>
     requires rounds { progress.old.rounds ≤ max_rounds }
-    requires feeds { progress.old.config.feeds ≡ feeds_of plan.now.elements group }
+    requires feeds { progress.old.config.feeds ≡ feeds_of level.plan.now.elements group }
     ensures { Runs (O.account outside.old) progress.old
-        (rounds max_rounds (group_turns loops (round_start plan.now.elements group)) (λ i s. round_of_group (in_order (meaning (here_of plan.now at_failure) 30) i children.now s)) 0)
+        (rounds max_rounds (group_turns loops (round_start level.entry.plan.now.elements group)) (λ i s. round_of_group (in_order (at_level level.entry) i children.now s)) 0)
         result progress.new (O.account outside.new) }
 {
     let mut round = 0;
     'rounds: while round_begins(loops, round) {
-        match progress.open_group_round(plan, outside)? {
+        match progress.open_group_round(level.plan, outside)? {
             Signal::Normal => {}
             other => return Ok(other),
         }
-        match caught(run_children(plan, at_failure, 30, children, round, progress, outside)?) {
+        match caught(run_children(level, children, round, progress, outside)?) {
             Signal::Normal => {}
             other => return Ok(other),
         }

@@ -11,6 +11,7 @@ use Rattle.jm_meaning.specs.Rounds.{Turns, loop_turns, while_goes, while_turns, 
 use Rattle.jm_meaning.specs.Children.{Below, in_order}
 use Rattle.jm_meaning.specs.Meaning.{Here, meaning, kind_meaning}
 use Rattle.plain_run.specs.Plays.{state_in, here_of}
+use Rattle.plain_run.specs.Levels.{at_level}
 use Rattle.plain_run.proofs.Ways.{way-start, way-then, way-stop}
 use Rattle.plain_run.proofs.UnderWay.{at-start, in-bind, on-way-in, on-way-tried, runs-cut, runs-as}
 use Rattle.plain_run.proofs.RoundWays.{rounds-start, cut-between, cut-deciding, no-round, round-past, cut-before, cut-round, not-opened, last-round, round-done}
@@ -27,7 +28,7 @@ run_children-loop-child-init g t c = way-start _ _ _
 
 pub run_children-loop-child-preserved : goal.run_children-loop-child-preserved
 run_children-loop-child-preserved g t c =
-    let below : Below = meaning (here_of c.args.plan.now c.args.at_failure) c.args.depth in
+    let below : Below = at_level c.args.level in
     let i : ℕ = c.loop-child.child-index in
     let cs : List ℕ = c.args.children.now in
     let within : i < length cs = omega arith in
@@ -36,7 +37,7 @@ run_children-loop-child-preserved g t c =
 
 pub run_children-returns-in_err-other : goal.run_children-returns-in_err-other
 run_children-returns-in_err-other g t c =
-    let below : Below = meaning (here_of c.args.plan.now c.args.at_failure) c.args.depth in
+    let below : Below = at_level c.args.level in
     let i : ℕ = c.loop-child.child-index in
     let cs : List ℕ = c.args.children.now in
     let within : i < length cs = omega arith in
@@ -46,7 +47,7 @@ run_children-returns-in_err-other g t c =
 
 pub run_children-returns-in_default : goal.run_children-returns-in_default
 run_children-returns-in_default g t c =
-    let below : Below = meaning (here_of c.args.plan.now c.args.at_failure) c.args.depth in
+    let below : Below = at_level c.args.level in
     let i : ℕ = c.loop-child.child-index in
     let cs : List ℕ = c.args.children.now in
     let within : i < length cs = omega arith in
@@ -55,26 +56,26 @@ run_children-returns-in_default g t c =
 
 pub run_children-returns : goal.run_children-returns
 run_children-returns g t c =
-    children-over (meaning (here_of c.args.plan.now c.args.at_failure) c.args.depth) c.args.round c.args.children.now c.loop-child.child-index c.loop-child.invariant (omega (arith, c.loop-child-test.false))
+    children-over (at_level c.args.level) c.args.round c.args.children.now c.loop-child.child-index c.loop-child.invariant (omega (arith, c.loop-child-test.false))
 
-pub run_element-returns-then-depth-eq0 : goal.run_element-returns-then-depth-eq0
-run_element-returns-then-depth-eq0 g t c = plays-nothing _ _ _ (meaning-flat (here_of c.args.plan.now c.args.at_failure) c.args.depth c.args.number c.args.round (state_in c.args.progress.now) c.if-depth-eq0.true)
+pub run_element-returns-then-level-eq0 : goal.run_element-returns-then-level-eq0
+run_element-returns-then-level-eq0 g t c = plays-nothing _ _ _ (meaning-flat (here_of c.args.level.plan.now c.args.level.at_failure) c.args.level.depth c.args.number c.args.round (state_in c.args.progress.now) c.if-level-eq0.true)
 
 pub run_element-returns-in-None : goal.run_element-returns-in-None
-run_element-returns-in-None g t c = plays-nothing _ _ _ (meaning-none (here_of c.args.plan.now c.args.at_failure) c.args.depth c.args.number c.args.round (state_in c.args.progress.now) (sym c.in-None.ensures))
+run_element-returns-in-None g t c = plays-nothing _ _ _ (meaning-none (here_of c.args.level.plan.now c.args.level.at_failure) c.args.level.depth c.args.number c.args.round (state_in c.args.progress.now) (sym c.in-None.ensures))
 
 pub run_element-returns-in-Some : goal.run_element-returns-in-Some
 run_element-returns-in-Some g t c =
-    let here : Here = here_of c.args.plan.now c.args.at_failure in
-    runs-as _ _ _ _ _ (meaning here c.args.depth c.args.number c.args.round) (kind_meaning here (meaning here (c.args.depth - 1)) c.args.number c.in-Some.element.now c.in-Some.element.now.kind c.args.round) c.run_kind.ensures
-    (meaning-at here c.args.depth c.args.number c.args.round (state_in c.args.progress.now) c.in-Some.element.now c.if-depth-eq0.false (sym c.in-Some.ensures))
+    let here : Here = here_of c.args.level.plan.now c.args.level.at_failure in
+    runs-as _ _ _ _ _ (meaning here c.args.level.depth c.args.number c.args.round) (kind_meaning here (meaning here (c.args.level.depth - 1)) c.args.number c.in-Some.element.now c.in-Some.element.now.kind c.args.round) c.run_kind.ensures
+    (meaning-at here c.args.level.depth c.args.number c.args.round (state_in c.args.progress.now) c.in-Some.element.now c.if-level-eq0.false (sym c.in-Some.ensures))
 
 pub run_if_each-loop-child-init : goal.run_if_each-loop-child-init
 run_if_each-loop-child-init g t c = way-start _ _ _
 
 pub run_if_each-returns-in_err-text : goal.run_if_each-returns-in_err-text
 run_if_each-returns-in_err-text g t c =
-    let below : Below = meaning (here_of c.args.plan.now c.args.at_failure) c.args.depth in
+    let below : Below = at_level c.args.level in
     let i : ℕ = c.loop-child.child-index in
     let cs : List ℕ = c.args.children.now in
     let within : i < length cs = omega arith in
@@ -84,7 +85,7 @@ run_if_each-returns-in_err-text g t c =
 
 pub run_if_each-returns-in_err-other : goal.run_if_each-returns-in_err-other
 run_if_each-returns-in_err-other g t c =
-    let below : Below = meaning (here_of c.args.plan.now c.args.at_failure) c.args.depth in
+    let below : Below = at_level c.args.level in
     let i : ℕ = c.loop-child.child-index in
     let cs : List ℕ = c.args.children.now in
     let within : i < length cs = omega arith in
@@ -94,7 +95,7 @@ run_if_each-returns-in_err-other g t c =
 
 pub run_if_each-returns-in_default : goal.run_if_each-returns-in_default
 run_if_each-returns-in_default g t c =
-    let below : Below = meaning (here_of c.args.plan.now c.args.at_failure) c.args.depth in
+    let below : Below = at_level c.args.level in
     let i : ℕ = c.loop-child.child-index in
     let cs : List ℕ = c.args.children.now in
     let within : i < length cs = omega arith in
@@ -103,7 +104,7 @@ run_if_each-returns-in_default g t c =
 
 pub run_if_each-returns-then-not-is_true : goal.run_if_each-returns-then-not-is_true
 run_if_each-returns-then-not-is_true g t c =
-    let below : Below = meaning (here_of c.args.plan.now c.args.at_failure) c.args.depth in
+    let below : Below = at_level c.args.level in
     let i : ℕ = c.loop-child.child-index in
     let cs : List ℕ = c.args.children.now in
     let within : i < length cs = omega arith in
@@ -112,7 +113,7 @@ run_if_each-returns-then-not-is_true g t c =
 
 pub run_if_each-returns-in_default-2 : goal.run_if_each-returns-in_default-2
 run_if_each-returns-in_default-2 g t c =
-    let below : Below = meaning (here_of c.args.plan.now c.args.at_failure) c.args.depth in
+    let below : Below = at_level c.args.level in
     let i : ℕ = c.loop-child.child-index in
     let cs : List ℕ = c.args.children.now in
     let within : i < length cs = omega arith in
@@ -121,7 +122,7 @@ run_if_each-returns-in_default-2 g t c =
 
 pub run_if_each-loop-child-preserved : goal.run_if_each-loop-child-preserved
 run_if_each-loop-child-preserved g t c =
-    let below : Below = meaning (here_of c.args.plan.now c.args.at_failure) c.args.depth in
+    let below : Below = at_level c.args.level in
     let i : ℕ = c.loop-child.child-index in
     let cs : List ℕ = c.args.children.now in
     let within : i < length cs = omega arith in
@@ -130,28 +131,28 @@ run_if_each-loop-child-preserved g t c =
 
 pub run_if_each-returns : goal.run_if_each-returns
 run_if_each-returns g t c =
-    conditions-over (meaning (here_of c.args.plan.now c.args.at_failure) c.args.depth) c.args.round c.args.children.now (text c.args.condition.now) c.loop-child.child-index c.loop-child.invariant
+    conditions-over (at_level c.args.level) c.args.round c.args.children.now (text c.args.condition.now) c.loop-child.child-index c.loop-child.invariant
     (omega (arith, c.loop-child-test.false))
 
 pub run_if_once-returns-in_err-text : goal.run_if_once-returns-in_err-text
 run_if_once-returns-in_err-text g t c = runs-cut _ _ _ _ c.from_residual.result c.from_residual.ensures.1 (in-bind _ c.in_err-text.ensures.cut)
 
 pub run_if_once-returns-in_default : goal.run_if_once-returns-in_default
-run_if_once-returns-in_default g t c = once-past (g.O.Outside.account c.args.outside.now) (g.O.Outside.account c.text.new.outside) c.args.progress.now c.text.new.self (meaning (here_of c.args.plan.now c.args.at_failure) c.args.depth) c.args.round (text c.args.condition.now) c.args.children.now c.in_ok-text.ensures.same (rw (is-none c.in_ok-text.field-0 c.in_default.not-Some) at c.in_ok-text.ensures.came)
+run_if_once-returns-in_default g t c = once-past (g.O.Outside.account c.args.outside.now) (g.O.Outside.account c.text.new.outside) c.args.progress.now c.text.new.self (at_level c.args.level) c.args.round (text c.args.condition.now) c.args.children.now c.in_ok-text.ensures.same (rw (is-none c.in_ok-text.field-0 c.in_default.not-Some) at c.in_ok-text.ensures.came)
 
 pub run_if_once-returns : goal.run_if_once-returns
-run_if_once-returns g t c = once-false (g.O.Outside.account c.args.outside.now) (g.O.Outside.account c.text.new.outside) c.args.progress.now c.text.new.self (meaning (here_of c.args.plan.now c.args.at_failure) c.args.depth) c.args.round (text c.args.condition.now) c.args.children.now c.in_ok-text.ensures.same c.in-Some.text (rw c.in-Some.is at c.in_ok-text.ensures.came) (ap is_true (sym c.bytes.ensures) ∙ sym c.is_true.ensures ∙ c.if-is_true.false)
+run_if_once-returns g t c = once-false (g.O.Outside.account c.args.outside.now) (g.O.Outside.account c.text.new.outside) c.args.progress.now c.text.new.self (at_level c.args.level) c.args.round (text c.args.condition.now) c.args.children.now c.in_ok-text.ensures.same c.in-Some.text (rw c.in-Some.is at c.in_ok-text.ensures.came) (ap is_true (sym c.bytes.ensures) ∙ sym c.is_true.ensures ∙ c.if-is_true.false)
 
 pub run_if_once-returns-then-is_true : goal.run_if_once-returns-then-is_true
 run_if_once-returns-then-is_true g t c =
-    once-true (g.O.Outside.account c.args.outside.now) (g.O.Outside.account c.text.new.outside) c.args.progress.now c.text.new.self (meaning (here_of c.args.plan.now c.args.at_failure) c.args.depth) c.args.round (text c.args.condition.now) c.args.children.now c.in_ok-text.ensures.same c.in-Some.text (rw c.in-Some.is at c.in_ok-text.ensures.came) (g.O.Outside.account c.run_children.new.outside) c.run_children.new.progress c.run_children.result (ap is_true (sym c.bytes.ensures) ∙ sym c.is_true.ensures ∙ c.if-is_true.true) c.run_children.ensures
+    once-true (g.O.Outside.account c.args.outside.now) (g.O.Outside.account c.text.new.outside) c.args.progress.now c.text.new.self (at_level c.args.level) c.args.round (text c.args.condition.now) c.args.children.now c.in_ok-text.ensures.same c.in-Some.text (rw c.in-Some.is at c.in_ok-text.ensures.came) (g.O.Outside.account c.run_children.new.outside) c.run_children.new.progress c.run_children.result (ap is_true (sym c.bytes.ensures) ∙ sym c.is_true.ensures ∙ c.if-is_true.true) c.run_children.ensures
 
 pub run_loop-rounds-init : goal.run_loop-rounds-init
-run_loop-rounds-init g t c = rounds-start _ c.args.progress.now (loop_turns c.args.name.now c.args.loops) (λ i. in_order (meaning (here_of c.args.plan.now c.args.at_failure) c.args.depth) i c.args.children.now) c.requires
+run_loop-rounds-init g t c = rounds-start _ c.args.progress.now (loop_turns c.args.name.now c.args.loops) (λ i. in_order (at_level c.args.level) i c.args.children.now) c.requires
 
 pub run_loop-returns : goal.run_loop-returns
 run_loop-returns g t c =
-    let below : Below = meaning (here_of c.args.plan.now c.args.at_failure) c.args.depth in
+    let below : Below = at_level c.args.level in
     let body : ℕ → Part = λ i. in_order below i c.args.children.now in
     let turns : Turns (Unit {0}) = loop_turns c.args.name.now c.args.loops in
     no-round (g.O.Outside.account c.args.outside.now) (g.O.Outside.account c.rounds.outside) (g.O.Outside.account c.rounds.outside) c.args.progress.now c.rounds.progress c.rounds.progress turns body c.rounds.round c.rounds.invariant refl
@@ -159,7 +160,7 @@ run_loop-returns g t c =
 
 pub run_loop-returns-in_default : goal.run_loop-returns-in_default
 run_loop-returns-in_default g t c =
-    let below : Below = meaning (here_of c.args.plan.now c.args.at_failure) c.args.depth in
+    let below : Below = at_level c.args.level in
     let body : ℕ → Part = λ i. in_order below i c.args.children.now in
     let turns : Turns (Unit {0}) = loop_turns c.args.name.now c.args.loops in
     not-opened (g.O.Outside.account c.args.outside.now) (g.O.Outside.account c.rounds.outside) (g.O.Outside.account c.rounds.outside) c.args.progress.now c.rounds.progress c.rounds.progress turns body c.rounds.round c.rounds.invariant refl
@@ -167,7 +168,7 @@ run_loop-returns-in_default g t c =
 
 pub run_loop-returns-in_default-2 : goal.run_loop-returns-in_default-2
 run_loop-returns-in_default-2 g t c =
-    let below : Below = meaning (here_of c.args.plan.now c.args.at_failure) c.args.depth in
+    let below : Below = at_level c.args.level in
     let body : ℕ → Part = λ i. in_order below i c.args.children.now in
     let turns : Turns (Unit {0}) = loop_turns c.args.name.now c.args.loops in
     last-round (g.O.Outside.account c.args.outside.now) (g.O.Outside.account c.rounds.outside) (g.O.Outside.account c.rounds.outside) c.args.progress.now c.rounds.progress c.rounds.progress turns body c.rounds.round c.rounds.invariant refl
@@ -176,7 +177,7 @@ run_loop-returns-in_default-2 g t c =
 
 pub run_loop-returns-in_err-other : goal.run_loop-returns-in_err-other
 run_loop-returns-in_err-other g t c =
-    let below : Below = meaning (here_of c.args.plan.now c.args.at_failure) c.args.depth in
+    let below : Below = at_level c.args.level in
     let body : ℕ → Part = λ i. in_order below i c.args.children.now in
     let turns : Turns (Unit {0}) = loop_turns c.args.name.now c.args.loops in
     runs-cut _ _ _ _ c.from_residual.result c.from_residual.ensures.1
@@ -185,7 +186,7 @@ run_loop-returns-in_err-other g t c =
 
 pub run_loop-returns-in_err-other-2 : goal.run_loop-returns-in_err-other-2
 run_loop-returns-in_err-other-2 g t c =
-    let below : Below = meaning (here_of c.args.plan.now c.args.at_failure) c.args.depth in
+    let below : Below = at_level c.args.level in
     let body : ℕ → Part = λ i. in_order below i c.args.children.now in
     let turns : Turns (Unit {0}) = loop_turns c.args.name.now c.args.loops in
     runs-cut _ _ _ _ c.from_residual-in_err-other-2.result c.from_residual-in_err-other-2.ensures.1
@@ -195,7 +196,7 @@ run_loop-returns-in_err-other-2 g t c =
 
 pub run_loop-rounds-preserved : goal.run_loop-rounds-preserved
 run_loop-rounds-preserved g t c =
-    let below : Below = meaning (here_of c.args.plan.now c.args.at_failure) c.args.depth in
+    let below : Below = at_level c.args.level in
     let body : ℕ → Part = λ i. in_order below i c.args.children.now in
     let turns : Turns (Unit {0}) = loop_turns c.args.name.now c.args.loops in
     round-done (g.O.Outside.account c.args.outside.now) (g.O.Outside.account c.rounds.outside) (g.O.Outside.account c.rounds.outside) c.args.progress.now c.rounds.progress c.rounds.progress turns body c.rounds.round c.rounds.invariant refl
@@ -203,11 +204,11 @@ run_loop-rounds-preserved g t c =
     (c.in_ok-other.ensures.plays _) c.in-Normal.is c.in_ok-other-2.ensures (c.in_ok-other.ensures.taken c.in-Normal.is) c.in-Normal-2.is
 
 pub run_while-rounds-init : goal.run_while-rounds-init
-run_while-rounds-init g t c = rounds-start _ c.args.progress.now (while_turns c.args.name.now c.args.condition.now) (λ i. in_order (meaning (here_of c.args.plan.now c.args.at_failure) c.args.depth) i c.args.children.now) c.requires
+run_while-rounds-init g t c = rounds-start _ c.args.progress.now (while_turns c.args.name.now c.args.condition.now) (λ i. in_order (at_level c.args.level) i c.args.children.now) c.requires
 
 pub run_while-returns-in_default : goal.run_while-returns-in_default
 run_while-returns-in_default g t c =
-    let below : Below = meaning (here_of c.args.plan.now c.args.at_failure) c.args.depth in
+    let below : Below = at_level c.args.level in
     let body : ℕ → Part = λ i. in_order below i c.args.children.now in
     let turns : Turns (Unit {0}) = while_turns c.args.name.now c.args.condition.now in
     round-past (g.O.Outside.account c.args.outside.now) (g.O.Outside.account c.rounds.outside) (g.O.Outside.account c.text.new.outside) c.args.progress.now c.rounds.progress c.text.new.self turns body c.rounds.round c.rounds.invariant c.in_ok-text.ensures.same
@@ -215,7 +216,7 @@ run_while-returns-in_default g t c =
 
 pub run_while-returns-then-not-goes_on : goal.run_while-returns-then-not-goes_on
 run_while-returns-then-not-goes_on g t c =
-    let below : Below = meaning (here_of c.args.plan.now c.args.at_failure) c.args.depth in
+    let below : Below = at_level c.args.level in
     let body : ℕ → Part = λ i. in_order below i c.args.children.now in
     let turns : Turns (Unit {0}) = while_turns c.args.name.now c.args.condition.now in
     no-round (g.O.Outside.account c.args.outside.now) (g.O.Outside.account c.rounds.outside) (g.O.Outside.account c.text.new.outside) c.args.progress.now c.rounds.progress c.text.new.self turns body c.rounds.round c.rounds.invariant c.in_ok-text.ensures.same
@@ -223,7 +224,7 @@ run_while-returns-then-not-goes_on g t c =
 
 pub run_while-returns-in_default-2 : goal.run_while-returns-in_default-2
 run_while-returns-in_default-2 g t c =
-    let below : Below = meaning (here_of c.args.plan.now c.args.at_failure) c.args.depth in
+    let below : Below = at_level c.args.level in
     let body : ℕ → Part = λ i. in_order below i c.args.children.now in
     let turns : Turns (Unit {0}) = while_turns c.args.name.now c.args.condition.now in
     not-opened (g.O.Outside.account c.args.outside.now) (g.O.Outside.account c.rounds.outside) (g.O.Outside.account c.text.new.outside) c.args.progress.now c.rounds.progress c.text.new.self turns body c.rounds.round c.rounds.invariant c.in_ok-text.ensures.same
@@ -231,7 +232,7 @@ run_while-returns-in_default-2 g t c =
 
 pub run_while-returns-in_default-3 : goal.run_while-returns-in_default-3
 run_while-returns-in_default-3 g t c =
-    let below : Below = meaning (here_of c.args.plan.now c.args.at_failure) c.args.depth in
+    let below : Below = at_level c.args.level in
     let body : ℕ → Part = λ i. in_order below i c.args.children.now in
     let turns : Turns (Unit {0}) = while_turns c.args.name.now c.args.condition.now in
     last-round (g.O.Outside.account c.args.outside.now) (g.O.Outside.account c.rounds.outside) (g.O.Outside.account c.text.new.outside) c.args.progress.now c.rounds.progress c.text.new.self turns body c.rounds.round c.rounds.invariant c.in_ok-text.ensures.same
@@ -240,14 +241,14 @@ run_while-returns-in_default-3 g t c =
 
 pub run_while-returns-in_err-text : goal.run_while-returns-in_err-text
 run_while-returns-in_err-text g t c =
-    let below : Below = meaning (here_of c.args.plan.now c.args.at_failure) c.args.depth in
+    let below : Below = at_level c.args.level in
     let body : ℕ → Part = λ i. in_order below i c.args.children.now in
     let turns : Turns (Unit {0}) = while_turns c.args.name.now c.args.condition.now in
     runs-cut _ _ _ _ c.from_residual.result c.from_residual.ensures.1 (cut-deciding turns body c.rounds.round c.rounds.invariant (in-bind (λ t. over (while_goes c.rounds.round t)) c.in_err-text.ensures.cut))
 
 pub run_while-returns-in_err-other : goal.run_while-returns-in_err-other
 run_while-returns-in_err-other g t c =
-    let below : Below = meaning (here_of c.args.plan.now c.args.at_failure) c.args.depth in
+    let below : Below = at_level c.args.level in
     let body : ℕ → Part = λ i. in_order below i c.args.children.now in
     let turns : Turns (Unit {0}) = while_turns c.args.name.now c.args.condition.now in
     runs-cut _ _ _ _ c.from_residual-in_err-other.result c.from_residual-in_err-other.ensures.1
@@ -256,7 +257,7 @@ run_while-returns-in_err-other g t c =
 
 pub run_while-returns-in_err-other-2 : goal.run_while-returns-in_err-other-2
 run_while-returns-in_err-other-2 g t c =
-    let below : Below = meaning (here_of c.args.plan.now c.args.at_failure) c.args.depth in
+    let below : Below = at_level c.args.level in
     let body : ℕ → Part = λ i. in_order below i c.args.children.now in
     let turns : Turns (Unit {0}) = while_turns c.args.name.now c.args.condition.now in
     runs-cut _ _ _ _ c.from_residual-in_err-other-2.result c.from_residual-in_err-other-2.ensures.1
@@ -266,7 +267,7 @@ run_while-returns-in_err-other-2 g t c =
 
 pub run_while-rounds-preserved : goal.run_while-rounds-preserved
 run_while-rounds-preserved g t c =
-    let below : Below = meaning (here_of c.args.plan.now c.args.at_failure) c.args.depth in
+    let below : Below = at_level c.args.level in
     let body : ℕ → Part = λ i. in_order below i c.args.children.now in
     let turns : Turns (Unit {0}) = while_turns c.args.name.now c.args.condition.now in
     round-done (g.O.Outside.account c.args.outside.now) (g.O.Outside.account c.rounds.outside) (g.O.Outside.account c.text.new.outside) c.args.progress.now c.rounds.progress c.text.new.self turns body c.rounds.round c.rounds.invariant c.in_ok-text.ensures.same
@@ -276,11 +277,11 @@ run_while-rounds-preserved g t c =
 pub run_each-rounds-init : goal.run_each-rounds-init
 run_each-rounds-init g t c =
     let row : Row = record { input = c.args.input.now; separator = c.args.span.separator; start = c.args.span.start; end = c.args.span.end } in
-    rounds-start _ c.args.progress.now (each_turns c.args.name.now row c.args.output.now) (λ i. in_order (meaning (here_of c.args.plan.now c.args.at_failure) c.args.depth) i c.args.children.now) c.requires
+    rounds-start _ c.args.progress.now (each_turns c.args.name.now row c.args.output.now) (λ i. in_order (at_level c.args.level) i c.args.children.now) c.requires
 
 pub run_each-returns : goal.run_each-returns
 run_each-returns g t c =
-    let below : Below = meaning (here_of c.args.plan.now c.args.at_failure) c.args.depth in
+    let below : Below = at_level c.args.level in
     let body : ℕ → Part = λ i. in_order below i c.args.children.now in
     let row : Row = record { input = c.args.input.now; separator = c.args.span.separator; start = c.args.span.start; end = c.args.span.end } in
     let turns : Turns (List ℕ) = each_turns c.args.name.now row c.args.output.now in
@@ -289,7 +290,7 @@ run_each-returns g t c =
 
 pub run_each-returns-in_default-2 : goal.run_each-returns-in_default-2
 run_each-returns-in_default-2 g t c =
-    let below : Below = meaning (here_of c.args.plan.now c.args.at_failure) c.args.depth in
+    let below : Below = at_level c.args.level in
     let body : ℕ → Part = λ i. in_order below i c.args.children.now in
     let row : Row = record { input = c.args.input.now; separator = c.args.span.separator; start = c.args.span.start; end = c.args.span.end } in
     let turns : Turns (List ℕ) = each_turns c.args.name.now row c.args.output.now in
@@ -298,7 +299,7 @@ run_each-returns-in_default-2 g t c =
 
 pub run_each-returns-in_default-3 : goal.run_each-returns-in_default-3
 run_each-returns-in_default-3 g t c =
-    let below : Below = meaning (here_of c.args.plan.now c.args.at_failure) c.args.depth in
+    let below : Below = at_level c.args.level in
     let body : ℕ → Part = λ i. in_order below i c.args.children.now in
     let row : Row = record { input = c.args.input.now; separator = c.args.span.separator; start = c.args.span.start; end = c.args.span.end } in
     let turns : Turns (List ℕ) = each_turns c.args.name.now row c.args.output.now in
@@ -308,7 +309,7 @@ run_each-returns-in_default-3 g t c =
 
 pub run_each-returns-in_err-value : goal.run_each-returns-in_err-value
 run_each-returns-in_err-value g t c =
-    let below : Below = meaning (here_of c.args.plan.now c.args.at_failure) c.args.depth in
+    let below : Below = at_level c.args.level in
     let body : ℕ → Part = λ i. in_order below i c.args.children.now in
     let row : Row = record { input = c.args.input.now; separator = c.args.span.separator; start = c.args.span.start; end = c.args.span.end } in
     let turns : Turns (List ℕ) = each_turns c.args.name.now row c.args.output.now in
@@ -316,7 +317,7 @@ run_each-returns-in_err-value g t c =
 
 pub run_each-returns-in_err-other : goal.run_each-returns-in_err-other
 run_each-returns-in_err-other g t c =
-    let below : Below = meaning (here_of c.args.plan.now c.args.at_failure) c.args.depth in
+    let below : Below = at_level c.args.level in
     let body : ℕ → Part = λ i. in_order below i c.args.children.now in
     let row : Row = record { input = c.args.input.now; separator = c.args.span.separator; start = c.args.span.start; end = c.args.span.end } in
     let turns : Turns (List ℕ) = each_turns c.args.name.now row c.args.output.now in
@@ -326,7 +327,7 @@ run_each-returns-in_err-other g t c =
 
 pub run_each-returns-in_err-other-2 : goal.run_each-returns-in_err-other-2
 run_each-returns-in_err-other-2 g t c =
-    let below : Below = meaning (here_of c.args.plan.now c.args.at_failure) c.args.depth in
+    let below : Below = at_level c.args.level in
     let body : ℕ → Part = λ i. in_order below i c.args.children.now in
     let row : Row = record { input = c.args.input.now; separator = c.args.span.separator; start = c.args.span.start; end = c.args.span.end } in
     let turns : Turns (List ℕ) = each_turns c.args.name.now row c.args.output.now in
@@ -337,7 +338,7 @@ run_each-returns-in_err-other-2 g t c =
 
 pub run_each-rounds-preserved : goal.run_each-rounds-preserved
 run_each-rounds-preserved g t c =
-    let below : Below = meaning (here_of c.args.plan.now c.args.at_failure) c.args.depth in
+    let below : Below = at_level c.args.level in
     let body : ℕ → Part = λ i. in_order below i c.args.children.now in
     let row : Row = record { input = c.args.input.now; separator = c.args.span.separator; start = c.args.span.start; end = c.args.span.end } in
     let turns : Turns (List ℕ) = each_turns c.args.name.now row c.args.output.now in
@@ -346,89 +347,89 @@ run_each-rounds-preserved g t c =
     (rw (c.bytes.ensures, c.bytes-in-Some.ensures) at c.in_ok-other.ensures.plays _) c.in-Normal.is c.in_ok-other-2.ensures (c.in_ok-other.ensures.taken c.in-Normal.is) c.in-Normal-2.is
 
 pub run_kind-label_of-requires : goal.run_kind-label_of-requires
-run_kind-label_of-requires g t c = slice_get_within c.args.plan.now.elements c.args.number c.args.element.now c.requires.there
+run_kind-label_of-requires g t c = slice_get_within c.args.level.plan.now.elements c.args.number c.args.element.now c.requires.there
 
 pub run_once-returns-else-round-eq0 : goal.run_once-returns-else-round-eq0
-run_once-returns-else-round-eq0 g t c = plays-nothing _ _ _ (if-not _ (in_order (meaning (here_of c.args.plan.now c.args.at_failure) c.args.depth) c.args.round c.args.children.now (state_in c.args.progress.now)) (over (normal (state_in c.args.progress.now))) (not-zero c.args.round c.if-round-eq0.false))
+run_once-returns-else-round-eq0 g t c = plays-nothing _ _ _ (if-not _ (in_order (at_level c.args.level) c.args.round c.args.children.now (state_in c.args.progress.now)) (over (normal (state_in c.args.progress.now))) (not-zero c.args.round c.if-round-eq0.false))
 
 pub run_kind-returns-in_err-children : goal.run_kind-returns-in_err-children
 run_kind-returns-in_err-children g t c = runs-cut _ _ _ _ c.from_residual.result c.from_residual.ensures.1 (at-start _ _)
 
 pub run_kind-returns : goal.run_kind-returns
-run_kind-returns g t c = plays-nothing _ _ _ (kind-other (here_of c.args.plan.now c.args.at_failure) (meaning (here_of c.args.plan.now c.args.at_failure) c.args.depth) c.args.number c.args.element.now c.args.round (state_in c.args.progress.now) c.args.element.now.kind
+run_kind-returns g t c = plays-nothing _ _ _ (kind-other (here_of c.args.level.plan.now c.args.level.at_failure) (at_level c.args.level) c.args.number c.args.element.now c.args.round (state_in c.args.progress.now) c.args.element.now.kind
     c.in_default.not-Simple c.in_default.not-OnceOnly c.in_default.not-If c.in_default.not-Loop c.in_default.not-While c.in_default.not-ForEach c.in_default.not-Script c.in_default.not-Http c.in_default.not-Switch c.in_default.not-Interleave c.in_default.not-Random c.in_default.not-RandomOrder c.in_default.not-Transaction c.in_default.not-CriticalSection)
 
 pub run_looping-returns-in_err-text-in-Loop : goal.run_looping-returns-in_err-text-in-Loop
 run_looping-returns-in_err-text-in-Loop g t c = λ number round. runs-cut _ _ _ _ c.from_residual.result c.from_residual.ensures.1
-    (loop-cut (here_of c.args.plan.now c.args.at_failure) (meaning (here_of c.args.plan.now c.args.at_failure) c.args.depth) number c.args.element.now round (g.O.Outside.account c.args.outside.now) (g.O.Outside.account c.text.new.outside) c.args.progress.now c.text.new.self c.in-Loop.loops c.in-Loop.is c.in_err-text-in-Loop.ensures.same
+    (loop-cut (here_of c.args.level.plan.now c.args.level.at_failure) (at_level c.args.level) number c.args.element.now round (g.O.Outside.account c.args.outside.now) (g.O.Outside.account c.text.new.outside) c.args.progress.now c.text.new.self c.in-Loop.loops c.in-Loop.is c.in_err-text-in-Loop.ensures.same
     c.in_err-text-in-Loop.ensures.cut)
 
 pub run_looping-returns-in-None : goal.run_looping-returns-in-None
-run_looping-returns-in-None g t c = λ number round. loop-past (here_of c.args.plan.now c.args.at_failure) (meaning (here_of c.args.plan.now c.args.at_failure) c.args.depth) number c.args.element.now round (g.O.Outside.account c.args.outside.now) (g.O.Outside.account c.text.new.outside) c.args.progress.now c.text.new.self c.in-Loop.loops c.in-Loop.is c.in_ok-text-in-Loop.ensures.same (rw c.in-None.is at c.in_ok-text-in-Loop.ensures.came)
+run_looping-returns-in-None g t c = λ number round. loop-past (here_of c.args.level.plan.now c.args.level.at_failure) (at_level c.args.level) number c.args.element.now round (g.O.Outside.account c.args.outside.now) (g.O.Outside.account c.text.new.outside) c.args.progress.now c.text.new.self c.in-Loop.loops c.in-Loop.is c.in_ok-text-in-Loop.ensures.same (rw c.in-None.is at c.in_ok-text-in-Loop.ensures.came)
 
 pub run_looping-returns-in-Some : goal.run_looping-returns-in-Some
 run_looping-returns-in-Some g t c = λ number round.
-    loop-runs (here_of c.args.plan.now c.args.at_failure) (meaning (here_of c.args.plan.now c.args.at_failure) c.args.depth) number c.args.element.now round (g.O.Outside.account c.args.outside.now) (g.O.Outside.account c.text.new.outside) c.args.progress.now c.text.new.self c.in-Loop.loops c.in-Loop.is c.in_ok-text-in-Loop.ensures.same
+    loop-runs (here_of c.args.level.plan.now c.args.level.at_failure) (at_level c.args.level) number c.args.element.now round (g.O.Outside.account c.args.outside.now) (g.O.Outside.account c.text.new.outside) c.args.progress.now c.text.new.self c.in-Loop.loops c.in-Loop.is c.in_ok-text-in-Loop.ensures.same
     (g.O.Outside.account c.run_loop.new.outside) c.run_loop.new.progress c.run_loop.result c.in-Some.text c.bytes-name.result.now c.loops_of-loops.result c.args.children.now
     (rw c.in-Some.is at c.in_ok-text-in-Loop.ensures.came) c.bytes-name.ensures (c.loops_of-loops.ensures ∙ ap loops_of c.bytes.ensures) c.requires.children c.run_loop.ensures
 
 pub run_looping-returns-in-While : goal.run_looping-returns-in-While
 run_looping-returns-in-While g t c = λ number round.
-    while-runs (here_of c.args.plan.now c.args.at_failure) (meaning (here_of c.args.plan.now c.args.at_failure) c.args.depth) number c.args.element.now round (g.O.Outside.account c.args.outside.now) (g.O.Outside.account c.run_while.new.outside) c.args.progress.now c.run_while.new.progress c.run_while.result c.bytes-name.result.now c.args.children.now c.bytes-name.ensures c.requires.children c.in-While.condition c.in-While.is c.run_while.ensures
+    while-runs (here_of c.args.level.plan.now c.args.level.at_failure) (at_level c.args.level) number c.args.element.now round (g.O.Outside.account c.args.outside.now) (g.O.Outside.account c.run_while.new.outside) c.args.progress.now c.run_while.new.progress c.run_while.result c.bytes-name.result.now c.args.children.now c.bytes-name.ensures c.requires.children c.in-While.condition c.in-While.is c.run_while.ensures
 
 pub run_looping-returns-in-ForEach : goal.run_looping-returns-in-ForEach
 run_looping-returns-in-ForEach g t c = λ number round.
-    each-runs (here_of c.args.plan.now c.args.at_failure) (meaning (here_of c.args.plan.now c.args.at_failure) c.args.depth) number c.args.element.now round (g.O.Outside.account c.args.outside.now) (g.O.Outside.account c.run_each.new.outside) c.args.progress.now c.run_each.new.progress c.run_each.result c.bytes-name.result.now c.args.children.now c.bytes-name.ensures c.requires.children c.in-ForEach.end c.in-ForEach.input c.in-ForEach.output c.in-ForEach.separator c.in-ForEach.start c.in-ForEach.is c.run_each.ensures
+    each-runs (here_of c.args.level.plan.now c.args.level.at_failure) (at_level c.args.level) number c.args.element.now round (g.O.Outside.account c.args.outside.now) (g.O.Outside.account c.run_each.new.outside) c.args.progress.now c.run_each.new.progress c.run_each.result c.bytes-name.result.now c.args.children.now c.bytes-name.ensures c.requires.children c.in-ForEach.end c.in-ForEach.input c.in-ForEach.output c.in-ForEach.separator c.in-ForEach.start c.in-ForEach.is c.run_each.ensures
 
 pub run_chosen-returns-in_default : goal.run_chosen-returns-in_default
-run_chosen-returns-in_default g t c = plays-nothing _ _ _ (chosen-none (meaning (here_of c.args.plan.now c.args.at_failure) c.args.depth) c.args.round c.args.children.now c.args.pick (state_in c.args.progress.now) (is-none c.args.pick c.in_default.not-Some))
+run_chosen-returns-in_default g t c = plays-nothing _ _ _ (chosen-none (at_level c.args.level) c.args.round c.args.children.now c.args.pick (state_in c.args.progress.now) (is-none c.args.pick c.in_default.not-Some))
 
 pub run_chosen-returns-in-None : goal.run_chosen-returns-in-None
-run_chosen-returns-in-None g t c = plays-nothing _ _ _ (chosen-past (meaning (here_of c.args.plan.now c.args.at_failure) c.args.depth) c.args.round c.args.children.now c.args.pick (state_in c.args.progress.now) c.in-Some.place c.from.result c.in-Some.is c.from.ensures c.in-None.ensures.lookup.3)
+run_chosen-returns-in-None g t c = plays-nothing _ _ _ (chosen-past (at_level c.args.level) c.args.round c.args.children.now c.args.pick (state_in c.args.progress.now) c.in-Some.place c.from.result c.in-Some.is c.from.ensures c.in-None.ensures.lookup.3)
 
 pub run_interleave-returns-then-is_empty : goal.run_interleave-returns-then-is_empty
-run_interleave-returns-then-is_empty g t c = plays-nothing _ _ _ (interleave-none (meaning (here_of c.args.plan.now c.args.at_failure) c.args.depth) c.args.round c.args.number c.args.children.now (state_in c.args.progress.now) (sym c.is_empty.ensures ∙ c.if-is_empty.true))
+run_interleave-returns-then-is_empty g t c = plays-nothing _ _ _ (interleave-none (at_level c.args.level) c.args.round c.args.number c.args.children.now (state_in c.args.progress.now) (sym c.is_empty.ensures ∙ c.if-is_empty.true))
 
 pub run_interleave-returns : goal.run_interleave-returns
 run_interleave-returns g t c =
-    interleave-runs _ _ _ _ _ c.run_chosen.result (meaning (here_of c.args.plan.now c.args.at_failure) c.args.depth) c.args.round c.args.children.now c.args.number _ c.move_on-place.result refl (sym c.is_empty.ensures ∙ c.if-is_empty.false) c.move_on-place.ensures.place c.move_on-place.ensures.moved c.move_on-place.ensures.same c.run_chosen.ensures
+    interleave-runs _ _ _ _ _ c.run_chosen.result (at_level c.args.level) c.args.round c.args.children.now c.args.number _ c.move_on-place.result refl (sym c.is_empty.ensures ∙ c.if-is_empty.false) c.move_on-place.ensures.place c.move_on-place.ensures.moved c.move_on-place.ensures.same c.run_chosen.ensures
 
 pub run_random-returns : goal.run_random-returns
 run_random-returns g t c =
-    random-runs _ _ _ _ _ c.run_chosen.result (meaning (here_of c.args.plan.now c.args.at_failure) c.args.depth) c.args.round c.args.children.now _ c.random_place-chosen.result c.random_place-chosen.new.fns refl c.random_place-chosen.ensures.place c.random_place-chosen.ensures.fns refl c.run_chosen.ensures
+    random-runs _ _ _ _ _ c.run_chosen.result (at_level c.args.level) c.args.round c.args.children.now _ c.random_place-chosen.result c.random_place-chosen.new.fns refl c.random_place-chosen.ensures.place c.random_place-chosen.ensures.fns refl c.run_chosen.ensures
 
 pub run_order-returns-in_err-order : goal.run_order-returns-in_err-order
 run_order-returns-in_err-order g t c = runs-cut _ _ _ _ c.from_residual.result c.from_residual.ensures.1 (at-start _ _)
 
 pub run_order-returns : goal.run_order-returns
 run_order-returns g t c =
-    order-runs _ _ _ _ _ c.run_children.result (meaning (here_of c.args.plan.now c.args.at_failure) c.args.depth) c.args.round c.args.children.now c.as_slice.result.now c.shuffled.new.fns (c.as_slice.ensures.value ∙ c.in_ok-order.ensures.order) c.in_ok-order.ensures.fns refl c.run_children.ensures
+    order-runs _ _ _ _ _ c.run_children.result (at_level c.args.level) c.args.round c.args.children.now c.as_slice.result.now c.shuffled.new.fns (c.as_slice.ensures.value ∙ c.in_ok-order.ensures.order) c.in_ok-order.ensures.fns refl c.run_children.ensures
 
 pub run_switch-returns-in_err-text : goal.run_switch-returns-in_err-text
 run_switch-returns-in_err-text g t c = runs-cut _ _ _ _ c.from_residual.result c.from_residual.ensures.1 (in-bind _ c.in_err-text.ensures.cut)
 
 pub run_switch-returns-in_default : goal.run_switch-returns-in_default
-run_switch-returns-in_default g t c = switch-past (meaning (here_of c.args.plan.now c.args.at_failure) c.args.depth) c.args.round (run_names c.args.plan.now.elements c.args.element.now) c.args.children.now (text c.args.value.now) c.in_ok-text.ensures.same (rw (is-none c.in_ok-text.field-0 c.in_default.not-Some) at c.in_ok-text.ensures.came)
+run_switch-returns-in_default g t c = switch-past (at_level c.args.level) c.args.round (run_names c.args.level.plan.now.elements c.args.element.now) c.args.children.now (text c.args.value.now) c.in_ok-text.ensures.same (rw (is-none c.in_ok-text.field-0 c.in_default.not-Some) at c.in_ok-text.ensures.came)
 
 pub run_switch-returns : goal.run_switch-returns
 run_switch-returns g t c =
-    switch-runs (meaning (here_of c.args.plan.now c.args.at_failure) c.args.depth) c.args.round (run_names c.args.plan.now.elements c.args.element.now) c.args.children.now (text c.args.value.now) c.in_ok-text.ensures.same
-    c.in-Some.text c.picks-chosen.result _ _ c.run_chosen.result (rw c.in-Some.is at c.in_ok-text.ensures.came) (c.picks-chosen.ensures.place ∙ ap (λ x. picks x (run_names c.args.plan.now.elements c.args.element.now)) c.bytes.ensures) c.run_chosen.ensures
+    switch-runs (at_level c.args.level) c.args.round (run_names c.args.level.plan.now.elements c.args.element.now) c.args.children.now (text c.args.value.now) c.in_ok-text.ensures.same
+    c.in-Some.text c.picks-chosen.result _ _ c.run_chosen.result (rw c.in-Some.is at c.in_ok-text.ensures.came) (c.picks-chosen.ensures.place ∙ ap (λ x. picks x (run_names c.args.level.plan.now.elements c.args.element.now)) c.bytes.ensures) c.run_chosen.ensures
 
 pub run_transaction-returns-in_err-signal : goal.run_transaction-returns-in_err-signal
 run_transaction-returns-in_err-signal g t c = runs-cut _ _ _ _ c.from_residual.result c.from_residual.ensures.1
-    (transaction-cut c.args.label (in_order (meaning (here_of c.args.plan.now c.args.at_failure) c.args.depth) c.args.round c.args.children.now) c.args.progress.now c.in_err-signal.ensures)
+    (transaction-cut c.args.label (in_order (at_level c.args.level) c.args.round c.args.children.now) c.args.progress.now c.in_err-signal.ensures)
 
 pub run_transaction-returns : goal.run_transaction-returns
 run_transaction-returns g t c =
-    transaction-runs c.args.progress.now c.args.label (in_order (meaning (here_of c.args.plan.now c.args.at_failure) c.args.depth) c.args.round c.args.children.now) c.none-progress.result c.none-progress.ensures c.in_ok-signal.ensures
+    transaction-runs c.args.progress.now c.args.label (in_order (at_level c.args.level) c.args.round c.args.children.now) c.none-progress.result c.none-progress.ensures c.in_ok-signal.ensures
     c.joined-progress.result c.joined-progress.ensures c.give_sum.new.progress c.give_sum.result c.give_sum.ensures
 
 pub run_kind-run_interleave-requires : goal.run_kind-run_interleave-requires
-run_kind-run_interleave-requires g t c = λ κs outlive. (omega arith, (outlive, (c.requires.rounds, few-children c.args.plan.now.elements c.args.element.now c.as_slice-children.result.now (c.as_slice-children.ensures.value ∙ c.in_ok-children.ensures))))
+run_kind-run_interleave-requires g t c = λ κs outlive. (omega arith, (outlive, (c.requires.rounds, few-children c.args.level.plan.now.elements c.args.element.now c.as_slice-children.result.now (c.as_slice-children.ensures.value ∙ c.in_ok-children.ensures))))
 
 pub run_kind-run_random-requires : goal.run_kind-run_random-requires
-run_kind-run_random-requires g t c = λ κs outlive. (omega arith, (outlive, (c.requires.rounds, few-children c.args.plan.now.elements c.args.element.now c.as_slice-children.result.now (c.as_slice-children.ensures.value ∙ c.in_ok-children.ensures))))
+run_kind-run_random-requires g t c = λ κs outlive. (omega arith, (outlive, (c.requires.rounds, few-children c.args.level.plan.now.elements c.args.element.now c.as_slice-children.result.now (c.as_slice-children.ensures.value ∙ c.in_ok-children.ensures))))
 
 pub run_kind-run_looping-requires : goal.run_kind-run_looping-requires
 run_kind-run_looping-requires g t c = λ κs outlive.
@@ -439,30 +440,30 @@ run_kind-returns-in-Loop g t c = c.run_looping.ensures c.args.number c.args.roun
 
 pub run_section-returns-then-progress-eq0 : goal.run_section-returns-then-progress-eq0
 run_section-returns-then-progress-eq0 g t c =
-    no-unit-for-section (g.O.Outside.account c.args.outside.now) c.args.progress.now c.args.lock (in_order (meaning (here_of c.args.plan.now c.args.at_failure) c.args.depth) c.args.round c.args.children.now) c.if-progress-eq0.true
+    no-unit-for-section (g.O.Outside.account c.args.outside.now) c.args.progress.now c.args.lock (in_order (at_level c.args.level) c.args.round c.args.children.now) c.if-progress-eq0.true
 
 pub run_section-returns-in_err-push : goal.run_section-returns-in_err-push
 run_section-returns-in_err-push g t c = runs-cut _ _ _ _ c.from_residual.result c.from_residual.ensures.1 (at-start _ _)
 
 pub run_section-returns-in_err-signal : goal.run_section-returns-in_err-signal
 run_section-returns-in_err-signal g t c = runs-cut _ _ _ _ c.from_residual-in_err-signal.result c.from_residual-in_err-signal.ensures.1
-    (section-cut (g.O.Outside.account c.args.outside.now) c.args.progress.now c.args.lock (in_order (meaning (here_of c.args.plan.now c.args.at_failure) c.args.depth) c.args.round c.args.children.now)
+    (section-cut (g.O.Outside.account c.args.outside.now) c.args.progress.now c.args.lock (in_order (at_level c.args.level) c.args.round c.args.children.now)
     c.if-progress-eq0.false (record c.args.progress.now { units = c.args.progress.now.units - 1; items = c.push.new.self }) refl c.in_ok-push.ensures.items refl refl c.in_err-signal.ensures)
 
 pub run_section-returns-in_err-push-2 : goal.run_section-returns-in_err-push-2
 run_section-returns-in_err-push-2 g t c = runs-cut _ _ _ _ c.from_residual-in_err-push-2.result c.from_residual-in_err-push-2.ensures.1
-    (section-unleft (g.O.Outside.account c.args.outside.now) c.args.progress.now c.args.lock (in_order (meaning (here_of c.args.plan.now c.args.at_failure) c.args.depth) c.args.round c.args.children.now)
+    (section-unleft (g.O.Outside.account c.args.outside.now) c.args.progress.now c.args.lock (in_order (at_level c.args.level) c.args.round c.args.children.now)
     c.if-progress-eq0.false _ refl c.in_ok-push.ensures.items refl refl c.in_ok-signal.signal c.in_ok-signal.ensures)
 
 pub run_section-returns : goal.run_section-returns
 run_section-returns g t c =
-    section-plays (g.O.Outside.account c.args.outside.now) c.args.progress.now c.args.lock (in_order (meaning (here_of c.args.plan.now c.args.at_failure) c.args.depth) c.args.round c.args.children.now)
+    section-plays (g.O.Outside.account c.args.outside.now) c.args.progress.now c.args.lock (in_order (at_level c.args.level) c.args.round c.args.children.now)
     c.if-progress-eq0.false _ refl c.in_ok-push.ensures.items refl refl c.in_ok-signal.signal c.in_ok-signal.ensures _ refl c.in_ok-push-2.ensures.items refl refl
 
 pub run_kind-lock_of-requires : goal.run_kind-lock_of-requires
-run_kind-lock_of-requires g t c = slice_get_within c.args.plan.now.elements c.args.number c.args.element.now c.requires.there
+run_kind-lock_of-requires g t c = slice_get_within c.args.level.plan.now.elements c.args.number c.args.element.now c.requires.there
 
 pub run_kind-returns-in-CriticalSection : goal.run_kind-returns-in-CriticalSection
 run_kind-returns-in-CriticalSection g t c =
-    section-runs _ _ _ _ (here_of c.args.plan.now c.args.at_failure) (meaning (here_of c.args.plan.now c.args.at_failure) c.args.depth) c.args.number c.args.element.now c.args.round c.in-CriticalSection.lock c.lock_of.result
+    section-runs _ _ _ _ (here_of c.args.level.plan.now c.args.level.at_failure) (at_level c.args.level) c.args.number c.args.element.now c.args.round c.in-CriticalSection.lock c.lock_of.result
     c.as_slice-children.result.now c.run_section.result c.requires.there c.in-CriticalSection.is c.lock_of.ensures (c.as_slice-children.ensures.value ∙ c.in_ok-children.ensures) c.run_section.ensures
