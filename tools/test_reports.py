@@ -15,7 +15,11 @@ import sys
 import tempfile
 import time
 import unittest
+from unittest.mock import patch
 
+from run_files.records import FileFault, Records, records_of
+from run_files.reports import IntervalLine, ReportBlock, Reports, RowLine, TotalLine
+from run_files.results import HEADER, Results, is_result
 from run_tests.made import TOOLS, TRICKY, chance, example, files_of, line, numbers, tool, write
 
 PROGRAM = TOOLS.parent / "crates/jm_program/out/jm_program"
@@ -241,6 +245,76 @@ class Recount(InFolder):
                 self.assertEqual((status, out, err.count("\n")), (2, "", 1), (out, err))
         self.assertEqual(tool("recount", self.results)[0], 2)
         self.assertEqual(tool("recount", self.results, self.folder + "/nothing")[0], 2)
+
+
+class AtOnce(InFolder):
+    """Lines that are read many at a time give what they give one by one, also in files that are wrong."""
+
+    OTHERS = ("", ",", "\n", '"', ',"', "x", ",+", ",0", ",²", ",\r", ",x\n", "\ninterval,", "\nrow,1,", '",\n"')
+
+    def changed(self, text):
+        """A text, its beginnings, with a line twice, with a label in place of another, and with each of OTHERS in the place of
+        some of its commas and line feeds.
+        """
+        yield text
+        yield from (text[:at] for at in range(0, len(text), 61))
+        for found in list(re.finditer("\n(.+)", text))[::5]:
+            yield text[:found.end()] + found[0] + text[found.end():]
+        yield from (text[:found.start()] + ",A," + text[found.end():] for found in re.finditer(",(B|7),", text))
+        for at in [at for at, char in enumerate(text) if char in ",\n"][::11]:
+            yield from (text[:at] + other + text[at + 1:] for other in self.OTHERS)
+
+    def reports_read(self, text, size, at_once):
+        """What is read of reports that come in pieces of a size, up to the fault where there is one."""
+        reports = Reports(Records("reports", (text[at:at + size] for at in range(0, len(text), size))))
+        found = []
+        try:
+            for line in reports.in_blocks() if at_once else reports:
+                if isinstance(line, RowLine):
+                    found.append((line.number, line.label, *line.numbers))
+                elif isinstance(line, ReportBlock):
+                    numbers = [number for number, count in enumerate(line.counts, line.first) for _ in range(count)]
+                    found += [(number, row[1], *map(int, row[2:])) for number, row in zip(numbers, line.rows, strict=True)]
+                elif isinstance(line, TotalLine):
+                    found.append((line.label, line.sums.numbers))
+                elif not isinstance(line, IntervalLine):
+                    found.append(line)
+        except FileFault as fault:
+            found.append(str(fault))
+        return found, reports.line, reports.cut, reports.whole
+
+    def test_reports(self):
+        for run in (chance(7, 60, 9, ["A", "B", "7"]), chance(8, 60, 9, ["A", 'say "hi", all', "two\ninterval,1"])):
+            for text in self.changed(run.reports()):
+                expected = self.reports_read(text, 10**6, False)
+                for size, characters in ((10**6, 10**6), (10**6, 100), (150, 1), (7, 1)):
+                    with patch("run_files.reports.CHARACTERS", characters):
+                        self.assertEqual(self.reports_read(text, size, True), expected, text)
+
+    def results_read(self, path, at_once):
+        """The result lines of a file, or the place of the first fault."""
+        try:
+            if at_once:
+                return [block.row(at) for block in Results(path) for at in range(len(block.labels))]
+            records, file = records_of(path)
+            with file:
+                rows = []
+                for row in records:
+                    if not (is_result(row) if rows else row == HEADER):
+                        raise records.fault("")
+                    rows.append(row)
+                return rows[1:]
+        except FileFault as fault:
+            return str(fault).split(" ")[0]
+
+    def test_results(self):
+        for run in (chance(9, 40, 9, ["A", "B"]), chance(10, 40, 9, ["A", 'say "hi", all', "two\nlines"])):
+            for text in self.changed(run.results()):
+                path = self.written(text)
+                expected = self.results_read(path, False)
+                for characters, rows in ((1, 1), (300, 7), (10**6, 10**6)):
+                    with patch("run_files.results.CHARACTERS", characters), patch("run_files.results.ROWS", rows):
+                        self.assertEqual(self.results_read(path, True), expected, text)
 
 
 class Watch(InFolder):

@@ -1,14 +1,20 @@
 """Reading REPORTS: the reports of intervals, the summary, and how each thread ended."""
 import contextlib
 import enum
+import re
+from itertools import chain, repeat
 from typing import NamedTuple
 
 from run_files.records import FileFault, records_of
 from run_files.sums import Sums
 from run_files.texts import shown
-from run_files.values import value_of
+from run_files.values import DIGITS, value_of
 
 ROW = 9  # fields of a row
+CHARACTERS = 1 << 14  # of reports that are read at once, about; many more would not stay in the processor's own memory
+NUMBER = f",[0-9]{{1,{DIGITS}}}"
+INTERVALS = re.compile(r"\ninterval,([0-9]+)" + 2 * NUMBER + "$", re.MULTILINE)
+ROWS = re.compile(r"\nrow,([0-9]+),([^,\n]*)" + 6 * f",({NUMBER[1:]})" + "$", re.MULTILINE)  # where nothing is quoted
 SCRIPT = "jm: "  # how the script jm begins what it says of building the program, before the program's own lines
 
 
@@ -73,6 +79,17 @@ class EndLine(NamedTuple):
     end: str
 
 
+class ReportBlock(NamedTuple):
+    """Whole reports that follow each other: the first one's interval, how many rows each has, and all rows.
+
+    Of a row there are the texts: its interval, its label, and its six numbers.
+    """
+
+    first: int
+    counts: list
+    rows: list
+
+
 class Reports:
     """The lines of reports, to be gone through once.
 
@@ -109,8 +126,46 @@ class Reports:
         return self.stage is Stage.ENDS and not self.cut
 
     def __iter__(self):
+        return self._lines(self.records)
+
+    def in_blocks(self):
+        """The same lines, but most reports of intervals in blocks, each a ReportBlock."""
+        for text in self.records.texts():
+            end = text.rfind("\ninterval,")  # more rows may follow that one in the next text
+            at = 0 if text.startswith("interval,") else text.find("\ninterval,") + 1
+            if '"' in text or end < at:  # what is quoted may have line feeds
+                yield from self._lines(self.records.of(text))
+                continue
+            if at:
+                yield from self._lines(self.records.of(text[:at - 1]))
+            while at <= end:
+                stop = text.find("\ninterval,", min(at + CHARACTERS, end))
+                block = self._block_of(text[at:stop])
+                if block is None:
+                    yield from self._lines(self.records.of(text[at:stop]))
+                else:
+                    yield block
+                at = stop + 1
+            yield from self._lines(self.records.of(text[at:]))
+
+    def _block_of(self, text):
+        """The reports of a text that begins with an interval and ends before one; None where its lines must be read one by one."""
+        reports, rows, first = text.split("\ninterval,"), ROWS.findall(text), self._number + 1
+        counts = [report.count("\n") for report in reports]
+        numbers = [str(number) for number in range(first, first + len(reports))]
+        rows_of, labels = (*zip(*rows),)[:2] if rows else ((), ())
+        if (self.stage is not Stage.INTERVALS or INTERVALS.findall("\n" + text) != numbers
+                or list(rows_of) != list(chain.from_iterable(map(repeat, numbers, counts)))
+                or len(set(zip(rows_of, labels))) != len(rows)):
+            return None
+        self._number += len(reports)
+        self._text = numbers[-1]  # the next line is one of an interval, so the labels need not be known
+        self.records.line += len(reports) + len(rows)
+        return ReportBlock(first, counts, rows)
+
+    def _lines(self, records):
         labels = self._labels
-        for fields in self.records:
+        for fields in records:
             if len(fields) == ROW and fields[0] == "row":  # most lines, so without a call of its own
                 _, number, label, *texts = fields
                 if number != self._text or label in labels:

@@ -38,6 +38,8 @@ class Charts:
             above, below = self.figure.subplots(2, 1, sharex=True, gridspec_kw=MARGINS)
             prepare(above, "samples")
             prepare(below, "milliseconds")
+            for axis in (above.xaxis, above.yaxis, below.yaxis):
+                axis.set_label_coords(0, 0)  # they have no label, whose place would be sought anew for each chart
             below.set_xlabel("interval", labelpad=2)
             below.set_xlim(self.edges[0], self.edges[-1])
             below.xaxis.set_major_locator(MaxNLocator(nbins=6, integer=True, min_n_ticks=1))
@@ -88,5 +90,5 @@ def plain(text):
         element.attrib.pop("id", None)
         element.text, element.tail = (element.text or "").strip(), ""
         if "d" in element.attrib:
-            element.set("d", re.sub(r"(\d+\.\d)\d*", r"\1", " ".join(element.get("d").split())))
+            element.set("d", re.sub(r"(?<=\d\.\d)\d+", "", " ".join(element.get("d").split())))  # one decimal is enough
     return re.sub("|".join(COLOURS), lambda found: f"var({COLOURS[found[0]]})", tree.tostring(root, encoding="unicode"))

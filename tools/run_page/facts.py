@@ -3,8 +3,8 @@ import collections
 import dataclasses
 import heapq
 
-from run_files.reports import EndLine, IntervalLine, RowLine, TotalLine, reports_of
-from run_files.results import BYTES, ELAPSED, INTERVAL, LABEL, SUCCESS, THREAD, Results, sample_of
+from run_files.reports import EndLine, IntervalLine, ReportBlock, RowLine, TotalLine, reports_of
+from run_files.results import Results, sample_of
 from run_files.sums import Sums, over_all
 from run_files.texts import many, shown
 from run_files.values import value_of
@@ -94,14 +94,16 @@ def read_reports(facts, path):
     """Reads REPORTS into the facts, and gives what is known of it then."""
     interval = None
     with reports_of(path) as reports:
-        for line in reports:
+        for line in reports.in_blocks():
             if isinstance(line, RowLine):
                 interval.rows.append(line)
                 continue
             if interval:
                 interval.add_to(facts.timeline)
                 interval = None
-            if isinstance(line, IntervalLine):
+            if isinstance(line, ReportBlock):
+                facts.timeline.add_block(line)
+            elif isinstance(line, IntervalLine):
                 interval = OpenInterval(line)
             elif isinstance(line, TotalLine):
                 facts.totals[line.label] = line.sums
@@ -118,20 +120,24 @@ def read_results(facts, path):
     """Reads RESULTS into the facts; the intervals come from it where REPORTS has none, as of `solo`."""
     results, with_intervals = Results(path), not facts.timeline.intervals
     slowest, failures, labels = Slowest(SLOWEST), collections.Counter(), {}
-    for row in results:
-        facts.lines += 1
-        facts.threads[row[THREAD]] = True
-        elapsed = value_of(row[ELAPSED])
-        if elapsed > slowest.least:
-            slowest.offer(sample_of(row))
-        failed = row[SUCCESS] == "false"
-        if failed:
-            sample = sample_of(row)
-            kind = sample.code, sample.message, sample.failure
-            failures[kind] += 1
-            labels.setdefault(kind, {})[sample.label] = True
+    for block in results:
+        facts.lines += len(block.labels)
+        facts.threads.update(dict.fromkeys(block.threads))
+        times = list(map(value_of, block.elapsed))
+        if max(times) > slowest.least:
+            for at, elapsed in enumerate(times):
+                if elapsed > slowest.least:
+                    slowest.offer(sample_of(block.row(at)))
+        if "false" in block.successes:
+            for at, success in enumerate(block.successes):
+                if success == "false":
+                    kind = block.codes[at], block.messages[at], block.failures[at]
+                    failures[kind] += 1
+                    labels.setdefault(kind, {})[block.labels[at]] = True
         if with_intervals:
-            facts.timeline.add_sample(value_of(row[INTERVAL]), row[LABEL], elapsed, failed, value_of(row[BYTES]))
+            numbers, sizes = map(value_of, block.intervals), map(value_of, block.sizes)
+            for number, label, elapsed, success, size in zip(numbers, block.labels, times, block.successes, sizes):
+                facts.timeline.add_sample(number, label, elapsed, success == "false", size)
     facts.slowest = slowest.all()
     facts.failures = [Failure(*kind, count, list(labels[kind])) for kind, count in failures.most_common(FAILURES)]
     facts.other_failures = max(0, len(failures) - FAILURES)
