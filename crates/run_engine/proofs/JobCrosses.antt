@@ -39,10 +39,10 @@ pub searches_send : (a : NamedLft) → IsSend (Searches.the_row a)
 searches_send a = view_send (SearchesInside.the_row a) _ _ _ _ (declared_send (SearchesInside.the_type a) (search (search_send, Box-send, Vec-send, crosses, sendable) depth 60, tt))
 
 pub pipeline_send : (a : NamedLft) → IsSend (Pipeline.the_row a)
-pipeline_send a = view_send (PipelineInside.the_row a) _ _ _ _ (declared_send (PipelineInside.the_type a) (search (crosses, sendable) depth 20, (searches_send a, (search (Vec-send, sendable) depth 20, tt))))
+pipeline_send a = view_send (PipelineInside.the_row a) _ _ _ _ (declared_send (PipelineInside.the_type a) (search (crosses, sendable) depth 20, (searches_send a, tt)))
 
 pub runner : (a : NamedLft) → IsSend (Runner.the_row a)
-runner a = declared_send (Runner.the_type a) (shr_send _ _ _ plan, (search sendable depth 20, (search sendable depth 20, (search sendable depth 20, (search (user.the_field_send, sendable) depth 20, (config.the_send, (table.the_send, (pipeline_send a, (search (Vec-send, sendable) depth 20, (machine.the_send, (search sendable depth 20, (search (sample.the_send, crosses, sendable) depth 20, (search (crosses, sendable) depth 20, (search (crosses, sendable) depth 20, (search (crosses, sendable) depth 20, (trace.the_send, (search sendable depth 20, tt)))))))))))))))))
+runner a = declared_send (Runner.the_type a) (shr_send _ _ _ plan, (search sendable depth 20, (search sendable depth 20, (search sendable depth 20, (search (user.the_field_send, sendable) depth 20, (config.the_send, (table.the_send, (pipeline_send a, (machine.the_send, (search sendable depth 20, (search (sample.the_send, crosses, sendable) depth 20, (search (crosses, sendable) depth 20, (search (crosses, sendable) depth 20, (search (crosses, sendable) depth 20, (trace.the_send, (search sendable depth 20, tt))))))))))))))))
 
 pub worker : (a : NamedLft) → IsSend (Worker.the_row a)
 worker a = view_send (WorkerInside.the_row a) _ _ _ _ (declared_send (WorkerInside.the_type a) (runner a, (search sendable depth 20, tt)))

@@ -18,7 +18,7 @@ use crate::verdict::{Verdict, judge};
 use assertions::Answer;
 use config_elements::{capped, delay};
 use element_tree::{Package, Plan};
-use jm_base::{M, Outside, Request, Sample, Text};
+use jm_base::{M, Outside, Reply, Request, Sample, Text};
 use reply_search::Searches;
 use std::alloc::Global;
 use var_changes::put_copy;
@@ -33,13 +33,14 @@ pub struct Done {
     pub paused: u32,
 }
 
-fn at_most_256(bytes: &[u8]) -> &[u8]
-    ensures { result.now ≡ take 256 bytes.now }
+// The message of a sample: at most the first 256 bytes of the reply's, which is taken as it is where it has no more.
+fn message_of(alloc: Global, message: Text) -> M<Text>
+    ensures { IfOk result (λ t. t ≡ take 256 message) }
 {
-    if bytes.len() > 256 {
-        &bytes[..256]
+    if message.bytes().len() > 256 {
+        Text::new(alloc, &message.bytes()[..256])
     } else {
-        bytes
+        Ok(message)
     }
 }
 
@@ -69,21 +70,28 @@ fn sample_of(
     alloc: Global,
     label: u16,
     stamp: u64,
-    answer: &Answer,
+    answer: Answer,
     verdict: Verdict,
     listeners: u16,
 ) -> M<Sample>
-    ensures { IfOk result (λ s. s ≡ sample_of label stamp answer.now verdict listeners) }
+    ensures { IfOk result (λ s. s ≡ sample_of label stamp answer verdict listeners) }
 {
+    let Answer { elapsed, reply } = answer;
+    let Reply {
+        code,
+        message,
+        headers: _,
+        body,
+    } = reply;
     Ok(Sample {
         stamp,
-        elapsed: answer.elapsed,
+        elapsed,
         label,
-        code: answer.reply.code,
-        message: Text::new(alloc, at_most_256(answer.reply.message.bytes()))?,
+        code,
+        message: message_of(alloc, message)?,
         ok: verdict.ok,
         failure: verdict.failure,
-        bytes: capped(answer.reply.body.bytes().len() as u64),
+        bytes: capped(body.bytes().len() as u64),
         listeners,
     })
 }
@@ -95,12 +103,12 @@ fn assert_all<'p>(
     scope: &Package,
     sampler: u16,
     stamp: u64,
-    answer: &Answer,
+    answer: Answer,
     searches: &mut Searches<'p>,
 ) -> M<Sample>
-    ensures { IfOk result (λ s. s ≡ assert_all plan.now.elements scope.now sampler stamp answer.now) }
+    ensures { IfOk result (λ s. s ≡ assert_all plan.now.elements scope.now sampler stamp answer) }
 {
-    let verdict = judge(alloc, plan, scope.assertions.as_slice(), answer, searches)?;
+    let verdict = judge(alloc, plan, scope.assertions.as_slice(), &answer, searches)?;
     sample_of(
         alloc,
         label_at(plan, sampler),
@@ -133,15 +141,15 @@ fn sample_answer<'p>(
     scope: &Package,
     sampler: u16,
     stamp: u64,
-    answer: &Answer,
+    answer: Answer,
     state: &mut UserState,
     searches: &mut Searches<'p>,
 ) -> Result<Sample, VarError>
-    ensures came { (a : Account) → CameTo a (answering plan.now.elements scope.now sampler stamp answer.now state.old) a
+    ensures came { (a : Account) → CameTo a (answering plan.now.elements scope.now sampler stamp answer state.old) a
         (λ s. over (fine s state.new)) (over (past_limit state.new)) result }
     ensures label { IfOk result (λ s. s.label ≡ label_at plan.now.elements sampler) }
     ensures later { IsLater state.old.fns state.new.fns }
-    ensures cut { (a : Account) → result ≡ Err VarError.NoMemory → cut_answering plan.now.elements scope.now answer.now a state.old a state.new }
+    ensures cut { (a : Account) → result ≡ Err VarError.NoMemory → cut_answering plan.now.elements scope.now answer a state.old a state.new }
 {
     match post_process(
         alloc,
@@ -181,7 +189,7 @@ fn sample<'p>(
 {
     match answer {
         Some(answer) => match sample_answer(
-            alloc, plan, scope, sampler, stamp, &answer, state, searches,
+            alloc, plan, scope, sampler, stamp, answer, state, searches,
         ) {
             Ok(sample) => Ok(Some(sample)),
             Err(error) => Err(error),
@@ -285,43 +293,28 @@ pub(crate) fn run_pipeline<'p, O: Outside>(
     }
 }
 
-// Appends a part of an order. Most parts are empty.
-fn list_part(list: &mut Vec<u16>, part: &[u16]) -> M<()>
-    ensures { OnOk result (list.new.items ≡ list.old.items ++ part.now) }
+// The elements that took part, in their order.
+fn list_order(alloc: Global, scope: &Package, sampler: u16, sample: &Option<Sample>) -> M<Vec<u16>>
+    ensures { IfOk result (λ list. list.items ≡ order_of scope.now sampler sample.now) }
 {
-    if !part.is_empty() {
-        list.extend_from_slice(part)?;
-    }
-    Ok(())
-}
-
-/// Lists the elements that took part, in their order, in place of what the list has. Out of memory, it has a part of them.
-pub(crate) fn list_order(
-    list: &mut Vec<u16>,
-    scope: &Package,
-    sampler: u16,
-    sample: &Option<Sample>,
-) -> M<()>
-    ensures { OnOk result (list.new.items ≡ order_of scope.now sampler sample.now) }
-{
-    list.clear();
-    list_part(list, scope.config.as_slice())?;
-    list_part(list, scope.pre.as_slice())?;
-    list_part(list, scope.timers.as_slice())?;
+    let mut list = Vec::new(alloc);
+    list.extend_from_slice(scope.config.as_slice())?;
+    list.extend_from_slice(scope.pre.as_slice())?;
+    list.extend_from_slice(scope.timers.as_slice())?;
     list.push(sampler)?;
     if sample.is_some() {
-        list_part(list, scope.post.as_slice())?;
-        list_part(list, scope.assertions.as_slice())?;
-        list_part(list, scope.listeners.as_slice())?;
+        list.extend_from_slice(scope.post.as_slice())?;
+        list.extend_from_slice(scope.assertions.as_slice())?;
+        list.extend_from_slice(scope.listeners.as_slice())?;
     }
-    Ok(())
+    Ok(list)
 }
 
 /// Runs one sampler with its package, in the order of the manual's "Execution order": pre-processors; the pause of its
 /// timers, if it is any; its request between two readings of the clock; and where there is a reply, post-processors,
 /// assertions and listeners. An HTTP sampler asks for the request of its settings. Where they have no target nothing is asked
-/// between the readings, and the reply has code 0, the message `bad target`, no headers and no body. After post-processors and assertions `JMeterThread.last_sample_ok` is set to whether the sample
-/// succeeded; without a sample it stays. `order` becomes the elements that took part; after a refusal it is as before.
+/// between the readings, and the reply has code 0, the message `bad target`, no headers and no body. After post-processors and
+/// assertions `JMeterThread.last_sample_ok` is set to whether the sample succeeded; without a sample it stays. `order` becomes the elements that took part; after a refusal it is as before.
 ///
 /// `ValueLimit` comes where a text or a value would have more than 65,536 bytes, or all names and values of variables more
 /// than 4,194,304. After it and out of memory variables and functions are what the steps done left: each step before the one
@@ -346,5 +339,14 @@ pub fn run_one<O: Outside>(
     ensures later { IsLater state.old.fns state.new.fns }
 {
     let mut samplers = Pipeline::new(alloc);
-    samplers.run(plan, scope, sampler, state, outside, order)
+    match samplers.run(plan, scope, sampler, state, outside) {
+        Ok(done) => match list_order(alloc, scope, sampler, &done.sample) {
+            Ok(list) => {
+                *order = list;
+                Ok(done)
+            }
+            Err(_) => Err(VarError::NoMemory),
+        },
+        Err(error) => Err(error),
+    }
 }

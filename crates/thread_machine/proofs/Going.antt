@@ -207,9 +207,9 @@ module _ (w mid : Runner) (m : IsMoving w) (is : mid ≡ record w { begun = mid.
 -- ---- after a sampler and a transaction's sample
 
 module _ (w : Runner) (moving : IsMoving w) (begun : w.begun ≡ true) where
-  module _ (ran_on mid : Runner) (ran_is : ran_on ≡ record w { user = ran_on.user; order = ran_on.order; units = w.units - 1 }) (mid_is : mid ≡ record ran_on { trace = mid.trace })
+  module _ (ran_on mid : Runner) (ran_is : ran_on ≡ record w { user = ran_on.user; units = w.units - 1 }) (mid_is : mid ≡ record ran_on { trace = mid.trace })
       (less : ran_on.trace.room ≤ mid.trace.room + 1) where
-    mid_all : mid ≡ record w { user = ran_on.user; order = ran_on.order; units = w.units - 1; trace = mid.trace }
+    mid_all : mid ≡ record w { user = ran_on.user; units = w.units - 1; trace = mid.trace }
     mid_all = mid_is ∙ ap (λ (r : Runner). record r { trace = mid.trace }) ran_is
 
     room_left : 3 ≤ mid.trace.room
@@ -219,7 +219,7 @@ module _ (w : Runner) (moving : IsMoving w) (begun : w.begun ≡ true) where
     pub sampled_goes : (new : Runner) (sample : Sample) (entry : Entry) (step : Step) → step ≡ Sampled entry → new ≡ record mid { owed = Some sample; machine = told sample mid.machine }
         → (StandsIn mid.plan.now mid.machine → StandsIn new.plan.now new.machine) → open_lock new.machine.stack.frames ≡ open_lock mid.machine.stack.frames → GoesOnAfter new step
     sampled_goes new sample entry step step_is new_is stands lock =
-        let all : new ≡ record w { user = ran_on.user; order = ran_on.order; units = w.units - 1; trace = mid.trace; owed = Some sample; machine = told sample w.machine } =
+        let all : new ≡ record w { user = ran_on.user; units = w.units - 1; trace = mid.trace; owed = Some sample; machine = told sample w.machine } =
         new_is ∙ ap (λ (r : Runner). record r { owed = Some sample; machine = told sample r.machine }) mid_all in
         let next : IsNext w new = record {
           plan = ap (λ r. r.plan.now) all;

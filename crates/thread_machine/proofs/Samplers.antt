@@ -146,13 +146,13 @@ module _ (w : Runner) (number : ℕ) (r : IsSampler w.plan.now.elements number) 
 
     -- its events are given, and what is left is left
     gave : (done : Done) (new : Runner) → w.pause ≡ 0 → w.last ≡ None → w.begun ≡ true → Goes a (piped w.user) [] (over (fine done user)) b
-        → new ≡ record w { user = user; order = new.order; units = w.units - 1; machine = machine_behind w.machine done.sample; owed = new.owed; trace = new.trace }
+        → new ≡ record w { user = user; units = w.units - 1; machine = machine_behind w.machine done.sample; owed = new.owed; trace = new.trace }
         → Goes a (and_end sampler_run) (events_waited done.paused) (give (event_of number done.sample) (rest (standing_of new false))) b
     gave done new paused last begun goes new_is =
         let m : Position = machine_behind w.machine done.sample in
         let es : List Event = events_waited done.paused in
         let e : Event = event_of number done.sample in
-        let at : Runner = record w { user = user; order = new.order; units = w.units - 1; machine = m; owed = new.owed; trace = new.trace } in
+        let at : Runner = record w { user = user; units = w.units - 1; machine = m; owed = new.owed; trace = new.trace } in
         let one : Goes a sampler_run [] (left_after w.plan.now w.machine (given number w.machine.at_failure done (state_of user own))) b = ran (Ok done) goes in
         let two : Goes a sampler_run es (give e (left_of w.plan.now m (state_of user own))) b =
         goes-append one (given_all b w.plan.now w.machine number (state_of user own) done.sample done.paused) in
@@ -174,10 +174,10 @@ module _ (w : Runner) (number : ℕ) (r : IsSampler w.plan.now.elements number) 
     pub gave_sample : (done : Done) (sample : Sample) (ran_on : Runner) (t : Recorded) (new : Runner) (step : Step) → w.pause ≡ 0 → w.last ≡ None → w.begun ≡ true → done.sample ≡ Some sample
         → IfSome done.sample (λ s. s.label ≡ label_at w.plan.now.elements number)
         → Goes a (piped w.user) [] (over (fine done user)) b → t.items ≡ trace_paused w.trace.items done.paused
-        → new ≡ record w { user = user; order = ran_on.order; units = w.units - 1; owed = Some sample; machine = told sample w.machine; trace = t }
+        → new ≡ record w { user = user; units = w.units - 1; owed = Some sample; machine = told sample w.machine; trace = t }
         → step ≡ SampledStep (entry_of sample) → Gives a b (and_end sampler_run) (standing_of w false) (standing_of new (is_end step)) step
     gave_sample done sample ran_on t new step paused last begun o_is labelled goes items new_is step_is =
-        let n : Runner = record w { user = user; order = ran_on.order; units = w.units - 1; owed = Some sample; machine = told sample w.machine; trace = t } in
+        let n : Runner = record w { user = user; units = w.units - 1; owed = Some sample; machine = told sample w.machine; trace = t } in
         let d : Done = record { sample = Some sample; paused = done.paused } in
         let same : done ≡ d = ap (λ o. record { sample = o; paused = done.paused }) o_is in
         let at_sample : Goes a (piped w.user) [] (over (fine d user)) b = subst (λ k. Goes a (piped w.user) [] (over (fine k user)) b) same goes in
@@ -221,7 +221,7 @@ module _ (w : Runner) (number : ℕ) (r : IsSampler w.plan.now.elements number) 
 
     -- a refusal
     refused_there : (ran_on : Runner) (error : VarError) → CameTo {B = Done} a (piped w.user) b (λ done. over (fine done user)) (over (past_limit user)) (Err error)
-        → IsRefusedAt a sampler_run b w (record w { user = user; order = ran_on.order; units = w.units - 1 }) error
+        → IsRefusedAt a sampler_run b w (record w { user = user; units = w.units - 1 }) error
     refused_there ran_on error came = record {
       state = state_of user own;
       refused = ran (Err error) came;
@@ -231,12 +231,12 @@ module _ (w : Runner) (number : ℕ) (r : IsSampler w.plan.now.elements number) 
 
     -- ---- the same, by the thread between the calls of a step
 
-    module _ (done : Done) (ran_on mid : Runner) (ran_is : ran_on ≡ record w { user = user; order = ran_on.order; units = w.units - 1 }) (items : mid.trace.items ≡ trace_paused ran_on.trace.items done.paused)
+    module _ (done : Done) (ran_on mid : Runner) (ran_is : ran_on ≡ record w { user = user; units = w.units - 1 }) (items : mid.trace.items ≡ trace_paused ran_on.trace.items done.paused)
         (mid_is : mid ≡ record ran_on { trace = mid.trace }) (goes : Goes a (piped w.user) [] (over (fine done user)) b) (paused : w.pause ≡ 0) (last : w.last ≡ None) (begun : w.begun ≡ true) where
       items_are : mid.trace.items ≡ trace_paused w.trace.items done.paused
       items_are = items ∙ ap (λ (r : Runner). trace_paused r.trace.items done.paused) ran_is
 
-      mid_all : mid ≡ record w { user = user; order = ran_on.order; units = w.units - 1; trace = mid.trace }
+      mid_all : mid ≡ record w { user = user; units = w.units - 1; trace = mid.trace }
       mid_all = mid_is ∙ ap (λ (r : Runner). record r { trace = mid.trace }) ran_is
 
       pub sampled_at : (sample : Sample) (new : Runner) (step : Step) → done.sample ≡ Some sample → IfSome done.sample (λ s. s.label ≡ label_at w.plan.now.elements number)
@@ -252,6 +252,6 @@ module _ (w : Runner) (number : ℕ) (r : IsSampler w.plan.now.elements number) 
           subst (λ (r : Runner). GivesNone a b (and_end sampler_run) (standing_of w false) (standing_of (record r { trace = t }) false)) (sym mid_all)
           (gave_none done t paused last begun calm o_is goes (t_items ∙ ap (λ xs. xs ++ NullItem number ∷ []) items_are))
 
-    pub refused_at : (ran_on : Runner) (error : VarError) → ran_on ≡ record w { user = user; order = ran_on.order; units = w.units - 1 }
+    pub refused_at : (ran_on : Runner) (error : VarError) → ran_on ≡ record w { user = user; units = w.units - 1 }
         → CameTo {B = Done} a (piped w.user) b (λ done. over (fine done user)) (over (past_limit user)) (Err error) → IsRefusedAt a sampler_run b w ran_on error
     refused_at ran_on error is came = subst (λ (r : Runner). IsRefusedAt a sampler_run b w r error) (sym is) (refused_there ran_on error came)

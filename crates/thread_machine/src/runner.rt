@@ -36,10 +36,10 @@ use std::alloc::Global;
 use var_functions::{FnState, Props, UserState, VarError, Vars};
 
 /// A thread: its plan and number, the pause before its first variables that is still to come, whether those are set, its
-/// variables and what functions keep, what it keeps of Counters and data sets, the packages of the plan's samplers, what runs
-/// them and the elements that took part in the last one, the machine of moves, the units left of its sample budget, the
-/// sample that is still to be noted, the lock of the section that is still to be entered and of the one that is open, the end
-/// that comes after a section was left for a limit, and its trace.
+/// variables and what functions keep, what it keeps of Counters and data sets, the packages of the plan's samplers and what
+/// runs them, the machine of moves, the units left of its sample budget, the sample that is still to be noted, the lock of the
+/// section that is still to be entered and of the one that is open, the end that comes after a section was left for a limit,
+/// and its trace.
 #[derive(Drop)]
 pub struct Runner<'p> {
     pub plan: &'p Plan,
@@ -50,7 +50,6 @@ pub struct Runner<'p> {
     pub config: ConfigState,
     pub table: NodeTable,
     pub pipeline: Pipeline<'p>,
-    pub order: Vec<u16>,
     pub machine: Machine,
     pub units: u32,
     pub owed: Option<Sample>,
@@ -88,7 +87,6 @@ impl<'p> Runner<'p> {
             },
             config: ConfigState::new(alloc, plan, thread)?,
             table: NodeTable::of(alloc, plan)?,
-            order: Vec::new(alloc),
             machine: Machine::new(alloc, plan, thread)?,
             units: budget,
             owed: None,
@@ -328,7 +326,7 @@ impl<'p> Runner<'p> {
         ensures came { CameTo (O.account outside.old) (pipeline self.old.plan.now.elements (scope_of self.old.plan.now.elements number) number self.old.user)
             (O.account outside.new) (λ done. over (fine done self.new.user)) (over (past_limit self.new.user)) result }
         ensures label { IfOk result (λ done. IfSome done.sample (λ s. s.label ≡ label_at self.old.plan.now.elements number)) }
-        ensures kept { self.new ≡ record self.old { user = self.new.user; order = self.new.order } }
+        ensures kept { self.new ≡ record self.old { user = self.new.user } }
     {
         self.pipeline.run(
             self.plan,
@@ -336,7 +334,6 @@ impl<'p> Runner<'p> {
             number,
             &mut self.user,
             outside,
-            &mut self.order,
         )
     }
 

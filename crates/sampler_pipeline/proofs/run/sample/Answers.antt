@@ -14,15 +14,15 @@ returns-in-Ok-clause-came c = λ a. rw c.in-Some.is
     (then-came a a _ (answering c.args.plan.now.elements c.args.scope.now c.args.sampler c.args.stamp c.in-Some.answer) (λ sample. giving (Some sample)) c.args.state.now c.sample_answer.new.state c.in-Ok.sample
     (λ s. over (fine s c.sample_answer.new.state)) (over (past_limit c.sample_answer.new.state)) (Ok (Some c.in-Ok.sample)) (c.in-Ok.ensures.came a) (goes-nothing a _))
 
-pub returns-in-Some-clause-came : goal.returns-in-Some-clause-came
-returns-in-Some-clause-came c = λ a. rw c.in-Some.is
+pub returns-in-Err-clause-came : goal.returns-in-Err-clause-came
+returns-in-Err-clause-came c = λ a. rw c.in-Some.is
     (then-refused a a (answering c.args.plan.now.elements c.args.scope.now c.args.sampler c.args.stamp c.in-Some.answer) (λ sample. giving (Some sample)) c.args.state.now c.sample_answer.new.state c.in-Err.error (c.in-Err.ensures.came a))
 
-pub returns-clause-came : goal.returns-clause-came
-returns-clause-came c = λ a. rw c.in-None.is (goes-nothing a _)
+pub returns-in-None-clause-came : goal.returns-in-None-clause-came
+returns-in-None-clause-came c = λ a. rw c.in-None.is (goes-nothing a _)
 
-pub returns-clause-later : goal.returns-clause-later
-returns-clause-later c = later_same _
+pub returns-in-None-clause-later : goal.returns-in-None-clause-later
+returns-in-None-clause-later c = later_same _
 
-pub returns-in-Some-clause-cut : goal.returns-in-Some-clause-cut
-returns-in-Some-clause-cut c = λ a none. rw c.in-Some.is (c.in-Err.ensures.cut a (same-error c.in-Err.error NoMemory none))
+pub returns-in-Err-clause-cut : goal.returns-in-Err-clause-cut
+returns-in-Err-clause-cut c = λ a none. rw c.in-Some.is (c.in-Err.ensures.cut a (same-error c.in-Err.error NoMemory none))

@@ -8,21 +8,21 @@ use Rattle.sampler_pipeline.proofs.run.sample_answer.Goals as goal
 
 pub returns-in-Ok-note-clause-came : goal.returns-in-Ok-note-clause-came
 returns-in-Ok-note-clause-came c = λ a.
-    answered-all c.args.plan.now.elements c.args.scope.now c.args.sampler c.args.stamp c.args.answer.now a c.args.state.now c.post_process.new.state c.as_slice.result.now (c.as_slice.ensures.value ∙ ap (λ (s : Scope). s.post) c.scope.view_is) (c.in-Ok.ensures.came a)
+    answered-all c.args.plan.now.elements c.args.scope.now c.args.sampler c.args.stamp c.args.answer a c.args.state.now c.post_process.new.state c.as_slice.result.now (c.as_slice.ensures.value ∙ ap (λ (s : Scope). s.post) c.scope.view_is) (c.in-Ok.ensures.came a)
     c.note.new.state c.in-Ok-assert_all.sample c.in-Ok-assert_all.ensures (c.in-Ok-note.ensures.came a c.in-Ok-assert_all.sample refl)
 
 pub returns-in-Err-note-clause-came : goal.returns-in-Err-note-clause-came
 returns-in-Err-note-clause-came c = λ a.
-    not-noted c.args.plan.now.elements c.args.scope.now c.args.sampler c.args.stamp c.args.answer.now a c.args.state.now c.post_process.new.state c.as_slice.result.now (c.as_slice.ensures.value ∙ ap (λ (s : Scope). s.post) c.scope.view_is) (c.in-Ok.ensures.came a)
+    not-noted c.args.plan.now.elements c.args.scope.now c.args.sampler c.args.stamp c.args.answer a c.args.state.now c.post_process.new.state c.as_slice.result.now (c.as_slice.ensures.value ∙ ap (λ (s : Scope). s.post) c.scope.view_is) (c.in-Ok.ensures.came a)
     c.note.new.state c.in-Ok-assert_all.sample c.in-Err-note.error c.in-Ok-assert_all.ensures (c.in-Err-note.ensures.came a c.in-Ok-assert_all.sample refl)
 
 pub returns-in-Err-assert_all-clause-came : goal.returns-in-Err-assert_all-clause-came
 returns-in-Err-assert_all-clause-came c = λ a.
-    not-judged c.args.plan.now.elements c.args.scope.now c.args.sampler c.args.stamp c.args.answer.now a c.args.state.now c.post_process.new.state c.as_slice.result.now (c.as_slice.ensures.value ∙ ap (λ (s : Scope). s.post) c.scope.view_is) (c.in-Ok.ensures.came a) c.post_process.new.state
+    not-judged c.args.plan.now.elements c.args.scope.now c.args.sampler c.args.stamp c.args.answer a c.args.state.now c.post_process.new.state c.as_slice.result.now (c.as_slice.ensures.value ∙ ap (λ (s : Scope). s.post) c.scope.view_is) (c.in-Ok.ensures.came a) c.post_process.new.state
 
 pub returns-in-Err-clause-came : goal.returns-in-Err-clause-came
 returns-in-Err-clause-came c = λ a.
-    not-posted c.args.plan.now.elements c.args.scope.now c.args.sampler c.args.stamp c.args.answer.now a c.args.state.now c.post_process.new.state
+    not-posted c.args.plan.now.elements c.args.scope.now c.args.sampler c.args.stamp c.args.answer a c.args.state.now c.post_process.new.state
     c.as_slice.result.now c.in-Err.error (c.as_slice.ensures.value ∙ ap (λ (s : Scope). s.post) c.scope.view_is) (c.in-Err.ensures.came a)
 
 pub returns-in-Ok-note-clause-later : goal.returns-in-Ok-note-clause-later
