@@ -172,7 +172,7 @@ fn argument_texts<O: Outside>(
 {
     let mut texts = Vec::new(alloc);
     for argument in args {
-        let mut text = text_with_room(alloc);
+        let mut text = text_for(alloc, argument);
         if let Err(error) = write_pieces(alloc, argument, vars, fns, outside, &mut text) {
             return Err(error);
         }
@@ -183,12 +183,15 @@ fn argument_texts<O: Outside>(
     Ok(texts)
 }
 
-// An empty text with room for one that is not long, where there is memory for it.
-fn text_with_room(alloc: Global) -> Vec<u8>
+// An empty text for what a template stands for, with room for one that is not long, where there is memory for it. A template
+// without pieces needs none.
+fn text_for(alloc: Global, template: &Template) -> Vec<u8>
     ensures { result.items ≡ [] }
 {
     let mut text = Vec::new(alloc);
-    let _wished = text.reserve(USUAL_LENGTH);
+    if !template.pieces.is_empty() {
+        let _wished = text.reserve(USUAL_LENGTH);
+    }
     text
 }
 
@@ -261,7 +264,7 @@ pub fn expand<O: Outside>(
     ensures later { IsLater state.old.fns state.new.fns }
     ensures vars { state.new.vars ≡ state.old.vars }
 {
-    let mut text = text_with_room(alloc);
+    let mut text = text_for(alloc, template);
     match write_pieces(
         alloc,
         template,

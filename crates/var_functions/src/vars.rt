@@ -23,7 +23,7 @@ const MOST_BYTES: usize = 4194304;
 pub struct Vars {
     pairs: BTreeMap<Vec<u8>, Text>,
     bytes: usize,
-    // The name that was put together last. Its memory is for the next one.
+    // Memory in which names are put together.
     joined: Vec<u8>,
 }
 
@@ -65,26 +65,10 @@ fn write_over(alloc: Global, text: &mut Text, value: &[u8]) -> M<()>
     Ok(())
 }
 
-/// Whether a text is three parts, one after another.
-fn is_joined(text: &[u8], prefix: &[u8], name: &[u8], suffix: &[u8]) -> bool
-    ensures { result ≡ true → text.now ≡ prefix.now ++ name.now ++ suffix.now }
-{
-    let Some(rest) = text.strip_prefix(prefix) else {
-        return false;
-    };
-    match rest.strip_suffix(suffix) {
-        Some(middle) => middle == name,
-        None => false,
-    }
-}
-
-/// Makes a text of three parts, one after another. Nothing is written where it is that already.
+/// Makes a text of three parts, one after another.
 fn join(text: &mut Vec<u8>, prefix: &[u8], name: &[u8], suffix: &[u8]) -> M<()>
     ensures { OnOk result (text.new.items ≡ prefix.now ++ name.now ++ suffix.now) }
 {
-    if is_joined(text, prefix, name, suffix) {
-        return Ok(());
-    }
     text.clear();
     text.extend_from_slice(prefix)?;
     text.extend_from_slice(name)?;

@@ -29,19 +29,19 @@ argument_texts-write_pieces-requires g t c =
     let below : weight (get_or c.args.args.now c.loop-argument.argument-index c.argument-item.result) ≤ arguments_weight (arguments_of c.args.args.now) =
     argument_weight c.args.args.now c.loop-argument.argument-index c.argument-item.result c.loop-argument-test.true in
     let same : weight c.argument-item.result ≡ weight (get_or c.args.args.now c.loop-argument.argument-index c.argument-item.result) = ap weight c.argument-item.is in
-    λ κs h. (omega (arith, below, same, c.decreases), (λ a m. h a m, rw c.text_with_room-text.ensures (omega arith)))
+    λ κs h. (omega (arith, below, same, c.decreases), (λ a m. h a m, rw c.text_for-text.ensures (omega arith)))
 
 pub argument_texts-returns-in-Err-clause-came : goal.argument_texts-returns-in-Err-clause-came
 argument_texts-returns-in-Err-clause-came g t c =
     one_argument _ _ _ _ c.loop-argument.texts.items c.write_pieces.new.out.items c.args.vars.now c.args.args.now c.loop-argument.fns c.write_pieces.new.fns c.loop-argument.argument-index c.argument-item.result (Err c.in-Err.error)
-    c.loop-argument-test.true c.argument-item.is c.loop-argument.invariant.goes (rw c.text_with_room-text.ensures at c.in-Err.ensures.came)
+    c.loop-argument-test.true c.argument-item.is c.loop-argument.invariant.goes (rw c.text_for-text.ensures at c.in-Err.ensures.came)
 
 pub argument_texts-returns-in_default-push-clause-came : goal.argument_texts-returns-in_default-push-clause-came
 argument_texts-returns-in_default-push-clause-came g t c =
     by_memory (
       _,
       one_argument _ _ _ _ c.loop-argument.texts.items c.write_pieces.new.out.items c.args.vars.now c.args.args.now c.loop-argument.fns c.write_pieces.new.fns c.loop-argument.argument-index c.argument-item.result (Ok tt)
-          c.loop-argument-test.true c.argument-item.is c.loop-argument.invariant.goes (rw c.text_with_room-text.ensures at c.in_default.ensures.came),
+          c.loop-argument-test.true c.argument-item.is c.loop-argument.invariant.goes (rw c.text_for-text.ensures at c.in_default.ensures.came),
     )
 
 pub argument_texts-loop-argument-preserved : goal.argument_texts-loop-argument-preserved
@@ -50,10 +50,10 @@ argument_texts-loop-argument-preserved g t c =
     record {
       short = rw items (All-push (λ t. length t ≤ most_text) c.loop-argument.texts.items c.write_pieces.new.out.items c.loop-argument.invariant.short c.in_default.ensures.short);
       goes = rw items (one_argument _ _ _ _ c.loop-argument.texts.items c.write_pieces.new.out.items c.args.vars.now c.args.args.now c.loop-argument.fns c.write_pieces.new.fns c.loop-argument.argument-index c.argument-item.result (Ok tt)
-          c.loop-argument-test.true c.argument-item.is c.loop-argument.invariant.goes (rw c.text_with_room-text.ensures at c.in_default.ensures.came));
+          c.loop-argument-test.true c.argument-item.is c.loop-argument.invariant.goes (rw c.text_for-text.ensures at c.in_default.ensures.came));
       later = later_then _ _ _ c.loop-argument.invariant.later c.write_pieces.ensures.later;
       stops = λ to h. c.loop-argument.invariant.stops to (stops_past_argument c.args.vars.now c.args.args.now c.loop-argument.argument-index c.argument-item.result c.loop-argument-test.true c.argument-item.is
-          c.write_pieces.new.out.items _ _ to (rw c.text_with_room-text.ensures at c.in_default.ensures.came) h);
+          c.write_pieces.new.out.items _ _ to (rw c.text_for-text.ensures at c.in_default.ensures.came) h);
     }
 
 pub argument_texts-returns-clause-came : goal.argument_texts-returns-clause-came
@@ -175,12 +175,12 @@ write_pieces-returns-in-Err-clause-later g t c =
 pub argument_texts-returns-in-Err-clause-stops : goal.argument_texts-returns-in-Err-clause-stops
 argument_texts-returns-in-Err-clause-stops g t c =
     lifted c.in-Err.error (λ h. c.loop-argument.invariant.stops _ (stops_in_argument c.args.vars.now c.args.args.now c.loop-argument.argument-index c.argument-item.result c.loop-argument-test.true c.argument-item.is _ _ h))
-    (rw c.text_with_room-text.ensures at c.in-Err.ensures.stops)
+    (rw c.text_for-text.ensures at c.in-Err.ensures.stops)
 
 pub argument_texts-returns-in_default-push-clause-stops : goal.argument_texts-returns-in_default-push-clause-stops
 argument_texts-returns-in_default-push-clause-stops g t c =
     c.loop-argument.invariant.stops _ (stops_past_argument c.args.vars.now c.args.args.now c.loop-argument.argument-index c.argument-item.result c.loop-argument-test.true c.argument-item.is
-    c.write_pieces.new.out.items _ _ _ (rw c.text_with_room-text.ensures at c.in_default.ensures.came) (texts_before _ _ _))
+    c.write_pieces.new.out.items _ _ _ (rw c.text_for-text.ensures at c.in_default.ensures.came) (texts_before _ _ _))
 
 pub write_called-returns-in_default-clause-stops : goal.write_called-returns-in_default-clause-stops
 write_called-returns-in_default-clause-stops g t c = reference_stops _ _ _ _
