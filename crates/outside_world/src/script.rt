@@ -1,6 +1,6 @@
 // An outside that answers from the replies of a plan, with a clock of its own.
 
-ghost use Rattle.std.specs.Prelude.{option_map, ◌≡◌, slice_index, slice_set, map, replicate, IfOk};
+ghost use Rattle.std.specs.Prelude.{option_map, ◌≡◌, ◌+◌, ◌%◌, ◌<◌, slice_index, slice_set, map, replicate, IfOk};
 ghost use Rattle.element_tree.specs.Tree.{replies_of_kind, replies_of_element};
 ghost use Rattle.jm_base.specs.Outside.{fault_count, later};
 ghost use Rattle.outside_world.specs.Worlds.{origin_of};
@@ -88,7 +88,7 @@ impl Outside for ScriptOutside {
         )?;
         self.faults = faults_after(self.faults, &outcome);
         self.clock = later(self.clock, reply.ms);
-        set_place(&mut self.places, sampler, (place + 1) % replies.len());
+        set_place(&mut self.places, sampler, place_after(place, replies.len()));
         Ok(outcome)
     }
 }
@@ -186,6 +186,15 @@ fn later(clock: u64, ms: u32) -> u64
     ensures { result ≡ later clock ms }
 {
     clock.saturating_add(u64::from(ms))
+}
+
+// The place after this one among that many: after the last one comes the first.
+fn place_after(place: usize, count: usize) -> usize
+    requires { place < count }
+    ensures { result ≡ (place + 1) % count }
+{
+    let next = place + 1;
+    if next < count { next } else { 0 }
 }
 
 fn place_of(places: &Vec<usize>, sampler: u16) -> usize

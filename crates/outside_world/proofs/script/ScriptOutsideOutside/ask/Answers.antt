@@ -17,6 +17,6 @@ returns-clause-ok c = rw (← c.self.view_is)
     (asked_some (scripts c.self.inside.replies c.self.inside.clock c.self.inside.places.items) c.args.sampler c.later-self-inside.result c.set_place.new.places.items c.args.request.now
     c.in-Some.reply.now c.in_ok-outcome.outcome
     (rw (← c.replies_at-replies.ensures, ← c.place_of-place.ensures) (sym c.in-Some.ensures)) c.in_ok-outcome.ensures c.later-self-inside.ensures
-    (rw (← c.replies_at-replies.ensures, ← c.place_of-place.ensures) c.set_place.ensures))
+    (rw (← c.replies_at-replies.ensures, ← c.place_of-place.ensures, ← c.place_after.ensures) c.set_place.ensures))
     (told_asked c.self.inside.replies c.args.sampler c.place_of-place.result c.args.request.now c.in_ok-outcome.outcome (Some c.in-Some.reply.now) _ _ (c.in_ok-note_asked-2.ensures.ok c.self.inside.replies)
     (rw (← c.replies_at-replies.ensures) (sym c.in-Some.ensures)) c.in_ok-outcome.ensures) c.faults_after-self-inside.ensures)
