@@ -22,9 +22,9 @@ use thread_machine::TraceItem;
 // back on the way to the sink these are less than 64 KiB.
 const TEXT_ROOM: usize = 16_384;
 
-// How many bytes a line has at most beside its label, its message, its failure and the thread's name: five numbers of up to
-// 20 digits, `false`, nine commas, the quotes around eight fields and the end of the line.
-const LINE_ROOM: usize = 160;
+// How many bytes a line has at most beside its label, its message, its failure and the thread's name: numbers of up to 20, 10,
+// 5, 10 and 20 digits, `false`, nine commas, the quotes around four fields and the end of the line.
+const LINE_ROOM: usize = 88;
 
 /// Prints the header and a line for each sample of a thread's trace, in its order, with the interval in which the sample
 /// was counted. Where memory runs out a prefix of this is out; where the sink fails, too.
