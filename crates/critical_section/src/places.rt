@@ -6,11 +6,14 @@ ghost use Rattle.critical_section.specs.Book.{IsNumbered};
 use crate::rule::{Limits, SeatView, SectionRule};
 use atomic_table::{Closed, Seat, Table};
 use std::alloc::Global;
+use std::sync::atomic::AtomicU64;
 
 /// Locks, each an atomic word: 2 p where p sections are over and none is open, 2 p + 1 where section p is open.
 #[derive(Drop)]
 pub struct Sections {
     pub(crate) table: Table<(), SeatView, Limits, SectionRule, Global>,
+    // How many threads sleep at each lock. No contract speaks of it.
+    pub(crate) sleepers: Vec<AtomicU64>,
     ghost words: { table.shared.table_id.words ≡ table.shared.key.locks },
     ghost vacant: { table.shared.table_id.slots ≡ 0 },
     ghost some: { 1 ≤ table.shared.key.locks },

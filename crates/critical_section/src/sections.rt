@@ -12,7 +12,27 @@ use atomic_table::Table;
 use jm_base::M;
 use std::alloc::Global;
 use std::sync::Wait;
+use std::sync::atomic::{AtomicU64, Ordering};
 use std::thread;
+use std::time::Duration;
+
+// How many tries of a thread that waits are followed by a yield of its processor, and those after them by a sleep.
+const YIELDS: u32 = 64;
+
+// How often a thread that has left a section yields its processor at most until one that slept has entered.
+const HANDING_OVER: u32 = 256;
+
+// How long a sleep lasts at most, in milliseconds, where nobody wakes the thread.
+const LONGEST_SLEEP: u64 = 100;
+
+// No thread sleeps at any of that many locks.
+fn no_sleepers(alloc: Global, locks: u16) -> M<Vec<AtomicU64>> {
+    let mut sleepers = Vec::new(alloc);
+    for _ in 0..locks {
+        sleepers.push(AtomicU64::new(0))?;
+    }
+    Ok(sleepers)
+}
 
 /// What one try gave.
 #[derive(Clone, Copy, PartialEq, Eq, Debug)]
@@ -34,8 +54,9 @@ impl Sections {
     {
         let words = Vec::from_elem(alloc, 0u64, locks as usize)?;
         let limits = Limits { locks, seats };
+        let sleepers = no_sleepers(alloc, locks)?;
         let (table, seat) = Table::of_words(alloc, words.as_slice(), &limits)?;
-        Ok((Sections { table }, SectionSeat { seat }))
+        Ok((Sections { table, sleepers }, SectionSeat { seat }))
     }
 
     /// Makes one more seat, for another thread.
@@ -81,7 +102,8 @@ impl Sections {
         }
     }
 
-    /// Tries until a section of the lock is open, and gives its place. It yields its processor between tries.
+    /// Tries until a section of the lock is open, and gives its place. After each of the first 64 tries it yields its processor,
+    /// and after each further one it sleeps until the section that is open is left, so that a thread that waits burns no processor.
     /// No clause says that it returns, or who enters next.
     pub fn enter<R: Wait>(&self, rt: &R, seat: &mut SectionSeat, lock: u16) -> u64
         requires seat { IsSeatOf self.now seat.old }
@@ -91,16 +113,55 @@ impl Sections {
         ensures seat { IsSeatOf self.now seat.new }
         ensures entered { Enters lock result (view_of seat.old) (view_of seat.new) }
     {
+        let mut tries: u32 = 0;
         for _ in rt.forever() {
-            if let Try::Entered(place) = self.try_enter(seat, lock) {
-                return place;
+            match self.try_enter(seat, lock) {
+                Try::Entered(place) => return place,
+                Try::Busy(seen) if tries >= YIELDS && seen % 2 == 1 => self.sleep(rt, lock, seen),
+                Try::Busy(_) => thread::yield_now(),
             }
-            thread::yield_now();
+            tries = tries.saturating_add(1);
         }
         unreachable!()
     }
 
-    /// Ends the seat's open section of the lock.
+    // Sleeps until a section of the lock is left, at once over where its word is another one than this.
+    fn sleep<R: Wait>(&self, rt: &R, lock: u16, seen: u64)
+        requires { lock < locks_of self.now }
+    {
+        let Some(sleepers) = self.sleepers.get(usize::from(lock)) else {
+            return;
+        };
+        let low = (seen % (1 << 32)) as u32;
+        let longest = Duration::from_millis(LONGEST_SLEEP);
+        sleepers.fetch_add(1, Ordering::SeqCst);
+        self.table
+            .shared
+            .park_timeout(rt, lock as usize, low, longest);
+        sleepers.fetch_sub(1, Ordering::SeqCst);
+    }
+
+    // Where a thread sleeps at the lock, wakes one, and lets it enter first.
+    fn hand_over(&self, lock: u16)
+        requires { lock < locks_of self.now }
+    {
+        let Some(sleepers) = self.sleepers.get(usize::from(lock)) else {
+            return;
+        };
+        if sleepers.load(Ordering::SeqCst) == 0 {
+            return;
+        }
+        self.table.shared.wake_one(lock as usize);
+        for _ in 0..HANDING_OVER {
+            if self.table.shared.peek(lock as usize) % 2 == 1 {
+                return;
+            }
+            thread::yield_now();
+        }
+    }
+
+    /// Ends the seat's open section of the lock. Where threads sleep at the lock it wakes one, and yields its processor until that
+    /// one has entered, 256 times at most.
     pub fn leave(&self, seat: &mut SectionSeat, lock: u16)
         requires seat { IsSeatOf self.now seat.old }
         requires lock { lock < locks_of self.now }
@@ -111,6 +172,7 @@ impl Sections {
         self.table
             .shared
             .fetch_add::<Leaves>(&mut seat.seat, lock as usize, 1);
+        self.hand_over(lock);
     }
 
     /// The first seat takes another in, with its list.
@@ -137,7 +199,7 @@ impl Sections {
     {
         let SectionSeat { mut seat } = seat;
         let lists = self.table.shared.split_seat::<Telling>(&mut seat);
-        let Sections { table } = self;
+        let Sections { table, sleepers: _ } = self;
         let closed = table.close_with(seat);
         SectionBook { closed, lists }
     }
