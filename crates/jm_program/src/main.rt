@@ -9,6 +9,8 @@ use jm_base::{M, NoMemory};
 use jm_command::{Status, start};
 use outside_world::RealTicker;
 use std::alloc::Global;
+use std::net::UdpSocket;
+use std::os::fd::AsRawFd;
 use std::process::ExitCode;
 use std::{env, io};
 
@@ -26,9 +28,26 @@ fn words_of(rt: &HostRuntime, alloc: Global) -> M<Vec<String>> {
     Ok(words)
 }
 
+// How many files a process has open from its start: standard input, output and error, under the numbers from 0.
+const STANDARD_FILES: i32 = 3;
+
+// Takes the numbers of those standard files that are closed, for as long as the answer is kept. The system gives each new socket
+// the lowest number that is free, so that a report would go to a server where standard error is closed. A write to a socket
+// without a peer fails instead.
+fn closed_files(rt: &HostRuntime, alloc: Global) -> M<Vec<UdpSocket>> {
+    let mut taken = Vec::new(alloc);
+    for _ in 0..STANDARD_FILES {
+        match UdpSocket::bind(rt, "127.0.0.1:0") {
+            Ok(socket) if socket.as_raw_fd() < STANDARD_FILES => taken.push(socket)?,
+            _ => return Ok(taken),
+        }
+    }
+    Ok(taken)
+}
+
 fn main(rt: HostRuntime) -> ExitCode {
     let alloc = rt.alloc();
-    let Ok(words) = words_of(&rt, alloc) else {
+    let (Ok(words), Ok(_closed)) = (words_of(&rt, alloc), closed_files(&rt, alloc)) else {
         return ExitCode::from(Status::Memory.number());
     };
     let mut plan = FromRead::new(rt.stdin());
