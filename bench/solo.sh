@@ -1,9 +1,7 @@
 #!/bin/sh
 # Prints how fast `solo` runs: samples a second from the start of the process to its exit, the peak of its memory,
 # how long a loop without end over an empty controller takes to meet its limit of rounds, what a critical section costs beside
-# a Simple Controller, and how much one long list of children costs beside many short ones. Over nested Loops, an If
-# and a ForEach with templates at least 250,000 samples a second is the aim, and where an element of each class applies to
-# the sampler at least 150,000.
+# a Simple Controller, and how much one long list of children costs beside many short ones.
 # Usage: bench/solo.sh    (it needs python3, for the clock and the memory of a child process)
 cd "$(dirname "$0")/.." || exit 1
 ./jm solo </dev/null >/dev/null 2>&1

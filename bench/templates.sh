@@ -37,7 +37,7 @@ fn repeated(alloc: Global, unit: &[u8], count: usize) -> M<Vec<u8>> {
     Ok(out)
 }
 
-/// Reads a text so many times and gives the nanoseconds of processor time that all took.
+/// Reads a text that many times and gives the nanoseconds of processor time that all took.
 fn nanoseconds<R: CpuClock + AllocGlobal>(rt: &R, text: &[u8], rounds: u32) -> Result<u64> {
     let start = rt.thread_cpu_time()?;
     for _ in 0..rounds {

@@ -1,4 +1,4 @@
-/* Runs a command so many times, its output thrown away, and prints a line for each run: its time and its processor
+/* Runs a command that many times, its output thrown away, and prints a line for each run: its time and its processor
    time, both in nanoseconds.
    Usage: timed RUNS COMMAND [WORD ...] */
 #define _GNU_SOURCE
