@@ -16,9 +16,10 @@ use Rattle.element_tree.specs.Tree.{Tree, threads_of}
 use Rattle.interval_tables.specs.declared.report.Report.{Report}
 use Rattle.outside_world.specs.Tickers.{Ticks, with_period}
 use Rattle.thread_machine.specs.declared.trace.TraceItem.{TraceItem}
-use Rattle.reporter_loop.specs.Ticked.{HasTickedWhere}
+use Rattle.reporter_loop.specs.Ticked.{HasTickedWhere, TickedSoFar}
 use Rattle.run_engine.specs.Served.{AreServed}
 use Rattle.run_engine.specs.Stops.{StopHasCause}
+use Rattle.run_engine.proofs.Seqs.{range_length}
 use Rattle.command_words.specs.CommandGrammar.{Word, Given, is_word, given_for, value_of}
 use Rattle.command_words.specs.Commands.{run, run_of, asked_of, command_of, names_run}
 use Rattle.command_words.proofs.OptionLaws.{same_text}
@@ -178,6 +179,17 @@ cut_start (Some (Make m)) ticks after e alone = (cut_at_start (Some (Make m)) e,
 cut_start (Some (Solo o)) ticks after e alone = (cut_at_start (Some (Solo o)) e, alone)
 cut_start (Some (Weave w)) ticks after e alone = (cut_at_start (Some (Weave w)) e, alone)
 cut_start (Some (Run r)) ticks after e alone = inl (nothing_at_start (Some (Run r)) e, alone)
+
+-- the ticker was set, and then gave no more true answers than it may
+pub ticked_so_far : (ms : ℕ) (before between after : Option Ticks) → between ≡ option_map (with_period ms) before → (n : ℕ) × (n ≤ 16777216) × TickedSoFar n between after
+    → (n : ℕ) × (n ≤ 16777216) × TickedSoFar n (option_map (with_period ms) before) after
+ticked_so_far ms before between after set ticked = subst (λ (b : Option Ticks). (n : ℕ) × (n ≤ 16777216) × TickedSoFar n b after) set ticked
+
+-- as many outsides were opened as were served
+pub few_opened : (most : ℕ) (opened before closed : List ℕ) → (n : ℕ) × (n ≤ most) × AreServed n opened before closed → length opened ≤ most
+few_opened most opened before closed h =
+    let many : length opened ≡ h.0 = ap length h.2.opened_are ∙ range_length 0 h.0 in
+    let low : h.0 ≤ most = h.1 in omega arith
 
 -- no outside was opened
 pub none_served : (opened closed : List ℕ) → opened ≡ [] → (n : ℕ) × AreServed n opened closed closed

@@ -21,9 +21,10 @@ use Rattle.trace_output.specs.Texts.{traces_text, end_of, ends_text}
 use Rattle.reporter_loop.specs.ReportsWritten.{texts_of, WritesPrefix}
 use Rattle.reporter_loop.specs.Ticked.{HasTickedWhere, TickedSoFar}
 use Rattle.run_engine.specs.Followed.{AllFollow, AreFollowed}
-use Rattle.run_engine.specs.Joins.{AllEnd}
+use Rattle.run_engine.specs.Joins.{AllEnd, AllLabelled}
 use Rattle.run_engine.specs.Keeps.{all_entries}
 use Rattle.run_engine.specs.Paired.{pairs_of}
+use Rattle.run_engine.specs.SectionsRun.{AllLeave}
 use Rattle.run_engine.specs.Stops.{StopHasCause}
 use Rattle.command_words.specs.declared.command.Command.{Command}
 use Rattle.command_words.specs.declared.command.Command.TheVariants.{Check, Make, Solo, Weave, Run}
@@ -78,13 +79,16 @@ abbrev pub before_last : List Report → List Report
 before_last reports = take (length reports - 1) reports
 
 -- An outside was opened for each thread, and each thread has a trace that follows what its outside was told, where the world
--- tells. Each sample of each trace counts in exactly one report, that of the interval which its result line shows; and in the
--- total, which all reports sum to. A thread was stopped only where another has ended the test, or a report before the last has
--- more errors than the limit that was asked for.
+-- tells. A trace ends once, leaves each section that it enters, and the labels of its samples are the plan's: so each sample of
+-- each trace counts in exactly one report, that of the interval which its result line shows; and in the total, which all reports
+-- sum to. A thread was stopped only where another has ended the test, or a report before the last has more errors than the limit
+-- that was asked for.
 pub record IsHistory (r : RunOf) (plan : Tree) (around : Around) (traces : List (List TraceItem)) (reports : List Report) (total : Report) : Type 0 where
   pub opened : around.opened ≡ range_with_len 0 (length (threads_of plan))
   pub threads : length traces ≡ length (threads_of plan)
   pub ends : AllEnd traces
+  pub sections : AllLeave traces
+  pub labelled : AllLabelled (length (labels_of plan.elements)) traces
   pub follows : around.tells ≡ true → AllFollow plan (run_options r) around.told traces
   pub parted : Partition (length (labels_of plan.elements)) (pairs_of traces) reports
   pub total_is : total.rows ≡ sum_of (length (labels_of plan.elements)) (all_entries (pairs_of traces))
@@ -131,10 +135,11 @@ abbrev pub HasHeardSoFar : RunOf → Tree → Around → Type 0
 HasHeardSoFar r plan after = after.tells ≡ true → AreFollowed plan (run_options r) after.opened after.told
 
 -- A sink has failed while the threads ran: the reports hold a prefix of the lines of reports that are numbered from 0, and the
--- results nothing.
+-- results nothing. No more outsides were opened than the plan has threads.
 pub record RunFailed (r : RunOf) (plan : Tree) (ticks : Option Ticks) (after : Around) (old new : Sinks) : Type 0 where
   pub begun : WritesPrefix (report_text plan) old.reports new.reports
   pub ticked : HasTickedSoFar r ticks after
+  pub few : length after.opened ≤ length (threads_of plan)
   pub heard : HasHeardSoFar r plan after
   pub rose : Rose old.report_faults new.report_faults
   pub nothing : NoResults old new
@@ -164,6 +169,7 @@ pub record TailFailed (r : RunOf) (plan : Tree) (ticks : Option Ticks) (after : 
 pub record RunCut (r : RunOf) (plan : Tree) (ticks : Option Ticks) (after : Around) (old new : Sinks) : Type 0 where
   pub begun : WritesPrefix (report_text plan) old.reports new.reports
   pub ticked : HasTickedSoFar r ticks after
+  pub few : length after.opened ≤ length (threads_of plan)
   pub heard : HasHeardSoFar r plan after
   pub report_calm : new.report_faults ≡ old.report_faults
   pub nothing : NoResults old new

@@ -67,7 +67,8 @@ pub fn start<
         (edges (S.left plan.new) (S.faults plan.new) (O.written results.new) (O.faults results.new) (E.written reports.new) (E.faults reports.new) (G.account patterns.new))
         result }
 
-    // The outsides that were opened are those of the first threads, and each of them was closed.
+    // The outsides that were opened are those of the first threads, and each of them was closed. There are no more than the
+    // plan has threads: so says `ends`.
     ensures served { (n : ℕ) × AreServed n (W.opened world.new) (W.closed world.old) (W.closed world.new) }
 {
     start_words(

@@ -133,9 +133,9 @@ fn one_turn<R: Wait, T: Ticker, K: Sink, F: Fn(&Report, u64) -> Verdict>(
 }
 
 /// Closes intervals as the ticker says, until all workers have ended, 16,777,216 intervals are closed, or a report was not
-/// written whole. The ticker is asked at least once. Each closed report is written at once, and in `report` the last of them
-/// is left. When a report was written whole the hook is asked of it, and where that answers `Stop`, stop is raised. The seat
-/// is handed back in each case.
+/// written whole. The ticker is asked at least once. Each closed report is written at once; `report` is the room that they take
+/// in turn. When a report was written whole the hook is asked of it, and where that answers `Stop`, stop is raised. The seat is
+/// handed back in each case.
 pub fn report_until<R: Wait, T: Ticker, K: Sink, F: Fn(&Report, u64) -> Verdict>(
     rt: &R,
     alloc: Global,

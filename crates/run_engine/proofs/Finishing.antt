@@ -7,19 +7,16 @@ use Rattle.element_tree.specs.Tree.{Tree}
 use Rattle.jm_meaning.specs.Beginning.{Options}
 use Rattle.outside_world.specs.Scripted.{told_when}
 use Rattle.thread_machine.specs.declared.trace.TraceItem.{TraceItem}
-use Rattle.thread_machine.specs.Follows.{Follows, HasRun}
+use Rattle.thread_machine.specs.Follows.{IsEndedBy, HasRun}
 use Rattle.recorder_core.specs.declared.places.Recorder.{Recorder}
 use Rattle.critical_section.specs.declared.places.Sections.{Sections}
 use Rattle.run_engine.specs.declared.job.Job.{Job}
-use Rattle.run_engine.specs.Followed.{EndsWith, FollowsWhere}
+use Rattle.run_engine.specs.Followed.{FollowsWhere}
 use Rattle.run_engine.specs.JobsRan.{HasEnded, RunsToEnd, JobRan, AllRan, AllAmong}
 use Rattle.run_engine.specs.Made.{IsFresh, AllFresh}
 use Rattle.run_engine.specs.Joins.{IsDone, AllDone}
 
 module _ (start now : Account) (plan : Tree) (thread : ℕ) (options : Options) (trace : List TraceItem) where
-  ended : (end : End) → Follows start now plan thread options trace end → EndsWith trace end
-  ended end f = record { before = f.last.0; last = f.last.1 }
-
   -- a thread that has run to its end has ended
   pub has_ended : (end : End) → HasRun start now plan thread options trace end → HasEnded start now plan thread options trace end
   has_ended Completed h = h
@@ -31,15 +28,15 @@ module _ (start now : Account) (plan : Tree) (thread : ℕ) (options : Options) 
   has_ended ValueLimit h = h
   has_ended NoMemory h = h
 
-  ends_so : (end : End) → HasEnded start now plan thread options trace end → EndsWith trace end
-  ends_so Completed h = ended Completed h
-  ends_so StopThread h = ended StopThread h
-  ends_so StopTest h = ended StopTest h
-  ends_so Stopped h = record { before = h.last.0; last = h.last.1 }
-  ends_so SampleLimit h = ended SampleLimit h
-  ends_so RoundLimit h = ended RoundLimit h
-  ends_so ValueLimit h = ended ValueLimit h
-  ends_so NoMemory h = record { before = h.last.0; last = h.last.1 }
+  ends_so : (end : End) → HasEnded start now plan thread options trace end → IsEndedBy trace end
+  ends_so Completed h = h.last
+  ends_so StopThread h = h.last
+  ends_so StopTest h = h.last
+  ends_so Stopped h = h.last
+  ends_so SampleLimit h = h.last
+  ends_so RoundLimit h = h.last
+  ends_so ValueLimit h = h.last
+  ends_so NoMemory h = h.last
 
   module _ (nothing : start.told ≡ Some []) where
     follows_so : (end : End) → HasEnded start now plan thread options trace end → FollowsWhere plan thread options now.told trace
@@ -65,6 +62,7 @@ module _ {O : Type 0} (account : O → Account) (r : Recorder) (plan : Tree) (op
         plan_is = h.plan ∙ f.plan_is;
         origin = h.outside.origin ∙ f.opened.origin;
         made = h.made ∙ f.new.made;
+        over = h.over;
         rises = h.rises;
         marked = h.marked;
         whole = record { end = runs.0; ends = ends_so (account before.out) (account after.out) plan i options after.worker.trace runs.0 runs.1; keeps = h.keeps };

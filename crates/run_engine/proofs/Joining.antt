@@ -5,14 +5,14 @@ use Rattle.jm_base.specs.Outside.{Account}
 use Rattle.element_tree.specs.Tree.{Tree}
 use Rattle.jm_meaning.specs.Beginning.{Options}
 use Rattle.thread_machine.specs.declared.trace.TraceItem.{TraceItem}
+use Rattle.thread_machine.specs.Follows.{IsEndedBy}
 use Rattle.phaser_core.specs.declared.view.ReporterView.{ReporterView}
 use Rattle.phaser_core.specs.Views.{made_known, AllJoined}
 use Rattle.phaser_words.specs.RecorderKinds.{lists_of}
 use Rattle.recorder_core.specs.declared.places.Recorder.{Recorder}
 use Rattle.recorder_core.specs.RecorderSeats.{writes, numbers_of}
 use Rattle.run_engine.specs.declared.job.Job.{Job}
-use Rattle.run_engine.specs.Followed.{EndsWith}
-use Rattle.run_engine.specs.Joins.{joined_of, trace_of, number_of, AllDone, AllEnd}
+use Rattle.run_engine.specs.Joins.{joined_of, numbers_in, trace_of, number_of, AllDone, AllEnd}
 use Rattle.run_engine.specs.Keeps.{KeepsTo, AllKeep}
 use Rattle.run_engine.specs.Made.{made_at}
 use Rattle.run_engine.specs.Marks.{IsMarked, AllMarked}
@@ -25,6 +25,11 @@ module _ {O : Type 0} where
   pub lists_are : (js : List (Job O)) → lists_of (map joined_of js) ≡ pairs_of (map trace_of js)
   lists_are [] = refl
   lists_are (j ∷ js) = ap (λ l. l ∷ lists_of (map joined_of js)) j.listed ∙ ap (λ ls. pairs j.worker.trace ∷ ls) (lists_are js)
+
+  -- their writers have the numbers of their threads
+  pub numbers_are : (js : List (Job O)) → numbers_in (map joined_of js) ≡ map number_of js
+  numbers_are [] = refl
+  numbers_are (j ∷ js) = ap (λ (n : ℕ). n ∷ numbers_in (map joined_of js)) j.numbered ∙ ap (λ ns. j.number ∷ ns) (numbers_are js)
 
   none_made : (js : List (Job O)) → ((i : ℕ) (d : Job O) → i < length js → (writes (slice_index_or js i d).seat).made ≡ 0) → made_known (map joined_of js) ≡ 0
   none_made [] all = refl
@@ -50,7 +55,7 @@ module _ {O : Type 0} where
   keep_all labels budget (j ∷ js) all =
       (subst (KeepsTo labels budget) j.listed (all 0 j (omega arith)), keep_all labels budget js (λ i d low. all (suc i) d (omega arith)))
 
-  ends_all : (js : List (Job O)) → ((i : ℕ) (d : Job O) → i < length js → (end : End) × EndsWith (trace_of (slice_index_or js i d)) end) → AllEnd (map trace_of js)
+  ends_all : (js : List (Job O)) → ((i : ℕ) (d : Job O) → i < length js → (end : End) × IsEndedBy (trace_of (slice_index_or js i d)) end) → AllEnd (map trace_of js)
   ends_all [] all i d low = absurd (omega arith)
   ends_all (j ∷ js) all zero d low = all 0 j (omega arith)
   ends_all (j ∷ js) all (suc i) d low = ends_all js (λ k e l. all (suc k) e (omega arith)) i d (omega arith)

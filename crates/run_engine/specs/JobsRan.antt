@@ -1,5 +1,5 @@
 -- A worker before its run, and after.
-use Rattle.std.specs.Prelude.{◌≡◌, ℕ, ◌+◌, ◌≤◌, ◌<◌, false, List, [], Some, None, length, slice_index_or}
+use Rattle.std.specs.Prelude.{◌≡◌, ℕ, ◌+◌, ◌≤◌, ◌<◌, false, true, List, [], Some, None, length, slice_index_or}
 use Rattle.jm_base.specs.declared.types.End.{End}
 use Rattle.jm_base.specs.declared.types.End.TheVariants.{Completed, StopThread, StopTest, Stopped, SampleLimit, RoundLimit, ValueLimit, NoMemory}
 use Rattle.jm_base.specs.declared.types.Heard.{Heard}
@@ -56,6 +56,7 @@ pub record CanRun {O : Type 0} (r : Recorder) (j : Job O) : Type 0 where
 -- it has run to its end; the seat, the outside and the plan are those of the start
 pub record JobRan {O : Type 0} (account : O → Account) (r : Recorder) (before after : Job O) : Type 0 where
   pub number : after.number ≡ before.number
+  pub over : after.worker.ended ≡ true
   pub rises : Rises after.worker.trace
   pub same_sections : after.sections.now ≡ before.sections.now
   pub seat : IsWriter r after.seat

@@ -1,10 +1,11 @@
 -- What the reporter takes in when workers are joined.
-use Rattle.std.specs.Prelude.{◌≡◌, ℕ, ◌<◌, Bool, true, List, Some, length, slice_index_or, All}
+use Rattle.std.specs.Prelude.{◌≡◌, ℕ, ◌<◌, Bool, true, List, Some, length, map, slice_index_or, All}
 use Rattle.jm_base.specs.Outside.{Account}
 use Rattle.element_tree.specs.Tree.{Tree}
 use Rattle.jm_meaning.specs.Beginning.{Options}
 use Rattle.thread_machine.specs.declared.trace.TraceItem.{TraceItem}
 use Rattle.thread_machine.specs.Bare.{IsLabelled}
+use Rattle.thread_machine.specs.Follows.{IsEndedBy}
 use Rattle.phaser_core.specs.declared.view.Joined.{Joined}
 use Rattle.phaser_core.specs.declared.view.ReporterView.{ReporterView}
 use Rattle.phaser_core.specs.Views.{Pair, left_of}
@@ -15,11 +16,15 @@ use Rattle.run_engine.specs.Made.{made_at}
 use Rattle.run_engine.specs.Keeps.{KeepsTo}
 use Rattle.run_engine.specs.Marks.{IsMarked}
 use Rattle.run_engine.specs.SectionsRun.{Rises}
-use Rattle.run_engine.specs.Followed.{EndsWith, FollowsWhere}
+use Rattle.run_engine.specs.Followed.{FollowsWhere}
 use Rattle.jm_base.specs.declared.types.End.{End}
 
 abbrev pub joined_of : {O : Type 0} → Job O → Joined
 joined_of j = left_of (writes j.seat)
+
+-- the numbers of joined writers, in their order
+abbrev pub numbers_in : List Joined → List ℕ
+numbers_in joined = map (λ (j : Joined). j.number) joined
 
 abbrev pub trace_of : {O : Type 0} → Job O → List TraceItem
 trace_of j = j.worker.trace
@@ -38,7 +43,7 @@ pub record OnlyJoined (r s : ReporterView) : Type 0 where
 -- a trace with its end, whose samples keep to the recorder's numbers
 pub record IsWholeTrace (labels budget : ℕ) (trace : List TraceItem) (list : List Pair) : Type 0 where
   pub end : End
-  pub ends : EndsWith trace end
+  pub ends : IsEndedBy trace end
   pub keeps : KeepsTo labels budget list
 
 -- a worker of this thread that has run and can be taken in
@@ -48,6 +53,7 @@ pub record IsDone {O : Type 0} (account : O → Account) (r : Recorder) (plan : 
   pub plan_is : j.worker.plan ≡ plan
   pub origin : (account j.out).origin ≡ Some (identity, i)
   pub made : (writes j.seat).made ≡ made_at count i
+  pub over : j.worker.ended ≡ true
   pub rises : Rises j.worker.trace
   pub marked : IsMarked (writes j.seat).raised (writes j.seat).saw j.worker.trace
   pub whole : IsWholeTrace (numbers_of r).labels (numbers_of r).budget j.worker.trace (writes j.seat).list
@@ -61,6 +67,6 @@ AllDone account r plan options identity tells count jobs =
 abbrev pub AllLabelled : ℕ → List (List TraceItem) → Type 0
 AllLabelled labels traces = (i : ℕ) (d : List TraceItem) → i < length traces → All (IsLabelled labels) (slice_index_or traces i d)
 
--- each trace has its end
+-- each trace has its end, which is its last item and no other
 abbrev pub AllEnd : List (List TraceItem) → Type 0
-AllEnd traces = (i : ℕ) (d : List TraceItem) → i < length traces → (end : End) × EndsWith (slice_index_or traces i d) end
+AllEnd traces = (i : ℕ) (d : List TraceItem) → i < length traces → (end : End) × IsEndedBy (slice_index_or traces i d) end

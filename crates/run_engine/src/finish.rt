@@ -48,6 +48,8 @@ pub fn finish_run<K: Sink>(
     requires none { total.rows ≡ sum_of (length (labels_of ask.now.plan.now.elements)) [] }
     ensures traces { IfOk result (λ b. b.traces ≡ traces.items) }
     ensures lists { IfOk result (λ b. books_of b.books ≡ reports seat) }
+    ensures intervals { IfOk result (λ b. b.books.intervals ≡ length (all_reports_of b.books)) }
+    ensures writers { IfOk result (λ b. b.books.writers ≡ length (books_of b.books).joined) }
     ensures stop { OnOk result (StopWasRaised (reports seat)) }
     ensures parted { IfOk result (λ b. Partition (length (labels_of ask.now.plan.now.elements)) (pairs_of b.traces) (all_reports_of b.books)) }
     ensures total { IfOk result (λ b. b.total.rows ≡ sum_of (length (labels_of ask.now.plan.now.elements)) (all_entries (pairs_of b.traces))) }

@@ -11,11 +11,11 @@ ghost use Rattle.recorder_core.specs.RecorderSeats.{reports, numbers_of, IsRepor
 ghost use Rattle.run_engine.specs.Asked.{options_of};
 ghost use Rattle.run_engine.specs.Followed.{AllFollow};
 ghost use Rattle.run_engine.specs.JobsRan.{AllAmong};
-ghost use Rattle.run_engine.specs.Joins.{joined_of, trace_of, OnlyJoined, AllDone, AllEnd, AllLabelled};
+ghost use Rattle.run_engine.specs.Joins.{joined_of, numbers_in, trace_of, OnlyJoined, AllDone, AllEnd, AllLabelled};
 ghost use Rattle.run_engine.specs.Keeps.{AllKeep};
 ghost use Rattle.run_engine.specs.Marks.{AllMarked};
 ghost use Rattle.run_engine.specs.Paired.{pairs_of};
-ghost use Rattle.run_engine.specs.SectionsRun.{sections_of_all, AllRise, HasTaken};
+ghost use Rattle.run_engine.specs.SectionsRun.{sections_of_all, AllRise, AllLeave, HasTaken};
 
 use crate::ask::RunAsk;
 use crate::job::Job;
@@ -44,6 +44,7 @@ fn join_each<'p, 's, W: World>(
     requires first { IsSeatOf sections.now first.old × IsFirst (view_of first.old) }
     ensures taken { HasTaken sections.now (view_of first.old) (sections_of_all traces.new.items) first.new }
     ensures rising { AllRise traces.new.items }
+    ensures sections { AllLeave traces.new.items }
     ensures seat { IsReporter recorder.now seat.new }
     ensures only { OnlyJoined (reports seat.old) (reports seat.new) }
     ensures joined { (reports seat.new).joined ≡ (reports seat.old).joined ++ map joined_of jobs.entry.items }
@@ -94,9 +95,11 @@ pub fn join_all<'p, 's, W: World>(
     requires makes { IsSeatOf sections.now first.old × IsFirst (view_of first.old) }
     ensures taken { HasTaken sections.now (view_of first.old) (sections_of_all traces.new.items) first.new }
     ensures rising { AllRise traces.new.items }
+    ensures sections { AllLeave traces.new.items }
     ensures seat { IsReporter recorder.now seat.new }
     ensures only { OnlyJoined (reports seat.old) (reports seat.new) }
     ensures joined { AllJoined (reports seat.new) }
+    ensures numbers { numbers_in (reports seat.new).joined ≡ range_with_len 0 count }
     ensures lists { lists_of (reports seat.new).joined ≡ pairs_of traces.new.items }
     ensures keep { AllKeep (numbers_of recorder.now).labels (numbers_of recorder.now).budget (pairs_of traces.new.items) }
     ensures ends { (length traces.new.items ≡ count) × AllEnd traces.new.items }

@@ -2,6 +2,7 @@
 
 ghost use Rattle.std.specs.Prelude.{◌≡◌, ◌<◌, ◌≤◌, ◌+◌, ◌*◌, ◌-◌, ◌^◌, [], ℕ, false, true, length, vec_capacity, IfOk, IfErr, OnOk, OnErr};
 ghost use Rattle.std.specs.Io.KnownBytes.{Appends};
+ghost use Rattle.std.specs.List.{range_with_len};
 ghost use Rattle.element_tree.specs.Names.{labels_of, locks_of};
 ghost use Rattle.element_tree.specs.Tree.{threads_of};
 ghost use Rattle.critical_section.specs.SectionSeats.{locks_of as locks_in, seats_of};
@@ -17,11 +18,11 @@ ghost use Rattle.reporter_loop.specs.Ticked.{HasTickedWhere, TickedSoFar};
 ghost use Rattle.reporter_loop.specs.ReportsWritten.{texts_of, WritesPrefix};
 ghost use Rattle.run_engine.specs.Asked.{options_of};
 ghost use Rattle.run_engine.specs.Followed.{AllFollow, AreFollowed};
-ghost use Rattle.run_engine.specs.Joins.{AllEnd, AllLabelled};
+ghost use Rattle.run_engine.specs.Joins.{AllEnd, AllLabelled, numbers_in};
 ghost use Rattle.run_engine.specs.Keeps.{all_entries};
 ghost use Rattle.run_engine.specs.Marks.{AllMarked};
 ghost use Rattle.run_engine.specs.Paired.{pairs_of};
-ghost use Rattle.run_engine.specs.SectionsRun.{IsFirstSeat, AreNumbered, AllRise};
+ghost use Rattle.run_engine.specs.SectionsRun.{IsFirstSeat, AreNumbered, AllRise, AllLeave};
 ghost use Rattle.run_engine.specs.Served.{AreServed};
 ghost use Rattle.run_engine.specs.Stops.{StopHasCause};
 
@@ -121,8 +122,8 @@ pub fn run_threads<
     ensures world { OnOk result (AreServed (length (threads_of ask.now.plan.now)) (W.opened world.new) (W.closed world.old) (W.closed world.new)) }
     ensures closed { (n : ℕ) × (n ≤ length (threads_of ask.now.plan.now)) × AreServed n (W.opened world.new) (W.closed world.old) (W.closed world.new) }
 
-    // A trace for each thread, which has its end and follows what the thread's outside was told, where the world tells. Its
-    // writer raised stop exactly where it ends with StopTest, and saw stop exactly where it ends with Stopped.
+    // A trace for each thread, whose last item is its only end, and which follows what the thread's outside was told, where the
+    // world tells. Its writer raised stop exactly where it ends with StopTest, and saw stop exactly where it ends with Stopped.
     ensures ends { IfOk result (λ b. (length b.traces ≡ length (threads_of ask.now.plan.now)) × AllEnd b.traces) }
     ensures follows { IfOk result (λ b. W.tells world.old ≡ true → AllFollow ask.now.plan.now (options_of ask.now) (W.told world.new) b.traces) }
     ensures marks { IfOk result (λ b. AllMarked (books_of b.books).joined b.traces) }
@@ -132,16 +133,24 @@ pub fn run_threads<
     // thread that was not started, the trace of one that is cut before its first event.
     ensures heard { W.tells world.old ≡ true → AreFollowed ask.now.plan.now (options_of ask.now) (W.opened world.new) (W.told world.new) }
 
-    // Of each lock, the places of its sections in all traces are the numbers below how many there are, each once, and they
-    // rise within each trace.
+    // Within each trace a section is entered where none is open, and none is open at its end. Of each lock, the places of its
+    // sections in all traces are the numbers below how many there are, each once, and they rise within each trace.
+    ensures sections { IfOk result (λ b. AllLeave b.traces) }
     ensures places { IfOk result (λ b. AreNumbered (length (locks_of ask.now.plan.now.elements)) b.traces) }
     ensures rising { IfOk result (λ b. AllRise b.traces) }
 
-    // Each sample of each trace counts in exactly one report, which is that of its interval, and in the total.
+    // The joined writers are those of the threads, in the threads' order, and each has recorded just the samples of its trace.
+    ensures numbers { IfOk result (λ b. numbers_in (books_of b.books).joined ≡ range_with_len 0 (length (threads_of ask.now.plan.now))) }
     ensures books { IfOk result (λ b. lists_of (books_of b.books).joined ≡ pairs_of b.traces) }
+
+    // Each sample of each trace counts in exactly one report, which is that of its interval, and in the total.
     ensures parted { IfOk result (λ b. Partition (length (labels_of ask.now.plan.now.elements)) (pairs_of b.traces) (all_reports_of b.books)) }
     ensures total { IfOk result (λ b. b.total.rows ≡ sum_of (length (labels_of ask.now.plan.now.elements)) (all_entries (pairs_of b.traces))) }
     ensures bounds { IfOk result (λ b. IsInBounds b.total.rows) }
+
+    // The books tell how many reports there are, and how many writers were joined.
+    ensures intervals { IfOk result (λ b. b.books.intervals ≡ length (all_reports_of b.books)) }
+    ensures writers { IfOk result (λ b. b.books.writers ≡ length (books_of b.books).joined) }
 
     // The sink holds the text of every report, or a prefix of the text of reports that are numbered from 0.
     ensures written { IfOk result (λ b. Appends (K.written reports.old) (K.written reports.new) (texts_of (report_text ask.now.plan.now) (all_reports_of b.books))) }

@@ -1,6 +1,6 @@
 // The loop of one worker.
 
-ghost use Rattle.std.specs.Prelude.{◌≡◌, ◌<◌, ◌≤◌, ◌+◌, ◌∷◌, ◌++◌, ℕ, [], length, false, None, IfSome};
+ghost use Rattle.std.specs.Prelude.{◌≡◌, ◌<◌, ◌≤◌, ◌+◌, ◌∷◌, ◌++◌, ℕ, [], length, false, true, None, IfSome};
 ghost use Rattle.element_tree.specs.Names.{labels_of};
 ghost use Rattle.jm_base.specs.Outside.{Account};
 ghost use Rattle.jm_meaning.specs.Beginning.{Options};
@@ -63,6 +63,7 @@ pub fn run_samples<R: Wait, O: Outside, L: Ledger>(
     ensures plan { (worker.new.plan ≡ worker.old.plan) × (worker.new.thread ≡ worker.old.thread) }
     ensures outside { SameOutside (O.account out.old) (O.account out.new) }
     ensures ended { EndsWith worker.new.trace result }
+    ensures over { worker.new.ended ≡ true }
     ensures runs { (start : Account) (options : Options) → Stands start (O.account out.old) options worker.old
         → RunsToEnd start (O.account out.new) worker.old.plan worker.old.thread options worker.new.trace }
 {

@@ -1,5 +1,5 @@
 -- What an ended thread's standing says over each form of an outside, and how each step goes on from the one before.
-use Rattle.std.proofs.Common.{◌≡◌, ℕ, zero, suc, ap₂, append_assoc, List, [], ◌∷◌, ◌++◌, Option, Some, None, refl, sym, ap, ◌∙◌, subst, inl, inr}
+use Rattle.std.proofs.Common.{◌≡◌, ℕ, zero, suc, true, ap₂, append_assoc, List, [], ◌∷◌, ◌++◌, Option, Some, None, refl, sym, ap, ◌∙◌, subst, inl, inr}
 use Rattle.std.specs.Prelude.{map, All, MatchOption, IfSome, IsSome}
 use Rattle.std.specs.Option.{option_map}
 use Rattle.std.proofs.lemmas.List.{append-nil, map-append}
@@ -366,6 +366,20 @@ module _ (start now later : Account) (options : Options) (w new : Standing) (non
   has_run RoundLimit o = ran_over RoundLimit o
   has_run ValueLimit o = ran_over ValueLimit o
   has_run NoMemory cut = was_cut start now later options w new none free goes_on cut stands
+
+over_ends : (a b : Account) (run : Run (Unit {0})) (old new : Standing) (end : End) → Ends a b run old new end → new.ended ≡ true
+over_ends a b run old new Completed o = ap (λ s. s.ended) o.new_is
+over_ends a b run old new StopThread o = ap (λ s. s.ended) o.new_is
+over_ends a b run old new StopTest o = ap (λ s. s.ended) o.new_is
+over_ends a b run old new Stopped o = absurd o
+over_ends a b run old new SampleLimit o = ap (λ s. s.ended) o.new_is
+over_ends a b run old new RoundLimit o = ap (λ s. s.ended) o.new_is
+over_ends a b run old new ValueLimit o = ap (λ s. s.ended) o.new_is
+over_ends a b run old new NoMemory o = ap (λ s. s.ended) o.new_is
+
+-- a thread that says its end has ended
+pub over_with : (a b : Account) (old new : Standing) (end : End) → Steps a b old new (StepEnded end) → new.ended ≡ true
+over_with a b old new end s = over_ends s.begun b (rest s.between) s.between new end s.gives
 
 -- the sample that was owed is in the trace
 pub stands_noted : (start now : Account) (options : Options) (interval : ℕ) (w new : Standing) (sample : Sample) → w.owed ≡ Some sample

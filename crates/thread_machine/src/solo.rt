@@ -1,13 +1,13 @@
 // One thread of a plan from its start to its end, where no one counts its samples.
 
-ghost use Rattle.std.specs.Prelude.{◌≡◌, ◌<◌, ◌≤◌, ◌+◌, ◌^◌, [], All, length, replicate, slice_index, slice_set, IfOk, OnErr, false, None};
+ghost use Rattle.std.specs.Prelude.{◌≡◌, ◌<◌, ◌≤◌, ◌+◌, ◌^◌, [], All, length, replicate, slice_index, slice_set, IfOk, OnErr, false, true, None};
 ghost use Rattle.element_tree.specs.Tree.{threads_of};
 ghost use Rattle.element_tree.specs.Names.{labels_of, locks_of};
 ghost use Rattle.jm_base.specs.Outside.{Account};
 ghost use Rattle.jm_meaning.specs.Beginning.{Options};
 ghost use Rattle.thread_machine.specs.Bare.{IsCountedIn, IsLabelled};
 ghost use Rattle.thread_machine.specs.SampleCounts.{samples_in};
-ghost use Rattle.thread_machine.specs.SectionOrder.{sections_in, PlacedAfter};
+ghost use Rattle.thread_machine.specs.SectionOrder.{sections_in, PlacedAfter, SectionsFrom};
 ghost use Rattle.thread_machine.specs.Standing.{Stands};
 ghost use Rattle.thread_machine.specs.Follows.{HasRun};
 
@@ -22,7 +22,9 @@ use var_functions::Props;
 /// The whole trace of a thread, and how the thread ended.
 #[derive(Drop)]
 pub struct FinishedThread {
+    /// All that became of it, in order. The last item is its end.
     pub trace: Vec<TraceItem>,
+    /// How it ended.
     pub end: End,
 }
 
@@ -45,6 +47,7 @@ pub fn run_alone<O: Outside>(
     ensures intervals { IfOk result (λ solo. All (IsCountedIn 0) solo.trace.items) }
     ensures count { IfOk result (λ solo. samples_in solo.trace.items + sections_in solo.trace.items ≤ budget) }
     ensures places { IfOk result (λ solo. PlacedAfter [] solo.trace.items) }
+    ensures sections { IfOk result (λ solo. SectionsFrom None solo.trace.items None) }
 
     // Out of memory before the first step, the outside was asked nothing.
     ensures unasked { OnErr result (O.account outside.new ≡ O.account outside.old) }
@@ -69,6 +72,7 @@ fn run_to_end<O: Outside>(worker: &mut Worker<'_>, places: &mut [u64], outside: 
     ensures has_run { (start : Account) (options : Options) → Stands start (O.account outside.old) options worker.old
         → HasRun start (O.account outside.new) worker.old.plan worker.old.thread options worker.new.trace result }
     ensures plan { worker.new.plan ≡ worker.old.plan }
+    ensures over { worker.new.ended ≡ true }
     ensures intervals { All (IsCountedIn 0) worker.old.trace → All (IsCountedIn 0) worker.new.trace }
     ensures count { samples_in worker.new.trace + sections_in worker.new.trace ≤ worker.old.units }
     ensures places { PlacedAfter [] worker.new.trace }

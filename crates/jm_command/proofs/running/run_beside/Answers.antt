@@ -1,7 +1,7 @@
-use Rattle.std.proofs.Common.{length, ap, ◌∙◌}
+use Rattle.std.proofs.Common.{length, ap, refl, inl, ◌∙◌}
 use Rattle.interval_tables.proofs.Sums.{length-sum_of}
 use Rattle.recorder_core.specs.RecorderSeats.{books_of, last_report, all_reports_of}
-use Rattle.jm_command.proofs.StartLaws.{labelled_all, ticked_reports, stopped_before, books_say}
+use Rattle.jm_command.proofs.StartLaws.{labelled_all, ticked_reports, ticked_so_far, few_opened, stopped_before, books_say}
 use Rattle.jm_command.proofs.running.run_beside.Goals as goal
 
 pub print_books-requires-clause-threads : goal.print_books-requires-clause-threads
@@ -20,6 +20,8 @@ returns-in-Ok-clause-prints g c =
       opened = c.in-Ok.ensures.world.opened_are;
       threads = c.in-Ok.ensures.ends.0;
       ends = c.in-Ok.ensures.ends.1;
+      sections = c.in-Ok.ensures.sections;
+      labelled = c.in-Ok.ensures.labelled;
       follows = c.in-Ok.ensures.follows;
       parted = c.in-Ok.ensures.parted;
       total_is = c.in-Ok.ensures.total;
@@ -27,3 +29,27 @@ returns-in-Ok-clause-prints g c =
     })
     (ticked_reports (books_of c.in-Ok.books.books).closed (last_report (books_of c.in-Ok.books.books)) _ _ _ _ _ c.in-Ok.ensures.count c.every.ensures c.in-Ok.ensures.ticked)
     _ _ _ _ _ _ _ _ _ _ c.in-Ok.ensures.written c.in-Ok.ensures.ok c.print_books.result c.print_books.ensures
+
+pub returns-in-Err-WriteFault-clause-prints : goal.returns-in-Err-WriteFault-clause-prints
+returns-in-Err-WriteFault-clause-prints g c =
+    let e = c.in-Err-WriteFault.ensures in
+    inl (record {
+      begun = e.prefix;
+      ticked = ticked_so_far _ _ _ _ c.every.ensures e.asked;
+      few = few_opened _ _ _ _ e.closed;
+      heard = e.heard;
+      rose = rw c.in-Err-WriteFault.field-0-is at e.cause;
+      nothing = record { results = refl; result_faults = refl };
+    })
+
+pub returns-in-Err-NoMemory-clause-prints : goal.returns-in-Err-NoMemory-clause-prints
+returns-in-Err-NoMemory-clause-prints g c =
+    let e = c.in-Err-NoMemory.ensures in
+    inl (record {
+      begun = e.prefix;
+      ticked = ticked_so_far _ _ _ _ c.every.ensures e.asked;
+      few = few_opened _ _ _ _ e.closed;
+      heard = e.heard;
+      report_calm = rw c.in-Err-NoMemory.field-0-is at e.cause;
+      nothing = record { results = refl; result_faults = refl };
+    })

@@ -1,4 +1,4 @@
-use Rattle.std.proofs.Common.{rules, arith, ◌≡◌, ◌++◌, ◌∙◌, ◌∷◌, [], length, map, refl, ap, subst, sym, append_assoc, List, ℕ, ◌<◌, ◌≤◌, ◌+◌, slice_index_or}
+use Rattle.std.proofs.Common.{rules, arith, ◌≡◌, ◌++◌, ◌∙◌, ◌∷◌, [], length, map, refl, ap, subst, sym, append_assoc, List, ℕ, ◌<◌, ◌≤◌, ◌+◌, None, slice_index_or}
 use Rattle.std.specs.Prelude.{All, vec_capacity}
 use Rattle.std.specs.Vec.Iter.{into_iter_items}
 use Rattle.std.proofs.lemmas.List.{length-append, append-nil}
@@ -7,6 +7,7 @@ use Rattle.element_tree.specs.Names.{labels_of}
 use Rattle.element_tree.specs.Tree.{Tree}
 use Rattle.thread_machine.specs.declared.trace.TraceItem.{TraceItem}
 use Rattle.thread_machine.specs.Bare.{IsLabelled}
+use Rattle.thread_machine.specs.SectionOrder.{SectionsFrom}
 use Rattle.phaser_core.specs.Views.{left_of}
 use Rattle.phaser_core.specs.declared.view.ReporterView.{ReporterView}
 use Rattle.recorder_core.specs.RecorderSeats.{reports, writes}
@@ -57,6 +58,9 @@ loop-job-preserved g c =
       among = rest_each (λ (_ : ℕ) (j : Job _). j.sections.now ≡ c.args.sections.now) 0 _ _ _ step inv.among;
       taken = taken_more c.args.sections.now job.sections.now (view_of c.args.first.now) c.loop-job.traces.items c.push-pushed.new.self.items c.loop-job.first c.join_seat.new.into job.section job.worker inv.taken job.entered c.join_seat.ensures.seat c.join_seat.ensures.taken grown;
       rising = more_each (λ _ (t : List TraceItem). Rises t) c.loop-job.traces.items _ (trace_of job) n (search rules) grown inv.rising done.rises;
+      sections = more_each (λ _ (t : List TraceItem). SectionsFrom None t None) c.loop-job.traces.items _ (trace_of job) n (search rules) grown inv.sections
+          (subst (SectionsFrom None (trace_of job)) (c.into_trace.ensures.closed done.over)
+          (subst (λ (t : List TraceItem). SectionsFrom None t job.worker.section) c.into_trace.ensures.items c.into_trace.ensures.sections));
       room = (let room = inv.room in let fewer = ap length step in let wide : vec_capacity c.loop-job.traces ≤ vec_capacity c.push-pushed.new.self = search rules in omega arith);
       only = record {
         interval = ap (λ (r : ReporterView). r.interval) taken ∙ inv.only.interval;
@@ -104,6 +108,7 @@ loop-job-init g c =
       among = subst (λ (xs : List (Job _)). (i : ℕ) (d : Job _) → i < length xs → (slice_index_or xs i d).sections.now ≡ c.args.sections.now) (sym items) c.requires.seats;
       taken = subst (λ ts. HasTaken c.args.sections.now (view_of c.args.first.now) (sections_of_all ts) c.args.first.now) (sym none) (taken_none c.args.sections.now c.args.first.now c.requires.first.0);
       rising = λ i d low. absurd (omega arith);
+      sections = λ i d low. absurd (omega arith);
       room = (let few = c.requires.room.1 in let same = ap length items in omega arith);
       only = record { interval = refl; closed = refl; raised = refl; ready = refl; labels = refl };
       joined = ap (λ (xs : List (Job _)). (reports c.args.seat.now).joined ++ map joined_of xs) items;

@@ -7,7 +7,7 @@ use Rattle.run_engine.specs.Asked.{options_of}
 use Rattle.run_engine.specs.Followed.{AllFollow}
 use Rattle.run_engine.specs.Joins.{joined_of, trace_of, number_of, OnlyJoined, IsDone, AllLabelled}
 use Rattle.critical_section.specs.SectionSeats.{view_of}
-use Rattle.run_engine.specs.SectionsRun.{sections_of_all, AllRise, HasTaken}
+use Rattle.run_engine.specs.SectionsRun.{sections_of_all, AllRise, AllLeave, HasTaken}
 use Rattle.run_engine.proofs.joins.join_each.Given as goal
 
 abbrev pub invariant-loop-job : goal.invariant-loop-job
@@ -20,6 +20,7 @@ invariant-loop-job g l =
       among : (i : _) (d : _) → i < length rest → (slice_index_or rest i d).sections.now ≡ l.sections;
       taken : HasTaken l.sections (view_of l.initial.first) (sections_of_all l.traces.items) l.first;
       rising : AllRise l.traces.items;
+      sections : AllLeave l.traces.items;
       room : length l.traces.items + length rest ≤ vec_capacity l.traces;
       only : OnlyJoined (reports l.initial.seat) (reports l.seat);
       joined : (reports l.seat).joined ++ map joined_of rest ≡ (reports l.initial.seat).joined ++ map joined_of l.fn.jobs.items;

@@ -7,7 +7,8 @@ use Rattle.reporter_loop.proofs.Judging.{reported_same, quiet}
 use Rattle.reporter_loop.proofs.Outcomes.{if_ok_then, if_ok_and, err_then, on_ok}
 use Rattle.run_engine.specs.Asked.{options_of}
 use Rattle.run_engine.specs.Followed.{AllFollow}
-use Rattle.run_engine.specs.Joins.{AllEnd}
+use Rattle.std.specs.List.{range_with_len}
+use Rattle.run_engine.specs.Joins.{AllEnd, numbers_in}
 use Rattle.run_engine.specs.Marks.{AllMarked}
 use Rattle.run_engine.specs.Made.{AllFresh, AreUntold}
 use Rattle.run_engine.proofs.Finishing.{all_done}
@@ -59,6 +60,11 @@ pub returns-in-Ok-clause-ends : goal.returns-in-Ok-clause-ends
 returns-in-Ok-clause-ends g c =
     let ends = c.join_all.ensures.ends in
     if_ok_then c.finish_run.result c.finish_run.ensures.traces (λ b is. (ap length is ∙ ends.0 ∙ c.threads-threads.ensures.count, subst AllEnd (sym is) ends.1))
+
+pub returns-in-Ok-clause-numbers : goal.returns-in-Ok-clause-numbers
+returns-in-Ok-clause-numbers g c =
+    if_ok_then c.finish_run.result c.finish_run.ensures.lists (λ b is.
+    ap (λ (q : ReporterView). numbers_in q.joined) is ∙ c.join_all.ensures.numbers ∙ ap (λ (n : ℕ). range_with_len 0 n) c.threads-threads.ensures.count)
 
 pub returns-in-Ok-clause-follows : goal.returns-in-Ok-clause-follows
 returns-in-Ok-clause-follows g c =

@@ -4,6 +4,7 @@ use Rattle.thread_machine.specs.declared.step.Step.TheVariants.{Sampled, Null}
 use Rattle.thread_machine.proofs.Ends.{begun_on, noted_on, noted_is, entered_is}
 use Rattle.thread_machine.proofs.PlaceLaws.{fewer_sampled, fewer_null, fewer_enters, fewer_leaves}
 use Rattle.recorder_core.specs.RecorderSeats.{writes, numbers_of}
+use Rattle.thread_machine.proofs.Ends.{over_with}
 use Rattle.run_engine.specs.Keeps.{KeepsTo}
 use Rattle.run_engine.proofs.Finishing.{has_ended}
 use Rattle.run_engine.proofs.Placing.{holding_first, holding_same, sections_noted, sections_same, lock_low, none_inside, few_own, holding_entered, known_so, open_so, holding_left, keeps_ended, rises_ended, keeps_stopped, rises_stopped}
@@ -210,6 +211,9 @@ returns-in-Ended-clause-runs g c = λ start options stands.
 pub returns-in-Ended-clause-ended : goal.returns-in-Ended-clause-ended
 returns-in-Ended-clause-ended g c = ends_with _ _ _ c.step.new.self c.in-Ended.end c.in-Ended.ensures.steps
 
+pub returns-in-Ended-clause-over : goal.returns-in-Ended-clause-over
+returns-in-Ended-clause-over g c = over_with _ _ _ c.step.new.self c.in-Ended.end c.in-Ended.ensures.steps
+
 -- ---- it was stopped
 
 pub leave_open-requires-clause-held : goal.leave_open-requires-clause-held
@@ -245,6 +249,9 @@ returns-then-stop_seen-clause-keeps g c =
 
 pub returns-then-stop_seen-clause-ended : goal.returns-then-stop_seen-clause-ended
 returns-then-stop_seen-clause-ended g c = ends_stopped c.steps.worker c.stop.new.self c.stop.ensures.stopped
+
+pub returns-then-stop_seen-clause-over : goal.returns-then-stop_seen-clause-over
+returns-then-stop_seen-clause-over g c = ap (λ w. w.ended) c.stop.ensures.stopped
 
 pub returns-then-stop_seen-clause-runs : goal.returns-then-stop_seen-clause-runs
 returns-then-stop_seen-clause-runs g c = λ start options stands.

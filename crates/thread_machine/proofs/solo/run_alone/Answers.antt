@@ -9,3 +9,6 @@ returns-clause-has_run g c =
 
 pub returns-clause-count : goal.returns-clause-count
 returns-clause-count g c = rw c.into_trace.ensures.items (let u = c.in_ok-worker.ensures.start.units_are in let k = c.run_to_end-end.ensures.count in omega (arith, u, k))
+
+pub returns-clause-sections : goal.returns-clause-sections
+returns-clause-sections g c = rw (c.into_trace.ensures.closed c.run_to_end-end.ensures.over) at c.into_trace.ensures.sections

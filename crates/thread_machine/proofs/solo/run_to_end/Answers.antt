@@ -6,7 +6,7 @@ use Rattle.element_tree.specs.Names.{locks_of}
 use Rattle.thread_machine.specs.declared.step.Step.TheVariants.{Sampled, Null, Enter, Leave, Ended}
 use Rattle.thread_machine.specs.declared.trace.TraceItem.TheVariants.{Entered as EnteredItem}
 use Rattle.thread_machine.specs.SectionOrder.{PlacedAfter}
-use Rattle.thread_machine.proofs.Ends.{begun_on, noted_on, noted_is, entered_is}
+use Rattle.thread_machine.proofs.Ends.{over_with, begun_on, noted_on, noted_is, entered_is}
 use Rattle.thread_machine.proofs.Intervals.{counted_noted, counted_entered, counted_behind}
 use Rattle.thread_machine.proofs.Counts.{spent_behind, spent_noted, spent_entered}
 use Rattle.thread_machine.proofs.Labels.{lock_within}
@@ -20,6 +20,9 @@ returns-in-Ended-clause-has_run g c = λ start options stands.
 
 pub returns-in-Ended-clause-intervals : goal.returns-in-Ended-clause-intervals
 returns-in-Ended-clause-intervals g c = λ all. counted_behind 0 _ _ _ _ (Ended _) c.in-Ended.ensures.steps (c.steps.invariant.counted all)
+
+pub returns-in-Ended-clause-over : goal.returns-in-Ended-clause-over
+returns-in-Ended-clause-over g c = over_with _ _ _ _ _ c.in-Ended.ensures.steps
 
 pub returns-in-Ended-clause-count : goal.returns-in-Ended-clause-count
 returns-in-Ended-clause-count g c =
