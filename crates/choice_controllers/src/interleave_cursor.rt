@@ -4,7 +4,7 @@ ghost use Rattle.std.specs.Prelude.{◌≡◌, ◌<◌, IfSome};
 ghost use Rattle.choice_controllers.specs.InterleaveController.{interleaved};
 
 use crate::chosen::take_turn;
-use cursor_steps::{Controller, run_count};
+use cursor_steps::Controller;
 use element_tree::{Plan, Turn};
 use jm_base::Outside;
 use std::alloc::Global;
@@ -61,19 +61,21 @@ impl Controller for InterleaveCursor {
         }
     }
 
+    fn element(&self) -> u16 {
+        self.element
+    }
+
     // Begins a pass: chooses the child at the place, and moves the place on. Without children nothing is chosen. It takes
     // no memory.
-    fn enter<O: Outside>(
+    fn enter_among<O: Outside>(
         &mut self,
         _alloc: Global,
-        plan: &Plan,
+        _plan: &Plan,
+        children: u16,
         _state: &mut UserState,
         _outside: &mut O,
     ) -> Result<(), VarError> {
-        let Some(element) = plan.element(self.element) else {
-            unreachable!();
-        };
-        self.choose(run_count(plan, element));
+        self.choose(children);
         Ok(())
     }
 

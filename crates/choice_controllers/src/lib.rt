@@ -4,11 +4,11 @@
 //! each `next` says what the controller does next: it runs a child, or is over.
 #![tactic(auto)]
 
-pub mod chosen;
-pub mod interleave_cursor;
-pub mod order_cursor;
-pub mod random_cursor;
-pub mod switch_cursor;
+mod chosen;
+mod interleave_cursor;
+mod order_cursor;
+mod random_cursor;
+mod switch_cursor;
 
 pub use interleave_cursor::InterleaveCursor;
 pub use order_cursor::{OrderCursor, shuffle};

@@ -4,7 +4,7 @@ ghost use Rattle.std.specs.Prelude.{◌≡◌, ◌+◌, ◌-◌, ◌^◌, ◌<�
 ghost use Rattle.var_functions.specs.FunctionState.{IsLater};
 ghost use Rattle.choice_controllers.specs.RandomOrderController.{shuffled, places, order_of};
 
-use cursor_steps::{Controller, run_count};
+use cursor_steps::Controller;
 use element_tree::{Plan, Turn};
 use jm_base::{Items, M, Outside};
 use std::alloc::Global;
@@ -94,23 +94,25 @@ impl Controller for OrderCursor {
         }
     }
 
+    fn element(&self) -> u16 {
+        self.element
+    }
+
     // Begins a pass: puts the children in a random order. For i from n - 1 down to 1, where n is the number of children, it
     // draws a random word w and exchanges the children at i and at `w mod (i + 1)`. So it draws n - 1 words, and none where
     // there are no children.
     //
     // The memory for the order is taken before the first word is drawn: a call that refuses, which it does where it runs out
     // of memory alone, leaves the cursor and the thread's state as they were.
-    fn enter<O: Outside>(
+    fn enter_among<O: Outside>(
         &mut self,
         alloc: Global,
-        plan: &Plan,
+        _plan: &Plan,
+        children: u16,
         state: &mut UserState,
         _outside: &mut O,
     ) -> Result<(), VarError> {
-        let Some(element) = plan.element(self.element) else {
-            unreachable!();
-        };
-        let Ok(places) = places(alloc, run_count(plan, element)) else {
+        let Ok(places) = places(alloc, children) else {
             return Err(VarError::NoMemory);
         };
         self.begin(places, &mut state.fns);

@@ -5,7 +5,7 @@ ghost use Rattle.var_functions.specs.FunctionState.{IsLater};
 ghost use Rattle.choice_controllers.specs.RandomController.{random_place, random_fns};
 
 use crate::chosen::take_turn;
-use cursor_steps::{Controller, run_count};
+use cursor_steps::Controller;
 use element_tree::{Plan, Turn};
 use jm_base::Outside;
 use std::alloc::Global;
@@ -72,19 +72,21 @@ impl Controller for RandomCursor {
         }
     }
 
+    fn element(&self) -> u16 {
+        self.element
+    }
+
     // Begins a pass: draws a random word w, and chooses the child at `w mod n`, where n is the number of children. Without
     // children nothing is drawn and nothing chosen. It takes no memory.
-    fn enter<O: Outside>(
+    fn enter_among<O: Outside>(
         &mut self,
         _alloc: Global,
-        plan: &Plan,
+        _plan: &Plan,
+        children: u16,
         state: &mut UserState,
         _outside: &mut O,
     ) -> Result<(), VarError> {
-        let Some(element) = plan.element(self.element) else {
-            unreachable!();
-        };
-        self.chosen = random_place(run_count(plan, element), &mut state.fns);
+        self.chosen = random_place(children, &mut state.fns);
         Ok(())
     }
 

@@ -7,7 +7,7 @@ ghost use Rattle.cursor_steps.specs.RunningChildren.{run_count};
 ghost use Rattle.choice_controllers.specs.SwitchController.{name_at, run_names, is_name, place_named, index_among, picks, switch_enters};
 
 use crate::chosen::take_turn;
-use cursor_steps::{Controller, decimal_number, is_run_at, run_count};
+use cursor_steps::{Controller, decimal_number, is_run_at};
 use element_tree::{Element, Kind, Plan, Turn};
 use jm_base::Outside;
 use std::alloc::Global;
@@ -76,12 +76,12 @@ fn index_among(children: u16, index: u32) -> u16
     }
 }
 
-/// The place of the child that a text picks.
-pub fn picks(plan: &Plan, element: &Element, text: &[u8]) -> Option<u16>
+/// The place of the child that a text picks, among this many children that are run.
+pub fn picks(plan: &Plan, element: &Element, children: u16, text: &[u8]) -> Option<u16>
+    requires { children ≡ run_count plan.now.elements element.now }
     ensures place { result ≡ picks text.now (run_names plan.now.elements element.now) }
     ensures child { IfSome result (λ place. place < run_count plan.now.elements element.now) }
 {
-    let children = run_count(plan, element);
     if children == 0 {
         return None;
     }
@@ -134,13 +134,18 @@ impl Controller for SwitchCursor {
         }
     }
 
+    fn element(&self) -> u16 {
+        self.element
+    }
+
     // Begins a pass: expands `value`, and chooses the child that its text picks. Decimal digits pick the child of that
     // index, from 0; an index out of range, or an empty text, picks the first child. Another text picks the first child of
     // that name, case significant; where no child has it, the first one named `default`, in capitals or not; else none.
-    fn enter<O: Outside>(
+    fn enter_among<O: Outside>(
         &mut self,
         alloc: Global,
         plan: &Plan,
+        children: u16,
         state: &mut UserState,
         outside: &mut O,
     ) -> Result<(), VarError> {
@@ -150,7 +155,7 @@ impl Controller for SwitchCursor {
         let Kind::Switch { value } = &element.kind else {
             unreachable!();
         };
-        self.begin(alloc, plan, element, value, state, outside)
+        self.begin(alloc, plan, element, children, value, state, outside)
     }
 
     // The child that was chosen, where it is still to be run, or `Over`. It takes no memory.
@@ -167,16 +172,18 @@ impl Controller for SwitchCursor {
 }
 
 impl SwitchCursor {
-    // Expands the text, which picks a child of this element.
+    // Expands the text, which picks one of the children of this element that are run.
     fn begin<O: Outside>(
         &mut self,
         alloc: Global,
         plan: &Plan,
         element: &Element,
+        children: u16,
         value: &Template,
         state: &mut UserState,
         outside: &mut O,
     ) -> Result<(), VarError>
+        requires { children ≡ run_count plan.now.elements element.now }
         ensures came { StepsTo (O.account outside.old) (switch_enters value.now (run_names plan.now.elements element.now) self.old state.old)
             (O.account outside.new) self.new state.new result }
         ensures child { OnOk result (IfSome self.new.chosen (λ place. place < run_count plan.now.elements element.now)) }
@@ -187,7 +194,7 @@ impl SwitchCursor {
     {
         match expand(alloc, value, state, outside) {
             Ok(text) => {
-                self.chosen = picks(plan, element, text.bytes());
+                self.chosen = picks(plan, element, children, text.bytes());
                 Ok(())
             }
             Err(error) => Err(error),

@@ -1,15 +1,21 @@
 -- What an element that was entered goes on as.
-use Rattle.std.specs.Prelude.{◌≡◌, ℕ, List}
+use Rattle.std.specs.Prelude.{◌≡◌, ℕ, List, Some, length, slice_get, Result, IfOk, OnErr}
+use Rattle.jm_base.specs.Outside.{Account}
 use Rattle.jm_base.specs.Run.{Run, over, give, Entered as EnteredEvent}
 use Rattle.element_tree.specs.declared.kinds.Element.{Element}
 use Rattle.element_tree.specs.declared.kinds.Kind.{Kind}
 use Rattle.element_tree.specs.Tree.{Tree}
+use Rattle.var_functions.specs.declared.error.VarError.{VarError}
+use Rattle.var_functions.specs.declared.state.UserState.{UserState}
+use Rattle.var_functions.specs.Came.{CameTo}
 use Rattle.jm_meaning.specs.declared.signal.Signal.{Signal}
-use Rattle.jm_meaning.specs.State.{State, Ending, Part, normal, with_unit}
-use Rattle.jm_meaning.specs.Children.{Below}
-use Rattle.jm_meaning.specs.Meaning.{Here, children_in}
+use Rattle.jm_meaning.specs.State.{State, Own, Ending, Part, normal, state_of, at_places, with_unit}
+use Rattle.jm_meaning.specs.Children.{Below, children_of}
+use Rattle.jm_meaning.specs.Meaning.{Here, children_in, kind_meaning}
+use Rattle.jm_meaning.specs.Cut.{StandsLater}
 use Rattle.control_machine.specs.declared.enter.Entered.{Entered}
 use Rattle.control_machine.specs.declared.enter.Entered.TheVariants.{Nothing, Sampler, Open}
+use Rattle.control_machine.specs.Moves.{past}
 use Rattle.control_machine.specs.Cursors.{cursor_left, Shut, Plain, Summing, Leaving, shut_of, begun_of, FitsKind}
 use Rattle.control_machine.specs.Left.{kind_part, label_at, closing, IsSamplerKind, KeepsLock}
 
@@ -40,3 +46,14 @@ abbrev pub EntersLock : List Element → Kind → Entered → Type 0
 EntersLock elements k Nothing = Unit {0}
 EntersLock elements k Sampler = Unit {0}
 EntersLock elements k (Open c) = KeepsLock elements k (shut_of c)
+
+-- Between two moments of the outside the element of this number was entered: what it means has come to what it goes on as, which
+-- fits the element. No variable is set, functions stand at a later moment, and a refusal leaves the places of the Interleave
+-- Controllers as they were.
+pub record HasEntered (plan : Tree) (child : ℕ) (before : Account) (old : UserState) (old_places : List ℕ) (after : Account) (new : UserState) (new_places : List ℕ) (result : Result Entered VarError) : Type 0 where
+  pub came : (e : Element) (failure : Signal) (below : Below) (round : ℕ) (own : Own) → slice_get plan.elements child ≡ Some e
+      → CameTo before (kind_meaning (here_with plan failure) below child e e.kind round (state_of old (at_places own old_places))) after
+      (entered (here_with plan failure) below child round e (state_of new (at_places own new_places))) (past (state_of new (at_places own new_places))) result
+  pub fits : IfOk result (λ x. (e : Element) → slice_get plan.elements child ≡ Some e → EnteredFits child (length (children_of plan.elements e)) e.kind x)
+  pub stands : StandsLater old new
+  pub places : OnErr result (new_places ≡ old_places)

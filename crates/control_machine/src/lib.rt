@@ -3,20 +3,15 @@
 
 mod cursor;
 mod enter;
-pub mod machine;
-pub mod moves;
+mod machine;
+mod moves;
 mod opens;
-pub mod position;
+mod position;
 mod section;
-pub mod stack;
+mod stack;
 mod transaction;
 mod turns;
 
-pub use cursor::Cursor;
 pub use jm_meaning::Tally;
 pub use machine::Machine;
 pub use moves::{Leave, Move};
-pub use position::{Group, Position};
-pub use section::OpenSection;
-pub use stack::{Frame, Stack};
-pub use transaction::OpenTransaction;

@@ -18,7 +18,7 @@ ghost use Rattle.control_machine.specs.MachineCut.{IsCut};
 use crate::moves::{Leave, Move};
 use crate::position::{Group, Position};
 use crate::stack::Stack;
-use cursor_steps::{Pass, run_count};
+use cursor_steps::Pass;
 use element_tree::{Kind, Plan};
 use jm_base::{End, M, Outside, Sample};
 use jm_meaning::{Places, Signal, signal_of};
@@ -67,9 +67,9 @@ impl Machine {
         else {
             unreachable!();
         };
-        let children = run_count(plan, element);
         let places = Places::first(alloc, plan)?;
         let links = Links::of(alloc, plan)?;
+        let children = links.count(number);
         Ok(Machine {
             position: Position {
                 group: Group {

@@ -19,6 +19,7 @@ use var_functions::{UserState, VarError};
 pub struct Group {
     /// The number of the group's element.
     pub element: u16,
+    /// How many rounds it has.
     pub loops: Loops,
     /// How many rounds have begun.
     pub begun: u32,
@@ -31,12 +32,19 @@ pub struct Group {
 /// its way out, and the links of the plan's elements.
 #[derive(Drop)]
 pub struct Position {
+    /// The group and its rounds.
     pub group: Group,
+    /// The open elements.
     pub stack: Stack,
+    /// How many more rounds may begin in the thread.
     pub rounds: u32,
+    /// Where its Interleave Controllers stand.
     pub places: Places,
+    /// What a failed sample leads to.
     pub at_failure: Signal,
+    /// Normal, or by which signal it is on its way out.
     pub signal: Signal,
+    /// The children and looping ancestors of the plan's elements.
     pub links: Links,
 }
 

@@ -12,13 +12,16 @@ use std::alloc::Global;
 use std::marker::Model;
 use var_functions::{UserState, VarError};
 
-/// An open element: the round of its nearest looping ancestor, how deep the elements below it nest at most, and its cursor.
+/// An open element.
 #[derive(Drop)]
 pub struct Frame {
     /// The number of the element.
     pub element: u16,
+    /// The index, from 0, of the round of its nearest looping ancestor.
     pub round: u64,
+    /// How deep the elements below it nest at most.
     pub depth: u8,
+    /// Where it stands among its children.
     pub cursor: Cursor,
 }
 

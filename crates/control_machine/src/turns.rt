@@ -211,7 +211,16 @@ impl Position {
         ensures load { IfOk result (λ w. IsOpened plan.now.elements depth self.old.stack.frames self.new.stack.frames) }
         ensures later { IsLater state.old.fns state.new.fns }
     {
-        match enter(alloc, plan, child, &mut self.places, state, outside) {
+        let children = self.links.count(child);
+        match enter(
+            alloc,
+            plan,
+            child,
+            children,
+            &mut self.places,
+            state,
+            outside,
+        ) {
             Ok(Entered::Nothing) => Ok(Went::On),
             Ok(Entered::Sampler) => Ok(Went::To(Move::RunSampler(child))),
             Ok(Entered::Open(cursor)) => self.push(child, round, depth, cursor),

@@ -11,6 +11,7 @@ ghost use Rattle.var_functions.specs.FunctionState.{IsLater};
 ghost use Rattle.cursor_steps.specs.CursorStep.{Step, StepsTo};
 ghost use Rattle.cursor_steps.specs.RunningChildren.{run_count, begun_after, TakesChild};
 
+use crate::pass::run_count;
 use element_tree::{Plan, Turn};
 use jm_base::Outside;
 use std::alloc::Global;
@@ -56,16 +57,22 @@ pub trait Controller: Drop {
     fn new(element: u16) -> Self
         ensures { result ≡ fresh element };
 
-    /// Enters the element. `ValueLimit` comes where a text would be past its limit, and a call that refuses leaves the cursor
-    /// as it was.
-    fn enter<O: Outside>(
+    /// The number of its element.
+    fn element(&self) -> u16
+        ensures { result ≡ place self.now };
+
+    /// Enters the element, of which this many children are run. `ValueLimit` comes where a text would be past its limit, and a
+    /// call that refuses leaves the cursor as it was.
+    fn enter_among<O: Outside>(
         &mut self,
         alloc: Global,
         plan: &Plan,
+        children: u16,
         state: &mut UserState,
         outside: &mut O,
     ) -> Result<(), VarError>
         requires there { (e : Element) × (slice_get plan.now.elements (place self.old) ≡ Some e) × serves e.kind }
+        requires counted { (e : Element) → slice_get plan.now.elements (place self.old) ≡ Some e → children ≡ run_count plan.now.elements e }
         ensures came { StepsTo (O.account outside.old) (enters plan.now.elements self.old state.old) (O.account outside.new) self.new state.new result }
         ensures stands { (e : Element) → slice_get plan.now.elements (place self.old) ≡ Some e → OnOk result (among (run_count plan.now.elements e) self.new) }
         ensures entered { (e : Element) → slice_get plan.now.elements (place self.old) ≡ Some e → entered (run_count plan.now.elements e) self.old state.old result self.new state.new }
@@ -74,6 +81,32 @@ pub trait Controller: Drop {
         ensures kept { OnErr result (self.new ≡ self.old) }
         ensures vars { state.new.vars ≡ state.old.vars }
         ensures later { IsLater state.old.fns state.new.fns };
+
+    /// Enters the element, whose children it counts: as `enter_among` with their number.
+    final fn enter<O: Outside>(
+        &mut self,
+        alloc: Global,
+        plan: &Plan,
+        state: &mut UserState,
+        outside: &mut O,
+    ) -> Result<(), VarError>
+    where
+        Self: Sized,
+        requires there { (e : Element) × (slice_get plan.now.elements (place self.old) ≡ Some e) × serves e.kind }
+        ensures came { StepsTo (O.account outside.old) (enters plan.now.elements self.old state.old) (O.account outside.new) self.new state.new result }
+        ensures stands { (e : Element) → slice_get plan.now.elements (place self.old) ≡ Some e → OnOk result (among (run_count plan.now.elements e) self.new) }
+        ensures entered { (e : Element) → slice_get plan.now.elements (place self.old) ≡ Some e → entered (run_count plan.now.elements e) self.old state.old result self.new state.new }
+        ensures before { OnOk result (begun self.new ≡ 0) }
+        ensures same { place self.new ≡ place self.old }
+        ensures kept { OnErr result (self.new ≡ self.old) }
+        ensures vars { state.new.vars ≡ state.old.vars }
+        ensures later { IsLater state.old.fns state.new.fns }
+    {
+        let Some(element) = plan.element(self.element()) else {
+            unreachable!();
+        };
+        self.enter_among(alloc, plan, run_count(plan, element), state, outside)
+    }
 
     /// What it does next. `ValueLimit` comes where a text or a variable would be past its limit.
     fn next<O: Outside>(

@@ -5,9 +5,9 @@
 //! contracts of the cursors cite.
 #![tactic(auto)]
 
-pub mod controller;
-pub mod numeral;
-pub mod pass;
+mod controller;
+mod numeral;
+mod pass;
 
 pub use controller::Controller;
 pub use numeral::decimal_number;

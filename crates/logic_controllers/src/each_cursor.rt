@@ -12,7 +12,7 @@ ghost use Rattle.logic_controllers.specs.ControllerRounds.{opened};
 ghost use Rattle.logic_controllers.specs.ForEachController.{input_name, value_at, output_vars, each_goes, each_opens, each_next, AllSet, EachKept};
 
 use crate::rounds::Rounds;
-use cursor_steps::{Controller, run_count};
+use cursor_steps::Controller;
 use element_tree::{Kind, Plan, Turn};
 use jm_base::{M, Outside, Text};
 use std::alloc::Global;
@@ -24,6 +24,7 @@ use var_functions::{UserState, VarError, Vars, decimal_text};
 pub struct EachCursor {
     /// The number of the controller's element.
     pub element: u16,
+    /// Its rounds in this pass.
     pub rounds: Rounds,
     /// The value of the round that began last, until it goes to the output.
     pub value: Option<Text>,
@@ -55,12 +56,14 @@ fn copied_value(alloc: Global, vars: &Vars, name: &Text) -> M<Option<Text>>
     }
 }
 
-/// Which variables of a row are read: whether `_` stands before their numbers, the number before the first one and
-/// the number of the last one.
+/// Which variables of a row are read.
 #[derive(Clone, Copy)]
 pub struct Span {
+    /// Whether `_` stands before their numbers.
     pub separator: bool,
+    /// The number before the first one.
     pub start: u32,
+    /// The number of the last one.
     pub end: u32,
 }
 
@@ -118,18 +121,20 @@ impl Controller for EachCursor {
         }
     }
 
+    fn element(&self) -> u16 {
+        self.element
+    }
+
     // Stands before the first round. It takes no memory.
-    fn enter<O: Outside>(
+    fn enter_among<O: Outside>(
         &mut self,
         _alloc: Global,
-        plan: &Plan,
+        _plan: &Plan,
+        children: u16,
         _state: &mut UserState,
         _outside: &mut O,
     ) -> Result<(), VarError> {
-        let Some(element) = plan.element(self.element) else {
-            unreachable!();
-        };
-        self.rounds = Rounds::before_first(run_count(plan, element));
+        self.rounds = Rounds::before_first(children);
         self.value = None;
         Ok(())
     }

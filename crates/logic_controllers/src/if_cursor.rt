@@ -6,7 +6,7 @@ ghost use Rattle.cursor_steps.specs.CursorStep.{StepsTo};
 ghost use Rattle.cursor_steps.specs.RunningChildren.{IsAmong, Passes};
 ghost use Rattle.logic_controllers.specs.IfController.{is_true, if_enters, if_next};
 
-use cursor_steps::{Controller, Pass, run_count};
+use cursor_steps::{Controller, Pass};
 use element_tree::{Kind, Plan, Turn};
 use jm_base::Outside;
 use std::alloc::Global;
@@ -75,11 +75,16 @@ impl Controller for IfCursor {
         }
     }
 
+    fn element(&self) -> u16 {
+        self.element
+    }
+
     // Begins a pass. Without `all` the condition is expanded, and where it isn't true no child is run.
-    fn enter<O: Outside>(
+    fn enter_among<O: Outside>(
         &mut self,
         alloc: Global,
         plan: &Plan,
+        children: u16,
         state: &mut UserState,
         outside: &mut O,
     ) -> Result<(), VarError> {
@@ -89,14 +94,7 @@ impl Controller for IfCursor {
         let Kind::If { all, condition } = &element.kind else {
             unreachable!();
         };
-        self.begin(
-            alloc,
-            *all,
-            condition,
-            run_count(plan, element),
-            state,
-            outside,
-        )
+        self.begin(alloc, *all, condition, children, state, outside)
     }
 
     // The next child, or `Over` after the last one. With `all` the condition is expanded before each child, and it is

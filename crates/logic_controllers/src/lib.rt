@@ -4,13 +4,13 @@
 //! does next: it runs a child, begins a new round, or is over.
 #![tactic(auto)]
 
-pub mod each_cursor;
-pub mod if_cursor;
-pub mod loop_cursor;
-pub mod once_cursor;
-pub mod rounds;
-pub mod simple_cursor;
-pub mod while_cursor;
+mod each_cursor;
+mod if_cursor;
+mod loop_cursor;
+mod once_cursor;
+mod rounds;
+mod simple_cursor;
+mod while_cursor;
 
 pub use cursor_steps::Pass;
 pub use each_cursor::{EachCursor, Span, value_at};

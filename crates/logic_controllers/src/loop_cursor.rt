@@ -9,7 +9,7 @@ ghost use Rattle.logic_controllers.specs.ControllerRounds.{before_rounds};
 ghost use Rattle.logic_controllers.specs.LoopController.{loops_of, round_begins, loop_enters, loop_goes, loop_next};
 
 use crate::rounds::Rounds;
-use cursor_steps::{Controller, decimal_number, run_count};
+use cursor_steps::{Controller, decimal_number};
 use element_tree::{Kind, Loops, Plan, Turn};
 use jm_base::Outside;
 use std::alloc::Global;
@@ -24,6 +24,7 @@ pub struct LoopCursor {
     pub element: u16,
     /// How many rounds the text asked for.
     pub loops: Loops,
+    /// Its rounds in this pass.
     pub rounds: Rounds,
 }
 
@@ -88,11 +89,16 @@ impl Controller for LoopCursor {
         }
     }
 
+    fn element(&self) -> u16 {
+        self.element
+    }
+
     // Expands `loops`: decimal digits ask for that many rounds, `-1` for rounds without end, any other text for none.
-    fn enter<O: Outside>(
+    fn enter_among<O: Outside>(
         &mut self,
         alloc: Global,
         plan: &Plan,
+        children: u16,
         state: &mut UserState,
         outside: &mut O,
     ) -> Result<(), VarError> {
@@ -102,7 +108,7 @@ impl Controller for LoopCursor {
         let Kind::Loop { loops } = &element.kind else {
             unreachable!();
         };
-        self.begin(alloc, loops, run_count(plan, element), state, outside)
+        self.begin(alloc, loops, children, state, outside)
     }
 
     // Opens the round that began last, where that is still to come: sets `__jm__NAME__idx` to the round's index, from 0.

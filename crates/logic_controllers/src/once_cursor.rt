@@ -1,6 +1,6 @@
 // The cursor of a Once Only Controller.
 
-use cursor_steps::{Controller, Pass, run_count};
+use cursor_steps::{Controller, Pass};
 use element_tree::{Plan, Turn};
 use jm_base::Outside;
 use std::alloc::Global;
@@ -12,6 +12,7 @@ use var_functions::{UserState, VarError};
 pub struct OnceCursor {
     /// The number of the controller's element.
     pub element: u16,
+    /// The children in this pass.
     pub pass: Pass,
 }
 
@@ -51,18 +52,20 @@ impl Controller for OnceCursor {
         }
     }
 
+    fn element(&self) -> u16 {
+        self.element
+    }
+
     // Begins a pass. It takes no memory.
-    fn enter<O: Outside>(
+    fn enter_among<O: Outside>(
         &mut self,
         _alloc: Global,
-        plan: &Plan,
+        _plan: &Plan,
+        children: u16,
         _state: &mut UserState,
         _outside: &mut O,
     ) -> Result<(), VarError> {
-        let Some(element) = plan.element(self.element) else {
-            unreachable!();
-        };
-        self.pass = Pass::over(run_count(plan, element));
+        self.pass = Pass::over(children);
         Ok(())
     }
 

@@ -8,7 +8,7 @@ ghost use Rattle.logic_controllers.specs.ControllerRounds.{before_rounds};
 ghost use Rattle.logic_controllers.specs.WhileController.{is_blank, last_ok, goes_on, while_enters, while_goes, while_next, WhileKept};
 
 use crate::rounds::Rounds;
-use cursor_steps::{Controller, run_count};
+use cursor_steps::Controller;
 use element_tree::{Kind, Plan, Turn};
 use jm_base::Outside;
 use std::alloc::Global;
@@ -21,6 +21,7 @@ use var_functions::{UserState, VarError, Vars, expand};
 pub struct WhileCursor {
     /// The number of the controller's element.
     pub element: u16,
+    /// Its rounds in this pass.
     pub rounds: Rounds,
 }
 
@@ -94,18 +95,20 @@ impl Controller for WhileCursor {
         }
     }
 
+    fn element(&self) -> u16 {
+        self.element
+    }
+
     // Stands before the first round. It takes no memory.
-    fn enter<O: Outside>(
+    fn enter_among<O: Outside>(
         &mut self,
         _alloc: Global,
-        plan: &Plan,
+        _plan: &Plan,
+        children: u16,
         _state: &mut UserState,
         _outside: &mut O,
     ) -> Result<(), VarError> {
-        let Some(element) = plan.element(self.element) else {
-            unreachable!();
-        };
-        self.rounds = Rounds::before_first(run_count(plan, element));
+        self.rounds = Rounds::before_first(children);
         Ok(())
     }
 

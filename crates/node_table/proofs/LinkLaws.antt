@@ -1,6 +1,6 @@
 -- The links of a plan's elements.
 use Rattle.std.proofs.Common.{◌≡◌, ℕ, zero, suc, ◌+◌, ◌<◌, ◌≤◌, Bool, true, false, cond, List, [], ◌∷◌, length, get_or, map, reverse, Option, Some, None, refl, sym, ap, ◌∙◌, true≢false, arith}
-use Rattle.std.specs.Prelude.{slice_get, unwrap_or, nat_eq, nat_lt}
+use Rattle.std.specs.Prelude.{min, slice_get, unwrap_or, nat_eq, nat_lt}
 use Rattle.std.specs.Option.{option_map, option_and_then}
 use Rattle.std.specs.List.{AllByRecursion, find, filter, range_with_len}
 use Rattle.std.proofs.lemmas.Bool.{eqb-true, lt-ltb, ltb-true}
@@ -12,7 +12,7 @@ use Rattle.element_tree.specs.declared.kinds.Element.{Element}
 use Rattle.element_tree.specs.declared.kinds.Kind.{Kind}
 use Rattle.element_tree.specs.Tree.{Tree, IsPlan, IsBelow}
 use Rattle.element_tree.specs.Types.{type_of}
-use Rattle.cursor_steps.specs.RunningChildren.{is_run_at}
+use Rattle.cursor_steps.specs.RunningChildren.{is_run_at, run_count}
 use Rattle.scope_resolver.specs.Ancestry.{line}
 use Rattle.scope_resolver.specs.Scoping.{parent_in, line_to}
 use Rattle.scope_resolver.proofs.PlanLaws.{parent_read, root_parent, parent_below, up_step}
@@ -129,6 +129,11 @@ link_at elements links n d h is = numbered_at (link_of elements) (length element
 pub link_read : (elements : List Element) (links now : List Link) (n place : ℕ) (l : Link) → l ≡ get_or links place l → place ≡ n → links ≡ now → n < length now → now ≡ links_of elements → l ≡ link_of elements n
 link_read elements links now n place l read at_n same h is =
     read ∙ ap (λ (m : ℕ). get_or links m l) at_n ∙ ap (λ (xs : List Link). get_or xs n l) same ∙ link_at elements now n l h is
+
+-- how many children of an element run, by its link
+pub count_read : (elements : List Element) (n : ℕ) (e : Element) (l : Link) → l ≡ link_of elements n → slice_get elements n ≡ Some e → min (length l.runs) 65535 ≡ run_count elements e
+count_read elements n e l is there =
+    ap (λ (l : Link). min (length l.runs) 65535) is ∙ ap (λ (ms : List ℕ). min (length (filter (is_run_at elements) ms)) 65535) (children_read elements n e there)
 
 -- ---- the children of one element
 

@@ -5,6 +5,7 @@ ghost use Rattle.std.specs.List.{range_with_len};
 ghost use Rattle.std.specs.Option.{option_and_then};
 ghost use Rattle.element_tree.specs.declared.kinds.Element.{Element};
 ghost use Rattle.element_tree.specs.Tree.{IsPlan};
+ghost use Rattle.cursor_steps.specs.RunningChildren.{run_count};
 ghost use Rattle.node_table.specs.ElementLinks.{child_of, first_of, after_of, looping_of, link_of, links_of};
 ghost use Rattle.node_table.specs.Building.{AreAfters};
 
@@ -106,6 +107,19 @@ impl Links {
         ensures { (elements : List Element) → self.now ≡ links_of elements → result ≡ child_of elements element place }
     {
         run_at(&self.links, element, place)
+    }
+
+    /// How many children of an element are controllers or samplers, in 16 bits, which the children of no plan fill.
+    pub fn count(&self, element: u16) -> u16
+        requires { element < length self.now }
+        ensures { (elements : List Element) (e : Element) → self.now ≡ links_of elements → slice_get elements element ≡ Some e
+            → result ≡ run_count elements e }
+    {
+        self.links[usize::from(element)]
+            .runs
+            .as_slice()
+            .len()
+            .min(65535) as u16
     }
 
     /// The first child of an element that is a controller or a sampler.

@@ -18,6 +18,7 @@ use crate::children::{children_of, shuffled};
 use crate::progress::Progress;
 use crate::transaction::{give_sum, joined};
 use choice_controllers::{picks, random_place};
+use cursor_steps::run_count;
 use element_tree::{Element, Kind, Loops, Plan};
 use jm_base::{End, M, Outside, Text};
 use jm_meaning::{Item, Signal, Tally};
@@ -390,7 +391,8 @@ fn run_switch<O: Outside>(
     let Some(text) = progress.text(value, outside)? else {
         return Ok(Signal::Stop(End::ValueLimit));
     };
-    let chosen = picks(level.plan, element, text.bytes());
+    let count = run_count(level.plan, element);
+    let chosen = picks(level.plan, element, count, text.bytes());
     run_chosen(level, children, chosen, round, progress, outside)
 }
 

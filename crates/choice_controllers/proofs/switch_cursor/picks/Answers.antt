@@ -6,16 +6,16 @@ use Rattle.choice_controllers.proofs.switch_cursor.picks.Goals as goal
 
 pub returns-then-is_empty-clause-place : goal.returns-then-is_empty-clause-place
 returns-then-is_empty-clause-place c =
-    picks-empty c.args.text.now (run_names c.args.plan.now.elements c.args.element.now) c.run_count-children.result (c.run_count-children.ensures ∙ count-names c.args.plan.now.elements c.args.element.now) c.if-children-eq0.false (sym c.is_empty.ensures ∙ c.if-is_empty.true)
+    picks-empty c.args.text.now (run_names c.args.plan.now.elements c.args.element.now) c.args.children (c.requires ∙ count-names c.args.plan.now.elements c.args.element.now) c.if-children-eq0.false (sym c.is_empty.ensures ∙ c.if-is_empty.true)
 
 pub returns-in-Some-clause-place : goal.returns-in-Some-clause-place
 returns-in-Some-clause-place c =
-    picks-index c.args.text.now (run_names c.args.plan.now.elements c.args.element.now) c.run_count-children.result c.in-Some.index _ (c.run_count-children.ensures ∙ count-names c.args.plan.now.elements c.args.element.now) (omega (arith, c.run_count-children.ensures)) c.if-children-eq0.false (sym c.is_empty.ensures ∙ c.if-is_empty.false)
+    picks-index c.args.text.now (run_names c.args.plan.now.elements c.args.element.now) c.args.children c.in-Some.index _ (c.requires ∙ count-names c.args.plan.now.elements c.args.element.now) (omega (arith, c.requires)) c.if-children-eq0.false (sym c.is_empty.ensures ∙ c.if-is_empty.false)
     (sym c.in-Some.is ∙ c.decimal_number.ensures) c.index_among.ensures.among
 
 pub returns-in-Some-place_named-clause-place : goal.returns-in-Some-place_named-clause-place
 returns-in-Some-place_named-clause-place c =
-    picks-named c.args.text.now (run_names c.args.plan.now.elements c.args.element.now) c.run_count-children.result c.in-Some-place_named.place (c.run_count-children.ensures ∙ count-names c.args.plan.now.elements c.args.element.now) c.if-children-eq0.false (sym c.is_empty.ensures ∙ c.if-is_empty.false)
+    picks-named c.args.text.now (run_names c.args.plan.now.elements c.args.element.now) c.args.children c.in-Some-place_named.place (c.requires ∙ count-names c.args.plan.now.elements c.args.element.now) c.if-children-eq0.false (sym c.is_empty.ensures ∙ c.if-is_empty.false)
     (sym c.in_default.is ∙ c.decimal_number.ensures) (sym c.in-Some-place_named.is ∙ c.place_named.ensures)
 
 pub returns-in-Some-place_named-clause-child : goal.returns-in-Some-place_named-clause-child
@@ -24,7 +24,7 @@ returns-in-Some-place_named-clause-child c =
 
 pub returns-in-None-clause-place : goal.returns-in-None-clause-place
 returns-in-None-clause-place c =
-    picks-default c.args.text.now (run_names c.args.plan.now.elements c.args.element.now) c.run_count-children.result _ (c.run_count-children.ensures ∙ count-names c.args.plan.now.elements c.args.element.now) c.if-children-eq0.false (sym c.is_empty.ensures ∙ c.if-is_empty.false)
+    picks-default c.args.text.now (run_names c.args.plan.now.elements c.args.element.now) c.args.children _ (c.requires ∙ count-names c.args.plan.now.elements c.args.element.now) c.if-children-eq0.false (sym c.is_empty.ensures ∙ c.if-is_empty.false)
     (sym c.in_default.is ∙ c.decimal_number.ensures) (sym c.in-None.is ∙ c.place_named.ensures) c.place_named-in-None.ensures
 
 pub returns-in-None-clause-child : goal.returns-in-None-clause-child

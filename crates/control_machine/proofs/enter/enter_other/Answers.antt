@@ -1,82 +1,85 @@
-use Rattle.std.proofs.Common.{length, sym, ap, ◌∙◌, subst, ◌≡◌}
+use Rattle.std.proofs.Common.{rules, sym, ap, ◌∙◌, subst, ◌≡◌}
+use Rattle.std.specs.Prelude.{Some, slice_get}
 use Rattle.jm_base.specs.Run.{over}
+use Rattle.element_tree.specs.declared.kinds.Element.{Element}
 use Rattle.element_tree.specs.declared.kinds.Kind.TheVariants as kinds
 use Rattle.logic_controllers.specs.ForEachController.{Row}
 use Rattle.jm_meaning.specs.State.{state_of, at_places, normal}
 use Rattle.jm_meaning.specs.Meaning.{kind_meaning}
 use Rattle.jm_meaning.proofs.CutLaws.{stands_same}
-use Rattle.control_machine.specs.Moves.{past}
-use Rattle.jm_meaning.specs.Children.{children_of}
-use Rattle.control_machine.specs.Entering.{here_with, entered, EnteredFits}
+use Rattle.control_machine.specs.Left.{IsSamplerKind}
+use Rattle.control_machine.specs.Entering.{here_with}
 use Rattle.control_machine.proofs.CursorCalls.{same_element}
-use Rattle.control_machine.proofs.OpenLaws.{kind_is, kind_came, other_kind, sampler_means, goes_as}
+use Rattle.control_machine.proofs.OpenLaws.{kind_is, other_kind, sampler_means, goes_as}
 use Rattle.control_machine.proofs.enter.enter_other.Goals as goal
 
 pub enter_as-requires-in-ForEach : goal.enter_as-requires-in-ForEach
 enter_as-requires-in-ForEach g c =
     let row : Row = record { input = c.in-ForEach.input; separator = c.in-ForEach.separator; start = c.in-ForEach.start; end = c.in-ForEach.end } in
-    record { there = (c.in-Some.element.now, sym c.in-Some.ensures, (row, c.in-ForEach.output, c.in-ForEach.is)) }
+    record { there = (c.in-Some.element.now, sym c.in-Some.ensures, (row, c.in-ForEach.output, c.in-ForEach.is)); counted = c.requires.counted }
 
-pub returns-in-Script-clause-came : goal.returns-in-Script-clause-came
-returns-in-Script-clause-came g c = λ e failure below round own there.
-    let k = kinds.Script c.in-Script.replies c.in-Script.request in
-    goes_as _ _ _ (sampler_means (here_with c.args.plan.now failure) below c.args.child e e.kind k round (state_of c.args.state.now (at_places own c.args.places.now))
-    (kind_is c.args.plan.now.elements c.args.child c.in-Some.element.now e k c.in-Some.ensures there c.in-Script.is) tt)
+pub returns-in-Script : goal.returns-in-Script
+returns-in-Script g c = record {
+  came = λ e failure below round own there.
+      let k = kinds.Script c.in-Script.replies c.in-Script.request in
+      goes_as _ _ _ (sampler_means (here_with c.args.plan.now failure) below c.args.child e e.kind k round (state_of c.args.state.now (at_places own c.args.places.now))
+      (kind_is c.args.plan.now.elements c.args.child c.in-Some.element.now e k c.in-Some.ensures there c.in-Script.is) tt);
+  fits = λ e there.
+      let k = kinds.Script c.in-Script.replies c.in-Script.request in
+      subst IsSamplerKind (sym (kind_is c.args.plan.now.elements c.args.child c.in-Some.element.now e k c.in-Some.ensures there c.in-Script.is)) tt;
+  stands = stands_same c.args.state.now;
+  places = tt;
+}
 
-pub returns-in-Http-clause-came : goal.returns-in-Http-clause-came
-returns-in-Http-clause-came g c = λ e failure below round own there.
+pub returns-in-Http : goal.returns-in-Http
+returns-in-Http g c =
     let h = c.in-Http in
     let k = kinds.Http h.body h.host h.method h.params h.path h.port h.replies in
-    goes_as _ _ _ (sampler_means (here_with c.args.plan.now failure) below c.args.child e e.kind k round (state_of c.args.state.now (at_places own c.args.places.now))
-    (kind_is c.args.plan.now.elements c.args.child c.in-Some.element.now e k c.in-Some.ensures there h.is) tt)
+    record {
+      came = λ e failure below round own there.
+          goes_as _ _ _ (sampler_means (here_with c.args.plan.now failure) below c.args.child e e.kind k round (state_of c.args.state.now (at_places own c.args.places.now))
+          (kind_is c.args.plan.now.elements c.args.child c.in-Some.element.now e k c.in-Some.ensures there h.is) tt);
+      fits = λ e there. subst IsSamplerKind (sym (kind_is c.args.plan.now.elements c.args.child c.in-Some.element.now e k c.in-Some.ensures there h.is)) tt;
+      stands = stands_same c.args.state.now;
+      places = tt;
+    }
 
-pub returns-in-Simple-clause-came : goal.returns-in-Simple-clause-came
-returns-in-Simple-clause-came g c = λ e failure below round own there. c.enter_as.ensures.came e failure below round (at_places own c.args.places.now) there
+pub returns-in-Simple : goal.returns-in-Simple
+returns-in-Simple g c = c.enter_as.ensures c.args.places.now
 
-pub returns-in-OnceOnly-clause-came : goal.returns-in-OnceOnly-clause-came
-returns-in-OnceOnly-clause-came g c = λ e failure below round own there. c.enter_as-in-OnceOnly.ensures.came e failure below round (at_places own c.args.places.now) there
+pub returns-in-OnceOnly : goal.returns-in-OnceOnly
+returns-in-OnceOnly g c = c.enter_as-in-OnceOnly.ensures c.args.places.now
 
-pub returns-in-Loop-clause-came : goal.returns-in-Loop-clause-came
-returns-in-Loop-clause-came g c = λ e failure below round own there. c.enter_as-in-Loop.ensures.came e failure below round (at_places own c.args.places.now) there
+pub returns-in-Loop : goal.returns-in-Loop
+returns-in-Loop g c = c.enter_as-in-Loop.ensures c.args.places.now
 
-pub returns-in-If-clause-came : goal.returns-in-If-clause-came
-returns-in-If-clause-came g c = λ e failure below round own there. c.enter_as-in-If.ensures.came e failure below round (at_places own c.args.places.now) there
+pub returns-in-If : goal.returns-in-If
+returns-in-If g c = c.enter_as-in-If.ensures c.args.places.now
 
-pub returns-in-While-clause-came : goal.returns-in-While-clause-came
-returns-in-While-clause-came g c = λ e failure below round own there. c.enter_as-in-While.ensures.came e failure below round (at_places own c.args.places.now) there
+pub returns-in-While : goal.returns-in-While
+returns-in-While g c = c.enter_as-in-While.ensures c.args.places.now
 
-pub returns-in-ForEach-clause-came : goal.returns-in-ForEach-clause-came
-returns-in-ForEach-clause-came g c = λ e failure below round own there. c.enter_as-in-ForEach.ensures.came e failure below round (at_places own c.args.places.now) there
+pub returns-in-ForEach : goal.returns-in-ForEach
+returns-in-ForEach g c = c.enter_as-in-ForEach.ensures c.args.places.now
 
-pub returns-in-Random-clause-came : goal.returns-in-Random-clause-came
-returns-in-Random-clause-came g c = λ e failure below round own there. c.enter_as-in-Random.ensures.came e failure below round (at_places own c.args.places.now) there
+pub returns-in-Random : goal.returns-in-Random
+returns-in-Random g c = c.enter_as-in-Random.ensures c.args.places.now
 
-pub returns-in-RandomOrder-clause-came : goal.returns-in-RandomOrder-clause-came
-returns-in-RandomOrder-clause-came g c = λ e failure below round own there. c.enter_as-in-RandomOrder.ensures.came e failure below round (at_places own c.args.places.now) there
+pub returns-in-RandomOrder : goal.returns-in-RandomOrder
+returns-in-RandomOrder g c = c.enter_as-in-RandomOrder.ensures c.args.places.now
 
-pub returns-in-Switch-clause-came : goal.returns-in-Switch-clause-came
-returns-in-Switch-clause-came g c = λ e failure below round own there. c.enter_as-in-Switch.ensures.came e failure below round (at_places own c.args.places.now) there
-
-pub returns-in-Interleave-clause-came : goal.returns-in-Interleave-clause-came
-returns-in-Interleave-clause-came g c = λ e failure below round own there.
-    let k = kind_is c.args.plan.now.elements c.args.child c.in-Some.element.now e (kinds.Interleave) c.in-Some.ensures there c.in-Interleave.is in
-    kind_came (g.O.Outside.account c.args.outside.now) (g.O.Outside.account c.enter_interleave.new.outside) (here_with c.args.plan.now failure) below c.args.child e e.kind (kinds.Interleave) round (state_of c.args.state.now (at_places own c.args.places.now))
-    (entered (here_with c.args.plan.now failure) below c.args.child round e (state_of c.enter_interleave.new.state (at_places own c.enter_interleave.new.places))) (past (state_of c.enter_interleave.new.state (at_places own c.enter_interleave.new.places))) c.enter_interleave.result k
-    (c.enter_interleave.ensures.came e failure below round own (record { there = there; of_kind = k }))
-
-pub enter_transaction-requires : goal.enter_transaction-requires
-enter_transaction-requires g c = record { there = record { there = sym c.in-Some.ensures; of_kind = c.in-Transaction.is } }
+pub returns-in-Switch : goal.returns-in-Switch
+returns-in-Switch g c = c.enter_as-in-Switch.ensures c.args.places.now
 
 pub returns-in-Transaction : goal.returns-in-Transaction
 returns-in-Transaction g c =
+    let kind = λ (e : Element) (there : slice_get c.args.plan.now.elements c.args.child ≡ Some e).
+    kind_is c.args.plan.now.elements c.args.child c.in-Some.element.now e (kinds.Transaction) c.in-Some.ensures there c.in-Transaction.is in
     record {
       came = λ e failure below round own there.
-          let k = kind_is c.args.plan.now.elements c.args.child c.in-Some.element.now e (kinds.Transaction) c.in-Some.ensures there c.in-Transaction.is in
-          let d = same_element c.args.plan.now.elements c.args.child c.in-Some.element.now e (sym c.in-Some.ensures) there in
-          goes_as _ _ _ (ap (λ x. kind_meaning (here_with c.args.plan.now failure) below c.args.child e x round (state_of c.args.state.now (at_places own c.args.places.now))) k
-          ∙ subst (λ x. kind_meaning (here_with c.args.plan.now failure) below c.args.child x (kinds.Transaction) round (state_of c.args.state.now (at_places own c.args.places.now)) ≡ entered (here_with c.args.plan.now failure) below c.args.child round x (state_of c.args.state.now (at_places own c.args.places.now)) c.enter_transaction.result) d
-          (c.enter_transaction.ensures.came failure below round (state_of c.args.state.now (at_places own c.args.places.now))));
-      fits = λ e there. subst (λ x. EnteredFits c.args.child (length (children_of c.args.plan.now.elements x)) x.kind c.enter_transaction.result) (same_element c.args.plan.now.elements c.args.child c.in-Some.element.now e (sym c.in-Some.ensures) there) c.enter_transaction.ensures.fits;
+          goes_as _ _ _ (ap (λ x. kind_meaning (here_with c.args.plan.now failure) below c.args.child e x round (state_of c.args.state.now (at_places own c.args.places.now))) (kind e there)
+          ∙ c.enter_transaction.ensures.came c.args.plan.now e failure below round (state_of c.args.state.now (at_places own c.args.places.now)) (record { there = there; of_kind = kind e there }) (c.requires.counted e there));
+      fits = λ e there. c.enter_transaction.ensures.fits c.args.plan.now.elements e (record { there = there; of_kind = kind e there }) (c.requires.counted e there);
       stands = stands_same c.args.state.now;
       places = tt;
     }
@@ -95,11 +98,10 @@ returns-in_default-kind g c =
       places = tt;
     }
 
-pub returns-in_default-clause-stands : goal.returns-in_default-clause-stands
-returns-in_default-clause-stands g c = stands_same c.args.state.now
-
-pub returns-in-Script-clause-stands : goal.returns-in-Script-clause-stands
-returns-in-Script-clause-stands g c = stands_same c.args.state.now
-
-pub returns-in-Http-clause-stands : goal.returns-in-Http-clause-stands
-returns-in-Http-clause-stands g c = stands_same c.args.state.now
+pub returns-in_default : goal.returns-in_default
+returns-in_default g c = record {
+  came = search rules;
+  fits = λ e there. tt;
+  stands = stands_same c.args.state.now;
+  places = tt;
+}

@@ -1,4 +1,7 @@
-use Rattle.std.proofs.Common.{rules, ◌∙◌, ◌-◌, arith}
+use Rattle.std.proofs.Common.{rules, length, ap, ◌∙◌, ◌-◌, arith}
+use Rattle.std.proofs.lemmas.Option.{slice_get_within}
+use Rattle.std.proofs.lemmas.List.FromFn.{length-map-range_with_len}
+use Rattle.node_table.specs.ElementLinks.{link_of}
 use Rattle.jm_meaning.specs.Meaning.{meaning}
 use Rattle.jm_meaning.specs.Sections.{leaving_open}
 use Rattle.control_machine.specs.Left.{here_in, own_at, state_at, open_lock, IsSampler}
@@ -11,6 +14,15 @@ use Rattle.control_machine.specs.MachineCut.{before_element}
 use Rattle.control_machine.proofs.Coming.{turns_at}
 use Rattle.control_machine.proofs.position.Position.open.Goals as goal
 
+pub count-children-requires : goal.count-children-requires
+count-children-requires g c =
+    let n = nests_at c.args.plan.now.elements c.args.depth c.args.child c.requires.nests in
+    let within = slice_get_within c.args.plan.now.elements c.args.child n.element n.there in
+    omega (arith, within, ap length c.requires.stands.links, length-map-range_with_len (link_of c.args.plan.now.elements) 0 (length c.args.plan.now.elements))
+
+pub enter-requires : goal.enter-requires
+enter-requires g c = record { counted = λ e there. c.count-children.ensures c.args.plan.now.elements e c.requires.stands.links there }
+
 pub push-requires : goal.push-requires
 push-requires g c = (nests_at c.args.plan.now.elements c.args.depth c.args.child c.requires.nests).some
 
@@ -20,7 +32,7 @@ returns-in-Ok-Nothing-clause-turns g c =
     record {
       cut = tt;
       came = λ beside. open_nothing c.args.plan.now c.args.self.now c.args.child c.args.round c.args.depth n.element c.args.state.now c.enter.new.state (own_at c.args.self.now beside) (own_at (record c.args.self.now { places = c.enter.new.places }) beside) _ _ n.some n.there c.requires.normal
-          (rw c.in-Ok-Nothing.field-0-is at (c.in-Ok-Nothing.ensures.came n.element c.args.self.now.at_failure (meaning (here_in c.args.plan.now c.args.self.now) (c.args.depth - 1)) c.args.round (own_at c.args.self.now beside) n.there));
+          (rw c.in-Ok-Nothing.field-0-is at (c.in-Ok-Nothing.ensures.has_entered.came n.element c.args.self.now.at_failure (meaning (here_in c.args.plan.now c.args.self.now) (c.args.depth - 1)) c.args.round (own_at c.args.self.now beside) n.there));
     }
 
 pub returns-in-Ok-Sampler-clause-turns : goal.returns-in-Ok-Sampler-clause-turns
@@ -29,13 +41,13 @@ returns-in-Ok-Sampler-clause-turns g c =
     record {
       cut = tt;
       came = λ beside. open_sampler c.args.plan.now c.args.self.now c.args.child c.args.round c.args.depth n.element c.args.state.now c.enter.new.state (own_at c.args.self.now beside) (own_at (record c.args.self.now { places = c.enter.new.places }) beside) _ _ n.some n.there
-          (rw c.in-Ok-Sampler.field-0-is at (c.in-Ok-Sampler.ensures.came n.element c.args.self.now.at_failure (meaning (here_in c.args.plan.now c.args.self.now) (c.args.depth - 1)) c.args.round (own_at c.args.self.now beside) n.there));
+          (rw c.in-Ok-Sampler.field-0-is at (c.in-Ok-Sampler.ensures.has_entered.came n.element c.args.self.now.at_failure (meaning (here_in c.args.plan.now c.args.self.now) (c.args.depth - 1)) c.args.round (own_at c.args.self.now beside) n.there));
     }
 
 pub returns-in-Ok-Sampler-clause-goes : goal.returns-in-Ok-Sampler-clause-goes
 returns-in-Ok-Sampler-clause-goes g c =
     let n = nests_at c.args.plan.now.elements c.args.depth c.args.child c.requires.nests in
-    let given : IsSampler c.args.plan.now.elements c.args.child = record { element = n.element; there = n.there; of_kind = rw c.in-Ok-Sampler.field-0-is at (c.in-Ok-Sampler.ensures.fits n.element n.there) } in
+    let given : IsSampler c.args.plan.now.elements c.args.child = record { element = n.element; there = n.there; of_kind = rw c.in-Ok-Sampler.field-0-is at (c.in-Ok-Sampler.ensures.has_entered.fits n.element n.there) } in
     search rules
 
 pub returns-in-Ok-Open-clause-turns : goal.returns-in-Ok-Open-clause-turns
@@ -46,25 +58,25 @@ returns-in-Ok-Open-clause-turns g c =
     turns_at c.args.self.now (before_element c.args.depth c.args.child c.args.round) c.args.state.now (λ beside.
     open_frame c.args.plan.now c.args.self.now c.args.child c.args.round c.args.depth n.element c.args.state.now c.enter.new.state (own_at c.args.self.now beside) (own_at (record c.args.self.now { places = c.enter.new.places }) beside) (g.O.Outside.account c.args.outside.now) (g.O.Outside.account c.enter.new.outside) n.some n.there
     c.push.new.self c.in-Ok-Open.cursor (leaving_open (open_lock c.args.self.now.stack.frames) (past (state_at c.push.new.self beside c.enter.new.state))) c.push.result (record { group = r.group; failure = r.failure; signal = r.signal ∙ c.requires.normal }) (own_at c.push.new.self beside) (own_is (record c.args.self.now { places = c.enter.new.places }) c.push.new.self beside r.rounds c.push.ensures.places) c.requires.stands.apart
-    (opened_apart c.args.plan.now.elements c.args.self.now.stack.frames c.args.child c.args.round c.args.depth c.in-Ok-Open.cursor a.element a.there (rw c.in-Ok-Open.field-0-is at (c.in-Ok-Open.ensures.fits a.element a.there)).0 a.free a.below).alone c.push.ensures.pushed
-    (rw c.in-Ok-Open.field-0-is at (c.in-Ok-Open.ensures.came n.element c.args.self.now.at_failure (meaning (here_in c.args.plan.now c.args.self.now) (c.args.depth - 1)) c.args.round (own_at c.args.self.now beside) n.there)))
-    c.in-Ok-Open.ensures.stands
+    (opened_apart c.args.plan.now.elements c.args.self.now.stack.frames c.args.child c.args.round c.args.depth c.in-Ok-Open.cursor a.element a.there (rw c.in-Ok-Open.field-0-is at (c.in-Ok-Open.ensures.has_entered.fits a.element a.there)).0 a.free a.below).alone c.push.ensures.pushed
+    (rw c.in-Ok-Open.field-0-is at (c.in-Ok-Open.ensures.has_entered.came n.element c.args.self.now.at_failure (meaning (here_in c.args.plan.now c.args.self.now) (c.args.depth - 1)) c.args.round (own_at c.args.self.now beside) n.there)))
+    c.in-Ok-Open.ensures.has_entered.stands
 
 pub returns-in-Ok-Open-clause-goes : goal.returns-in-Ok-Open-clause-goes
 returns-in-Ok-Open-clause-goes g c =
     let n = nests_at c.args.plan.now.elements c.args.depth c.args.child c.requires.nests in
-    let f = rw c.in-Ok-Open.field-0-is at (c.in-Ok-Open.ensures.fits n.element n.there) in
+    let f = rw c.in-Ok-Open.field-0-is at (c.in-Ok-Open.ensures.has_entered.fits n.element n.there) in
     let a = apart_at c.args.plan.now.elements c.args.depth c.args.child (is_some (open_lock c.args.self.now.stack.frames)) c.requires.apart in
     let r = c.push.ensures.rest in
     pushed_turn c.args.plan.now c.args.self.now c.push.new.self _ c.push.result c.push.ensures.pushed
     (record { group = r.group; rounds = r.rounds; failure = r.failure; signal = r.signal; links = r.links })
     (record { element = n.element; there = n.there; fits = f.0; below = n.below; depth = omega (arith, c.requires.depth); bound = omega (arith, f.1, c.requires.stands.group.bound); lock = rw c.in-Ok-Open.field-0-is at (c.in-Ok-Open.ensures.lock n.element n.there) })
-    (opened_apart c.args.plan.now.elements c.args.self.now.stack.frames c.args.child c.args.round c.args.depth c.in-Ok-Open.cursor a.element a.there (rw c.in-Ok-Open.field-0-is at (c.in-Ok-Open.ensures.fits a.element a.there)).0 a.free a.below) c.requires.stands
+    (opened_apart c.args.plan.now.elements c.args.self.now.stack.frames c.args.child c.args.round c.args.depth c.in-Ok-Open.cursor a.element a.there (rw c.in-Ok-Open.field-0-is at (c.in-Ok-Open.ensures.has_entered.fits a.element a.there)).0 a.free a.below) c.requires.stands
 
 pub returns-in-Ok-Open-clause-load : goal.returns-in-Ok-Open-clause-load
 returns-in-Ok-Open-clause-load g c =
     let n = nests_at c.args.plan.now.elements c.args.depth c.args.child c.requires.nests in
-    let f = rw c.in-Ok-Open.field-0-is at (c.in-Ok-Open.ensures.fits n.element n.there) in
+    let f = rw c.in-Ok-Open.field-0-is at (c.in-Ok-Open.ensures.has_entered.fits n.element n.there) in
     pushed_opens c.args.plan.now c.args.self.now c.push.new.self c.args.child c.args.round c.args.depth c.in-Ok-Open.cursor n.element n.there f.0 c.push.result c.push.ensures.pushed
 
 pub returns-in-Err-clause-turns : goal.returns-in-Err-clause-turns
@@ -72,5 +84,5 @@ returns-in-Err-clause-turns g c =
     let n = nests_at c.args.plan.now.elements c.args.depth c.args.child c.requires.nests in
     turns_at c.args.self.now (before_element c.args.depth c.args.child c.args.round) c.args.state.now (λ beside.
     open_refused c.args.plan.now c.args.self.now c.args.child c.args.round c.args.depth n.element c.args.state.now c.enter.new.state (own_at c.args.self.now beside) (own_at (record c.args.self.now { places = c.enter.new.places }) beside) _ _ n.some n.there c.in-Err.error c.requires.stands.apart
-    (c.in-Err.ensures.came n.element c.args.self.now.at_failure (meaning (here_in c.args.plan.now c.args.self.now) (c.args.depth - 1)) c.args.round (own_at c.args.self.now beside) n.there))
-    c.in-Err.ensures.stands
+    (c.in-Err.ensures.has_entered.came n.element c.args.self.now.at_failure (meaning (here_in c.args.plan.now c.args.self.now) (c.args.depth - 1)) c.args.round (own_at c.args.self.now beside) n.there))
+    c.in-Err.ensures.has_entered.stands

@@ -4,15 +4,15 @@ use Rattle.var_functions.proofs.LaterLaws.{later_same}
 use Rattle.cursor_steps.specs.CursorStep.{answers}
 use Rattle.cursor_steps.specs.RunningChildren.{pass_over, run_count}
 use Rattle.cursor_steps.proofs.Steps.{goes-same, by-element}
-use Rattle.logic_controllers.specs.SimpleController.{simple_enters}
-use Rattle.logic_controllers.proofs.simple_cursor.SimpleCursorController.enter.Goals as goal
+use Rattle.logic_controllers.specs.OnceOnlyController.{once_enters}
+use Rattle.logic_controllers.proofs.once_cursor.OnceCursorController.enter_among.Goals as goal
 
 pub returns-clause-came : goal.returns-clause-came
 returns-clause-came g c =
-    by-element (g.O.Outside.account c.args._outside.now) (g.O.Outside.account c.args._outside.now) _ c.in-Some.element.now c.args.self.now _ c.args._state.now c.args._state.now
-    (λ e. simple_enters (run_count c.args.plan.now.elements e) c.args.self.now c.args._state.now) (Ok tt) c.in-Some.ensures
+    by-element (g.O.Outside.account c.args._outside.now) (g.O.Outside.account c.args._outside.now) _ c.requires.there.0 c.args.self.now _ c.args._state.now c.args._state.now
+    (λ e. once_enters (run_count c.args._plan.now.elements e) c.args.self.now c.args._state.now) (Ok tt) (sym c.requires.there.1)
     (goes-same _ _ _ (ap (λ p. answers tt (record { element = c.args.self.now.element; pass = p }) c.args._state.now)
-    (sym (c.over-self.ensures ∙ ap pass_over c.run_count.ensures))))
+    (sym (c.over-self.ensures ∙ ap pass_over (c.requires.counted c.requires.there.0 c.requires.there.1)))))
 
 pub returns-clause-later : goal.returns-clause-later
 returns-clause-later g c = later_same _

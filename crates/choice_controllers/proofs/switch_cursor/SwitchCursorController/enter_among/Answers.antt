@@ -1,6 +1,10 @@
+use Rattle.std.proofs.Common.{sym}
 use Rattle.cursor_steps.proofs.Steps.{same-element, by-element}
 use Rattle.choice_controllers.specs.SwitchController.{run_names, switch_enters_at}
-use Rattle.choice_controllers.proofs.switch_cursor.SwitchCursorController.enter.Goals as goal
+use Rattle.choice_controllers.proofs.switch_cursor.SwitchCursorController.enter_among.Goals as goal
+
+pub begin-requires : goal.begin-requires
+begin-requires g c = c.requires.counted c.in-Some.element.now (sym c.in-Some.ensures)
 
 pub returns-clause-came : goal.returns-clause-came
 returns-clause-came g c =
