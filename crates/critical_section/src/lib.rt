@@ -1,7 +1,7 @@
 //! Locks over atomic words, whose critical sections are numbered without a gap, over any number of threads.
 #![tactic(auto)]
 
-pub mod laws;
+mod laws;
 mod places;
 mod rule;
 mod sections;

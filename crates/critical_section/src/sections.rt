@@ -102,8 +102,8 @@ impl Sections {
         }
     }
 
-    /// Tries until a section of the lock is open, and gives its place. After each of the first 64 tries it yields its processor,
-    /// and after each further one it sleeps until the section that is open is left, so that a thread that waits burns no processor.
+    /// Tries until a section of the lock is open, and gives its place. After each of the first 64 tries it yields its processor.
+    /// After each further one that found a section open it sleeps until that is left, so that a thread that waits burns no processor.
     /// No clause says that it returns, or who enters next.
     pub fn enter<R: Wait>(&self, rt: &R, seat: &mut SectionSeat, lock: u16) -> u64
         requires seat { IsSeatOf self.now seat.old }
@@ -141,7 +141,7 @@ impl Sections {
         sleepers.fetch_sub(1, Ordering::SeqCst);
     }
 
-    // Where a thread sleeps at the lock, wakes one, and lets it enter first.
+    // Where a thread sleeps at the lock, wakes one, and gives it time to enter.
     fn hand_over(&self, lock: u16)
         requires { lock < locks_of self.now }
     {
@@ -160,8 +160,8 @@ impl Sections {
         }
     }
 
-    /// Ends the seat's open section of the lock. Where threads sleep at the lock it wakes one, and yields its processor until that
-    /// one has entered, 256 times at most.
+    /// Ends the seat's open section of the lock. Where threads sleep at the lock it wakes one, and yields its processor until a
+    /// thread has entered, 256 times at most.
     pub fn leave(&self, seat: &mut SectionSeat, lock: u16)
         requires seat { IsSeatOf self.now seat.old }
         requires lock { lock < locks_of self.now }

@@ -2,15 +2,15 @@
 #![tactic(auto)]
 
 mod again;
-pub mod kinds;
+mod kinds;
 mod make;
-pub mod names;
-pub mod package;
-pub mod plan;
-pub mod table;
-pub mod threads;
+mod names;
+mod package;
+mod plan;
+mod table;
+mod threads;
 mod tree_walk;
-pub mod types;
+mod types;
 mod values;
 mod write;
 

@@ -6,11 +6,17 @@ use std::marker::Model;
 /// "Execution order" and "Scoping Rules").
 #[derive(Drop)]
 pub struct Package {
+    /// Configuration elements.
     pub config: Vec<u16>,
+    /// Pre-processors.
     pub pre: Vec<u16>,
+    /// Timers.
     pub timers: Vec<u16>,
+    /// Post-processors, which are the extractors.
     pub post: Vec<u16>,
+    /// Assertions.
     pub assertions: Vec<u16>,
+    /// Listeners.
     pub listeners: Vec<u16>,
 }
 

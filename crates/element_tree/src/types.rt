@@ -3,7 +3,7 @@
 ghost use Rattle.std.specs.Prelude.{◌≡◌};
 ghost use Rattle.element_tree.specs.Types.{class_of_type};
 
-/// The types of element.
+/// The types of element, by their names in a plan. What each is stands at `Kind`.
 #[derive(Clone, Copy, PartialEq, Eq, Debug)]
 pub enum ElementType {
     TestPlan,
@@ -42,15 +42,25 @@ pub enum ElementType {
 /// What a type is for: it decides where its elements may stand, and when they take part in a sample (the manual's "Execution order").
 #[derive(Clone, Copy, PartialEq, Eq, Debug)]
 pub enum Class {
+    /// The plan.
     Root,
+    /// Thread groups.
     Group,
+    /// What says which samplers come, and in which order.
     Controller,
+    /// What asks a server, or a script, and gives a sample.
     Sampler,
+    /// What samplers take their settings and variables from.
     Config,
+    /// What is done before a sampler.
     PreProcessor,
+    /// Pauses before a sampler.
     Timer,
+    /// What takes values from a reply.
     PostProcessor,
+    /// Checks of a sample.
     Assertion,
+    /// What is handed samples.
     Listener,
 }
 

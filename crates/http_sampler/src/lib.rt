@@ -1,13 +1,13 @@
 //! The outside of a thread that asks HTTP samplers over streams, and streams over the system's sockets.
 #![tactic(auto)]
 
-pub mod asking;
+mod asking;
 mod opening;
-pub mod outside;
-pub mod sending;
-pub mod socket_world;
-pub mod sockets;
-pub mod stream;
+mod outside;
+mod sending;
+mod socket_world;
+mod sockets;
+mod stream;
 
 pub use asking::exchange;
 pub use outside::HttpOutside;

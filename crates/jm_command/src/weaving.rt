@@ -18,7 +18,7 @@ use edge_io::Sink;
 use element_tree::Plan;
 use interval_tables::Report;
 use jm_base::M;
-use run_engine::count::count_all;
+use run_engine::count_all;
 use std::alloc::Global;
 use trace_output::{PrintError, print_all_results, print_history};
 use weave_engine::{WeaveBooks, weave};

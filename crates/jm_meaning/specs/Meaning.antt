@@ -42,7 +42,7 @@ abbrev pub children_in : Here → Element → List ℕ
 children_in here e = children_of here.plan.elements e
 
 -- An element by its kind, where below is the meaning of its children. A thread group stands below the plan alone, and
--- has its rounds in the meaning of a thread. The other kinds mean nothing here, or don't run yet.
+-- has its rounds in the meaning of a thread. The other kinds mean nothing here.
 abbrev pub kind_meaning : Here → Below → ℕ → Element → Kind → ℕ → Part
 kind_meaning here below number e Simple round s = in_order below round (children_in here e) s
 kind_meaning here below number e OnceOnly round s = once_only below round (children_in here e) s

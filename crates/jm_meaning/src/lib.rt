@@ -2,12 +2,12 @@
 //! pause, its first variables, the places of its Interleave Controllers, and what a transaction counts.
 #![tactic(auto)]
 
-pub mod beginning;
-pub mod item;
-pub mod places;
-pub mod ramp_up;
-pub mod signal;
-pub mod transaction;
+mod beginning;
+mod item;
+mod places;
+mod ramp_up;
+mod signal;
+mod transaction;
 
 pub use beginning::set_first;
 pub use item::Item;

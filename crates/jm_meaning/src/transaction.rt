@@ -8,14 +8,18 @@ use itoa::Buffer;
 use jm_base::{End, M, Sample, Text};
 use std::alloc::Global;
 
-/// The samples of a transaction's samplers: the stamp of the first, how many there are and how many failed, and the sums of
-/// their elapsed times in milliseconds and of their bytes. Each count and each sum is at most 2^32 - 1.
+/// What a transaction counts of the samples of its samplers. Each count and each sum is at most 2^32 - 1.
 #[derive(Clone, Copy, PartialEq, Eq, Debug)]
 pub struct Tally {
+    /// The stamp of the first, in milliseconds.
     pub stamp: u64,
+    /// How many there are.
     pub samples: u32,
+    /// How many of them failed.
     pub failed: u32,
+    /// The sum of their elapsed times, in milliseconds.
     pub elapsed: u32,
+    /// The sum of their bytes.
     pub bytes: u32,
 }
 

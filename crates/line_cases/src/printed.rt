@@ -106,7 +106,7 @@ pub fn result_case(
     Ok(())
 }
 
-// The same line 64 times in one text, as lines are printed.
+// The same line 64 times in one text.
 fn many_lines(alloc: Global, plan: &Plan, line: &Line, name: &Text) -> M<Vec<u8>>
     requires thread { line.now.thread < length (threads_of plan.now) }
     requires label { line.now.sample.label < length (labels_of plan.now.elements) }

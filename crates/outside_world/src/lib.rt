@@ -3,15 +3,15 @@
 #![tactic(auto)]
 
 mod closed;
-pub mod copies;
+mod copies;
 mod kept;
-pub mod mem_ticker;
-pub mod real_ticker;
+mod mem_ticker;
+mod real_ticker;
 mod replies;
-pub mod script;
-pub mod script_world;
-pub mod ticker;
-pub mod world;
+mod script;
+mod script_world;
+mod ticker;
+mod world;
 
 pub use mem_ticker::MemTicker;
 pub use real_ticker::RealTicker;

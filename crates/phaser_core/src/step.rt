@@ -8,7 +8,7 @@ ghost use Rattle.phaser_core.specs.Plain.{changed};
 pub enum Change {
     /// It is loaded, and stays.
     Load,
-    /// So much is added, and the sum wraps at 2^64.
+    /// This is added, and the sum wraps at 2^64.
     Add(u64),
     /// The lesser of the two stays.
     Least(u64),

@@ -2,11 +2,11 @@
 //! at once and asks the hook of it, until all workers have ended.
 #![tactic(auto)]
 
-pub mod ended;
-pub mod error;
-pub mod rules;
-pub mod turns;
-pub mod writing;
+mod ended;
+mod error;
+mod rules;
+mod turns;
+mod writing;
 
 pub use ended::Ended;
 pub use error::RunError;

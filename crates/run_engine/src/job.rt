@@ -13,11 +13,17 @@ use thread_machine::Worker;
 /// just the samples of the worker's trace, and the seat has just its sections.
 #[derive(Drop)]
 pub struct Job<'p, 's, O> {
+    /// The number of the thread.
     pub number: u16,
+    /// What runs it.
     pub worker: Worker<'p>,
+    /// What answers its requests.
     pub out: O,
+    /// Where its samples are recorded.
     pub seat: WriterSeat,
+    /// The locks of the run.
     pub sections: &'s Sections,
+    /// Its seat at them.
     pub section: SectionSeat,
     ghost numbered: { (writes seat).number ≡ number },
     ghost thread: { worker.thread ≡ number },

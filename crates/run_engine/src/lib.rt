@@ -2,21 +2,22 @@
 //! closes intervals and prints their reports.
 #![tactic(auto)]
 
-pub mod ask;
-pub mod beside;
-pub mod books;
-pub mod count;
-pub mod finish;
-pub mod job;
-pub mod joins;
-pub mod opens;
-pub mod run;
-pub mod samples;
-pub mod seats;
-pub mod team;
+mod ask;
+mod beside;
+mod books;
+mod count;
+mod finish;
+mod job;
+mod joins;
+mod opens;
+mod run;
+mod samples;
+mod seats;
+mod team;
 
 pub use ask::RunAsk;
 pub use books::RunBooks;
+pub use count::count_all;
 pub use job::Job;
 pub use reporter_loop::RunError;
 pub use run::run_threads;

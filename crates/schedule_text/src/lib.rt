@@ -2,8 +2,8 @@
 #![tactic(auto)]
 
 mod parse;
-pub mod schedule;
-pub mod token;
+mod schedule;
+mod token;
 
 pub use parse::parse_schedule;
 pub use schedule::{Schedule, ScheduleError};

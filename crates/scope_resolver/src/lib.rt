@@ -2,7 +2,7 @@
 #![tactic(auto)]
 
 mod levels;
-pub mod scope;
+mod scope;
 
 pub use levels::line_to;
 pub use scope::package;

@@ -2,10 +2,10 @@
 #![tactic(auto)]
 
 mod runner;
-pub mod solo;
-pub mod step;
-pub mod trace;
-pub mod worker;
+mod solo;
+mod step;
+mod trace;
+mod worker;
 
 pub use solo::{FinishedThread, run_alone};
 pub use step::Step;

@@ -5,7 +5,6 @@ ghost use Rattle.scope_resolver.specs.Scoping.{same_class, is_of_class};
 
 use crate::calls;
 use crate::words::word;
-use element_tree::table::type_name;
 use element_tree::{Class, Element, Kind, Package, Plan, RegexPatterns};
 use jm_base::M;
 use node_table::Links;
@@ -222,8 +221,8 @@ fn write_elements(plan: &Plan, out: &mut String) -> Result<(), AllocError> {
 fn write_element(number: u16, element: &Element, out: &mut String) -> Result<(), AllocError> {
     write!(
         out,
-        "  {number} {} {:?} below {}, above {:?}",
-        type_name(element.kind.element_type()),
+        "  {number} {:?} {:?} below {}, above {:?}",
+        element.kind.element_type(),
         word(&element.name),
         element.parent,
         element.children.as_slice()

@@ -2,7 +2,7 @@
 //! when, and when the reporter closes which interval. So an interleaving can be written down, and comes again each time.
 #![tactic(auto)]
 
-pub mod books;
+mod books;
 mod reporter;
 mod rounds;
 mod rows;

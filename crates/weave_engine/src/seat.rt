@@ -13,8 +13,9 @@ use thread_machine::{Step, Worker};
 /// What a thread is to do before its next event.
 #[derive(Clone, Copy)]
 pub enum Owed {
+    /// There is nothing of the kind.
     Nothing,
-    /// So many steps of its last sample's record are done. The record's load found this interval.
+    /// That many steps of its last sample's record are done. The record's load found this interval.
     Record {
         entry: Entry,
         done: u8,
@@ -31,11 +32,15 @@ pub enum Owed {
 pub struct Seat<'p> {
     /// The number of the thread, and of the writer that records for it.
     pub number: u16,
+    /// The thread.
     pub worker: Worker<'p>,
+    /// What answers its requests.
     pub outside: ScriptOutside,
+    /// What it is to do before its next event.
     pub owed: Owed,
     /// The lock of the thread's open section.
     pub section: Option<u16>,
+    /// Whether the thread has ended.
     pub ended: bool,
 }
 
