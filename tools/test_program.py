@@ -1,5 +1,5 @@
 #!/usr/bin/python3
-"""Tests of the built program as a process that asks a server: where a standard file is closed, and where threads share a lock.
+"""Tests of the built program as a process: where a standard file is closed, where threads share a lock, and how soon a run ends.
 
 Usage: tools/test_program.py [UNITTEST WORDS]    (PROGRAM in the environment is run in place of ./jm)
 """
@@ -150,6 +150,22 @@ class Sections(unittest.TestCase):
         # Entering a section takes a unit, and so does its sampler: the second section is entered and has none left for it.
         self.assertEqual((status, len(lines), server.most_open), (0, 8, 1))
         self.assertEqual(ends, ["SampleLimit"] * 8)
+
+
+class AtOnce(unittest.TestCase):
+    """A run is over when its threads are, however long an interval is."""
+
+    def test_an_interval_of_an_hour_is_cut_short(self):
+        sampler = {"type": "Script", "name": "S", "props": {"replies": [{}]}}
+        text = json.dumps({"type": "TestPlan", "children": [{"type": "ThreadGroup", "props": {"threads": 4}, "children": [sampler]}]})
+        took = []
+        for _ in range(5):
+            start = time.monotonic()
+            status, lines, ends = run(text, "--every", "3600000")
+            took.append(time.monotonic() - start)
+            self.assertEqual((status, len(lines), ends), (0, 4, ["Completed"] * 4))
+        # The end of the threads is noticed within 20 ms; the rest is left to the start and the end of a process on a machine at work.
+        self.assertLess(min(took), 0.5)
 
 
 if __name__ == "__main__":
