@@ -1,5 +1,5 @@
 #!/bin/sh
-# How long one core takes to write the line of a sample into memory, 64 lines in one text as they are printed. At most 130 ns is the aim.
+# How long one core takes to write the line of a sample into memory, 64 lines in one text; a run prints them in texts of up to 16 KiB. At most 130 ns is the aim.
 # Usage: bench/lines.sh [ROUNDS]
 set -eu
 cd "$(dirname "$0")/.."

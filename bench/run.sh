@@ -2,7 +2,8 @@
 # Prints how fast `run` is with 1, 2, 4 and 8 threads over the plan's own replies and an interval of 100 ms, beside `solo` with
 # one thread of the same plan in the same minute: samples a second from the start of the process to its exit, and until the
 # last report came, which is when the threads have ended and the results are still to be printed; each the best of several.
-# And the peak of its memory for each sample.
+# And the peak of its memory for each sample. At first a plain loop, of which a sample is little more than its record and its line; then
+# nested loops with an If, a ForEach and templates, as in bench/solo.sh, where a thread has more to do by itself.
 # Usage: bench/run.sh [TIMES]    (7 times; it needs python3, for the clock and the memory of a child process)
 cd "$(dirname "$0")/.." || exit 1
 ./jm check </dev/null >/dev/null 2>&1
@@ -13,11 +14,27 @@ PROGRAM = "crates/jm_program/out/jm_program"
 TIMES = int(os.environ["TIMES"])
 SAMPLES = 65_536
 
-def plan(threads):
-    sampler = {"type": "Script", "name": "S", "props": {"replies": [{"ms": 1}]}}
-    loop = {"type": "Loop", "props": {"loops": SAMPLES}, "children": [sampler]}
-    group = {"type": "ThreadGroup", "name": "TG", "props": {"threads": threads}, "children": [loop]}
+def plan(threads, children):
+    group = {"type": "ThreadGroup", "name": "TG", "props": {"threads": threads}, "children": children}
     return json.dumps({"type": "TestPlan", "children": [group]}).encode()
+
+def script(name, reply, **props):
+    return {"type": "Script", "name": name, "props": {"replies": [reply], **props}}
+
+def controller(kind, name, children, **props):
+    return {"type": kind, "name": name, "props": props, "children": children}
+
+PLAIN = [controller("Loop", "L", [script("S", {"ms": 1})], loops=SAMPLES)]
+
+# 64 rounds of 64 rounds, in each of them the If's sampler and the 15 values of the ForEach.
+REQUEST = "${user}/${__jm__E__idx}/${__intSum(${__jm__I__idx},1)}?q=${o}"
+NESTED = [
+    {"type": "UserVariables", "props": {"vars": [["user", "ann"]] + [[f"u_{number}", f"value {number}"] for number in range(1, 16)]}},
+    controller("Loop", "O", [controller("Loop", "I", [
+        controller("If", "C", [script("T", {"ms": 1})], condition='${__jexl3("${user}" == "ann")}'),
+        controller("ForEach", "E", [script("S", {"echo": True, "ms": 1}, request=REQUEST)], input="u", output="o"),
+    ], loops=64)], loops=64),
+]
 
 def measured(text, *words):
     """Seconds to the exit, seconds to the last report, the peak of memory in bytes, and how many samples and intervals."""
@@ -47,11 +64,14 @@ def best(text, *words):
     return min(took), min(reported), min(peaks), samples[0], max(intervals)
 
 print(f"{os.cpu_count()} processors, {SAMPLES:,} samples a thread, the best of {TIMES}")
-took, _, peak, samples, _ = best(plan(1), "solo")
-alone = samples / took
-print(f"solo: {samples:,} samples in {took * 1000:.1f} ms, {alone:,.0f} a second, {peak / samples:.0f} bytes a sample")
-for threads in (1, 2, 4, 8):
-    took, reported, peak, samples, intervals = best(plan(threads), "run", "--every", "100")
-    print(f"run, {threads} thread{'s' * (threads > 1)}: {samples:,} samples in {took * 1000:.1f} ms, {samples / took:,.0f} a second, {samples / took / alone:.2f} of solo; "
-          f"threads ended after {reported * 1000:.1f} ms, {samples / reported:,.0f} a second; {peak / samples:.0f} bytes a sample, {intervals} intervals")
+for name, children in (("a plain loop", PLAIN), ("nested loops", NESTED)):
+    took, _, peak, samples, _ = best(plan(1, children), "solo")
+    alone = samples / took
+    print(f"{name}, solo: {samples:,} samples in {took * 1000:.1f} ms, {alone:,.0f} a second, {peak / samples:.0f} bytes a sample")
+    for threads in (1, 2, 4, 8):
+        took, reported, peak, samples, intervals = best(plan(threads, children), "run", "--every", "100")
+        one = samples / took if threads == 1 else one
+        print(f"{name}, run, {threads} thread{'s' * (threads > 1)}: {samples:,} samples in {took * 1000:.1f} ms, {samples / took:,.0f} a second, "
+              f"{samples / took / alone:.2f} of solo, {samples / took / one:.2f} of one thread; threads ended after {reported * 1000:.1f} ms, "
+              f"{samples / reported:,.0f} a second; {peak / samples:.0f} bytes a sample, {intervals} intervals")
 PY

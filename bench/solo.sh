@@ -1,7 +1,8 @@
 #!/bin/sh
 # Prints how fast `solo` runs: samples a second from the start of the process to its exit, the peak of its memory,
 # how long a loop without end over an empty controller takes to meet its limit of rounds, what a critical section costs beside
-# a Simple Controller, and how much one long list of children costs beside many short ones.
+# a Simple Controller, a pass of a controller with many children beside one with few, and how much one long list of children costs
+# beside many short ones.
 # Usage: bench/solo.sh    (it needs python3, for the clock and the memory of a child process)
 cd "$(dirname "$0")/.." || exit 1
 ./jm solo </dev/null >/dev/null 2>&1
@@ -110,6 +111,17 @@ def rounds_of(kind, **props):
 
 for (section, simple), by in zip(zip(*in_turn(rounds_of("CriticalSection", lock="l"), rounds_of("Simple"))), ("least", "medians")):
     print(f"a section beside a Simple Controller, 32,768 rounds, by the {by}: {(section - simple) / 32_768 * 1e9:.0f} ns more a round")
+
+# What a pass costs of a controller with many children, of which it runs one or none: many passes beside one, which has the same plan to read.
+def passes_of(children, passes, kind, **props):
+    return plan([controller("Loop", "L", [controller(kind, "C", [script("S", [{}])] * children, **props)], loops=passes)])
+
+for kind, props in (("Interleave", {}), ("If", {"condition": "false"})):
+    a_pass = []
+    for children in (4_000, 4):
+        many, one = in_turn(passes_of(children, 200_000, kind, **props), passes_of(children, 1, kind, **props), times=7)
+        a_pass.append((many[0] - one[0]) / 199_999 * 1e9)
+    print(f"a pass of an {kind} with 4,000 children and with 4, by the least: {a_pass[0]:.0f} and {a_pass[1]:.0f} ns")
 
 # 3,969 samplers in one group, and the same in 63 controllers of 63.
 def group_of(children, loops):
