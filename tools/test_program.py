@@ -115,10 +115,10 @@ class Sections(unittest.TestCase):
         self.assertEqual((status, len(lines)), (0, 80))
         self.assertGreater(server.most_open, 1)
 
-    def test_64_threads_at_one_lock(self):
+    def test_64_threads_at_one_lock_for_a_second(self):
         with Server(200, 0.001) as server:
-            status, lines, ends = run(plan_for(server, "l", threads=64, loops=12))
-        self.assertEqual((status, len(lines), server.most_open), (0, 768, 1))
+            status, lines, ends = run(plan_for(server, "l", threads=64, loops=16))
+        self.assertEqual((status, len(lines), server.most_open), (0, 1024, 1))
         self.assertEqual(ends, ["Completed"] * 64)
 
     def failing(self, on_error):
