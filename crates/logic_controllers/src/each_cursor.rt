@@ -7,8 +7,7 @@ ghost use Rattle.var_functions.specs.Vars.{Puts, value_of};
 ghost use Rattle.var_functions.specs.FunctionState.{Functions};
 ghost use Rattle.var_functions.specs.Came.{CameTo};
 ghost use Rattle.cursor_steps.specs.CursorStep.{Step, past_limit, StepsTo};
-ghost use Rattle.cursor_steps.specs.RunningChildren.{IsAmong, Passes, begun_after};
-ghost use Rattle.logic_controllers.specs.ControllerRounds.{opened};
+ghost use Rattle.logic_controllers.specs.ControllerRounds.{opened, RoundsTurn};
 ghost use Rattle.logic_controllers.specs.ForEachController.{input_name, value_at, output_vars, each_goes, each_opens, each_next, AllSet, EachKept};
 
 use crate::rounds::Rounds;
@@ -195,10 +194,7 @@ impl EachCursor {
         ensures came { StepsTo (O.account outside.old)
             (each_next name.now (record { input = input.now; separator = span.separator; start = span.start; end = span.end }) output.now self.old state.old)
             (O.account outside.new) self.new state.new result }
-        ensures child { IfOk result (λ turn. IsAmong self.old.rounds.pass.children turn) }
-        ensures pass { IfOk result (Passes self.old.rounds.pass self.new.rounds.pass) }
-        ensures begun { IfOk result (λ turn. self.new.rounds.begun ≡ begun_after self.old.rounds.begun turn) }
-        ensures children { self.new.rounds.pass.children ≡ self.old.rounds.pass.children }
+        ensures turned { RoundsTurn self.old.rounds self.new.rounds result }
         ensures same { self.new.element ≡ self.old.element }
         ensures kept { OnErr result (EachKept name.now output.now self.old state.old.vars self.new state.new.vars) }
         ensures fns { state.new.fns ≡ state.old.fns }
@@ -251,10 +247,7 @@ impl EachCursor {
     ) -> Result<Turn, VarError>
         ensures came { (a : Account) → StepsTo a
             (each_goes (record { input = input.now; separator = span.separator; start = span.start; end = span.end }) self.old state.now) a self.new state.now result }
-        ensures child { IfOk result (λ turn. IsAmong self.old.rounds.pass.children turn) }
-        ensures pass { IfOk result (Passes self.old.rounds.pass self.new.rounds.pass) }
-        ensures begun { IfOk result (λ turn. self.new.rounds.begun ≡ begun_after self.old.rounds.begun turn) }
-        ensures children { self.new.rounds.pass.children ≡ self.old.rounds.pass.children }
+        ensures turned { RoundsTurn self.old.rounds self.new.rounds result }
         ensures same { self.new.element ≡ self.old.element }
         ensures kept { OnErr result (self.new ≡ self.old) }
     {

@@ -3,7 +3,7 @@
 ghost use Rattle.std.specs.Prelude.{◌≡◌, ◌<◌, ◌≤◌, IfOk, OnOk, OnErr, if◌then◌else◌};
 ghost use Rattle.var_functions.specs.FunctionState.{IsLater};
 ghost use Rattle.cursor_steps.specs.CursorStep.{StepsTo};
-ghost use Rattle.cursor_steps.specs.RunningChildren.{IsAmong, Passes};
+ghost use Rattle.cursor_steps.specs.RunningChildren.{PassTurn};
 ghost use Rattle.logic_controllers.specs.IfController.{is_true, if_enters, if_next};
 
 use cursor_steps::{Controller, Pass};
@@ -158,9 +158,7 @@ impl IfCursor {
         outside: &mut O,
     ) -> Result<Turn, VarError>
         ensures came { StepsTo (O.account outside.old) (if_next all condition.now self.old state.old) (O.account outside.new) self.new state.new result }
-        ensures child { IfOk result (λ turn. IsAmong self.old.pass.children turn) }
-        ensures pass { IfOk result (Passes self.old.pass self.new.pass) }
-        ensures children { self.new.pass.children ≡ self.old.pass.children }
+        ensures turned { PassTurn self.old.pass self.new.pass result }
         ensures same { self.new.element ≡ self.old.element }
         ensures kept { OnErr result (self.new ≡ self.old) }
         ensures vars { state.new.vars ≡ state.old.vars }

@@ -1,11 +1,11 @@
 // The cursor of a Loop Controller.
 
-ghost use Rattle.std.specs.Prelude.{◌≡◌, ◌<◌, ◌≤◌, ◌-◌, IfOk, OnOk, OnErr};
+ghost use Rattle.std.specs.Prelude.{◌≡◌, ◌≤◌, OnOk, OnErr, Ok};
 ghost use Rattle.var_functions.specs.declared.state.UserState.{UserState};
 ghost use Rattle.var_functions.specs.FunctionState.{IsLater};
 ghost use Rattle.cursor_steps.specs.CursorStep.{StepsTo, answers};
-ghost use Rattle.cursor_steps.specs.RunningChildren.{IsAmong, Passes, most_rounds, begun_after};
-ghost use Rattle.logic_controllers.specs.ControllerRounds.{before_rounds};
+ghost use Rattle.cursor_steps.specs.RunningChildren.{most_rounds};
+ghost use Rattle.logic_controllers.specs.ControllerRounds.{before_rounds, RoundsTurn};
 ghost use Rattle.logic_controllers.specs.LoopController.{loops_of, round_begins, loop_enters, loop_goes, loop_next};
 
 use crate::rounds::Rounds;
@@ -166,10 +166,7 @@ impl LoopCursor {
     ) -> Result<Turn, VarError>
         requires { self.old.rounds.begun ≤ most_rounds }
         ensures came { StepsTo (O.account outside.old) (loop_next name.now self.old state.old) (O.account outside.new) self.new state.new result }
-        ensures child { IfOk result (λ turn. IsAmong self.old.rounds.pass.children turn) }
-        ensures pass { IfOk result (Passes self.old.rounds.pass self.new.rounds.pass) }
-        ensures begun { IfOk result (λ turn. self.new.rounds.begun ≡ begun_after self.old.rounds.begun turn) }
-        ensures children { self.new.rounds.pass.children ≡ self.old.rounds.pass.children }
+        ensures turned { RoundsTurn self.old.rounds self.new.rounds result }
         ensures same { self.new.element ≡ self.old.element }
         ensures kept { OnErr result ((self.new ≡ self.old) × (state.new ≡ state.old)) }
         ensures fns { state.new.fns ≡ state.old.fns }
@@ -184,10 +181,7 @@ impl LoopCursor {
     fn turn(&mut self) -> Turn
         requires { self.old.rounds.begun ≤ most_rounds }
         ensures goes { (state : UserState) → answers result self.new state ≡ loop_goes self.old state }
-        ensures child { IsAmong self.old.rounds.pass.children result }
-        ensures pass { Passes self.old.rounds.pass self.new.rounds.pass result }
-        ensures begun { self.new.rounds.begun ≡ begun_after self.old.rounds.begun result }
-        ensures children { self.new.rounds.pass.children ≡ self.old.rounds.pass.children }
+        ensures turned { RoundsTurn self.old.rounds self.new.rounds (Ok result) }
         ensures same { self.new.element ≡ self.old.element }
     {
         if let Some(place) = self.rounds.pass.next_child() {

@@ -1,9 +1,9 @@
 // The cursor of a Simple Controller.
 
-ghost use Rattle.std.specs.Prelude.{◌≡◌};
+ghost use Rattle.std.specs.Prelude.{◌≡◌, Ok};
 ghost use Rattle.var_functions.specs.declared.state.UserState.{UserState};
 ghost use Rattle.cursor_steps.specs.CursorStep.{answers};
-ghost use Rattle.cursor_steps.specs.RunningChildren.{IsAmong, Passes};
+ghost use Rattle.cursor_steps.specs.RunningChildren.{SurePassTurn};
 ghost use Rattle.logic_controllers.specs.SimpleController.{simple_next};
 
 use cursor_steps::{Controller, Pass};
@@ -25,9 +25,7 @@ impl SimpleCursor {
     /// The next child, or `Over` after the last one.
     pub fn take_turn(&mut self) -> Turn
         ensures goes { (state : UserState) → answers result self.new state ≡ simple_next self.old state }
-        ensures child { IsAmong self.old.pass.children result }
-        ensures pass { Passes self.old.pass self.new.pass result }
-        ensures children { self.new.pass.children ≡ self.old.pass.children }
+        ensures turned { SurePassTurn self.old.pass self.new.pass (Ok result) }
         ensures same { self.new.element ≡ self.old.element }
     {
         match self.pass.next_child() {

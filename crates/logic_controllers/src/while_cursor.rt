@@ -1,10 +1,10 @@
 // The cursor of a While Controller.
 
-ghost use Rattle.std.specs.Prelude.{◌≡◌, ◌<◌, ◌≤◌, IfOk, OnErr};
+ghost use Rattle.std.specs.Prelude.{◌≡◌, ◌≤◌, OnErr};
 ghost use Rattle.var_functions.specs.FunctionState.{IsLater};
 ghost use Rattle.cursor_steps.specs.CursorStep.{StepsTo};
-ghost use Rattle.cursor_steps.specs.RunningChildren.{IsAmong, Passes, most_rounds, begun_after};
-ghost use Rattle.logic_controllers.specs.ControllerRounds.{before_rounds};
+ghost use Rattle.cursor_steps.specs.RunningChildren.{most_rounds};
+ghost use Rattle.logic_controllers.specs.ControllerRounds.{RoundsTurn};
 ghost use Rattle.logic_controllers.specs.WhileController.{is_blank, last_ok, goes_on, while_enters, while_goes, while_next, WhileKept};
 
 use crate::rounds::Rounds;
@@ -146,10 +146,7 @@ impl WhileCursor {
     ) -> Result<Turn, VarError>
         requires { self.old.rounds.begun ≤ most_rounds }
         ensures came { StepsTo (O.account outside.old) (while_next name.now condition.now self.old state.old) (O.account outside.new) self.new state.new result }
-        ensures child { IfOk result (λ turn. IsAmong self.old.rounds.pass.children turn) }
-        ensures pass { IfOk result (Passes self.old.rounds.pass self.new.rounds.pass) }
-        ensures begun { IfOk result (λ turn. self.new.rounds.begun ≡ begun_after self.old.rounds.begun turn) }
-        ensures children { self.new.rounds.pass.children ≡ self.old.rounds.pass.children }
+        ensures turned { RoundsTurn self.old.rounds self.new.rounds result }
         ensures same { self.new.element ≡ self.old.element }
         ensures kept { OnErr result (WhileKept name.now self.old state.old.vars self.new state.new.vars) }
         ensures later { IsLater state.old.fns state.new.fns }
@@ -170,10 +167,7 @@ impl WhileCursor {
     ) -> Result<Turn, VarError>
         requires { self.old.rounds.begun ≤ most_rounds }
         ensures came { StepsTo (O.account outside.old) (while_goes condition.now self.old state.old) (O.account outside.new) self.new state.new result }
-        ensures child { IfOk result (λ turn. IsAmong self.old.rounds.pass.children turn) }
-        ensures pass { IfOk result (Passes self.old.rounds.pass self.new.rounds.pass) }
-        ensures begun { IfOk result (λ turn. self.new.rounds.begun ≡ begun_after self.old.rounds.begun turn) }
-        ensures children { self.new.rounds.pass.children ≡ self.old.rounds.pass.children }
+        ensures turned { RoundsTurn self.old.rounds self.new.rounds result }
         ensures same { self.new.element ≡ self.old.element }
         ensures kept { OnErr result (self.new ≡ self.old) }
         ensures vars { state.new.vars ≡ state.old.vars }

@@ -76,9 +76,9 @@ returns-in-Transaction-clause-answers g c = rw c.in-Transaction.is (record {
       came-step (g.O.Outside.account c.args.outside.now) (g.O.Outside.account c.args.outside.now) below (λ d. c.args.round) (children_of c.args.plan.now.elements e) (simple_left below c.args.round (children_of c.args.plan.now.elements e)) own _ _ c.take_turn.new.self c.args.state.now (Ok c.take_turn.result)
       (simple-law below c.args.round (children_of c.args.plan.now.elements e) c.in-Transaction.open.children (state_of c.args.state.now own) fits.2) (goes-same _ _ _ (sym (c.take_turn.ensures.goes c.args.state.now)));
   begun = omega arith;
-  pass = passes_fewer c.in-Transaction.open.children.pass c.take_turn.new.self.pass c.take_turn.result c.take_turn.ensures.pass;
+  pass = passes_fewer c.in-Transaction.open.children.pass c.take_turn.new.self.pass c.take_turn.result c.take_turn.ensures.turned.pass;
   shut = refl;
-  fits = λ e n there fits. (c.take_turn.ensures.same ∙ fits.0, fits.1, rw c.take_turn.ensures.children fits.2);
+  fits = λ e n there fits. (c.take_turn.ensures.same ∙ fits.0, fits.1, rw c.take_turn.ensures.turned.children fits.2);
   cut = λ e n there fits. tt;
 })
 
@@ -91,9 +91,9 @@ returns-in-Section-clause-answers g c = rw c.in-Section.is (record {
       came-step (g.O.Outside.account c.args.outside.now) (g.O.Outside.account c.args.outside.now) below (λ d. c.args.round) (children_of c.args.plan.now.elements e) (simple_left below c.args.round (children_of c.args.plan.now.elements e)) own _ _ c.take_turn-in-Section.new.self c.args.state.now (Ok c.take_turn-in-Section.result)
       (simple-law below c.args.round (children_of c.args.plan.now.elements e) c.in-Section.open.children (state_of c.args.state.now own) fits.2) (goes-same _ _ _ (sym (c.take_turn-in-Section.ensures.goes c.args.state.now)));
   begun = omega arith;
-  pass = passes_fewer c.in-Section.open.children.pass c.take_turn-in-Section.new.self.pass c.take_turn-in-Section.result c.take_turn-in-Section.ensures.pass;
+  pass = passes_fewer c.in-Section.open.children.pass c.take_turn-in-Section.new.self.pass c.take_turn-in-Section.result c.take_turn-in-Section.ensures.turned.pass;
   shut = refl;
-  fits = λ e n there fits. (c.take_turn-in-Section.ensures.same ∙ fits.0, fits.1, rw c.take_turn-in-Section.ensures.children fits.2);
+  fits = λ e n there fits. (c.take_turn-in-Section.ensures.same ∙ fits.0, fits.1, rw c.take_turn-in-Section.ensures.turned.children fits.2);
   cut = λ e n there fits. tt;
 })
 
