@@ -19,14 +19,15 @@ use Rattle.jm_meaning.specs.State.{State, Own, Ending, state_of, at_rounds, norm
 use Rattle.jm_meaning.specs.Children.{children_of, one_of}
 use Rattle.jm_meaning.specs.Meaning.{Here, meaning}
 use Rattle.jm_meaning.proofs.PartLaws.{no-rounds, one-round}
+use Rattle.open_elements.specs.Moves.{turned}
+use Rattle.open_elements.specs.Cursors.{shut_of, round_in}
+use Rattle.open_elements.specs.Closing.{closing}
+use Rattle.open_elements.proofs.PassLaws.{none-left}
 use Rattle.control_machine.specs.declared.stack.Frame.{Frame}
 use Rattle.control_machine.specs.declared.position.Group.{Group}
 use Rattle.control_machine.specs.declared.position.Position.{Position}
-use Rattle.control_machine.specs.Moves.{turned}
-use Rattle.control_machine.specs.Cursors.{shut_of, round_in}
-use Rattle.control_machine.specs.Left.{here_in, left_in, left_of, left_after, label_at, closing, closed, children_at, ended, IsOut, rest_of}
+use Rattle.control_machine.specs.Left.{here_in, left_in, left_of, left_after, label_at, closed, children_at, ended, IsOut, rest_of}
 use Rattle.control_machine.specs.Turns.{went, closing_of}
-use Rattle.control_machine.proofs.PassLaws.{none-left}
 use Rattle.control_machine.proofs.StackLaws.{left_by, innermost, inside_top, out_of_top, closed_out}
 use Rattle.control_machine.proofs.Following.{left_normal, left_later, group_child}
 use Rattle.control_machine.proofs.Turning.{IsLike, at_own}

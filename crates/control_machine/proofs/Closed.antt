@@ -9,16 +9,17 @@ use Rattle.jm_meaning.specs.declared.signal.Signal.{Signal}
 use Rattle.jm_meaning.specs.declared.transaction.Tally.{Tally}
 use Rattle.jm_meaning.specs.Children.{children_of}
 use Rattle.jm_meaning.specs.Transactions.{gives_sample}
-use Rattle.control_machine.specs.declared.cursor.Cursor.{Cursor}
-use Rattle.control_machine.specs.declared.cursor.Cursor.TheVariants.{Transaction}
+use Rattle.open_elements.specs.declared.cursor.Cursor.{Cursor}
+use Rattle.open_elements.specs.declared.cursor.Cursor.TheVariants.{Transaction}
+use Rattle.open_elements.specs.Cursors.{Shut, Plain, Summing, Leaving, shut_of, lock_in, FitsKind}
+use Rattle.open_elements.specs.Closing.{KeepsLock}
 use Rattle.control_machine.specs.declared.stack.Frame.{Frame}
 use Rattle.control_machine.specs.declared.position.Group.{Group}
 use Rattle.control_machine.specs.declared.position.Position.{Position}
 use Rattle.control_machine.specs.declared.position.Went.{Went}
 use Rattle.control_machine.specs.declared.position.Went.TheVariants.{On, To}
 use Rattle.control_machine.specs.declared.moves.Move.TheVariants.{LeaveSection, TransactionSample}
-use Rattle.control_machine.specs.Cursors.{Shut, Plain, Summing, Leaving, shut_of, lock_in, FitsKind}
-use Rattle.control_machine.specs.Left.{KeepsLock, IsAlone, IsOpen, StandsIn, open_lock}
+use Rattle.control_machine.specs.Left.{IsAlone, IsOpen, StandsIn, open_lock}
 use Rattle.control_machine.specs.Turns.{IsWent, Lightens, IsNormalOn, IsRoundless, IsRoundIn, MovesLockOn, TakesTurn, closing_move, closing_of}
 
 -- what holds of going on, of a transaction's sample and of a section that is left holds of an element that is left

@@ -14,14 +14,15 @@ use Rattle.jm_meaning.specs.declared.signal.Signal.TheVariants.{Normal}
 use Rattle.jm_meaning.specs.State.{Ending, normal}
 use Rattle.jm_meaning.specs.Sections.{leaving_open}
 use Rattle.jm_meaning.specs.Cut.{StandsLater}
+use Rattle.open_elements.specs.Moves.{past}
+use Rattle.open_elements.specs.ElementCut.{IsCutIn}
+use Rattle.open_elements.proofs.OpenLaws.{goes_as}
 use Rattle.control_machine.specs.declared.stack.Frame.{Frame}
 use Rattle.control_machine.specs.declared.position.Position.{Position}
 use Rattle.control_machine.specs.declared.position.Went.{Went}
-use Rattle.control_machine.specs.Moves.{past}
 use Rattle.control_machine.specs.Left.{Beside, state_at}
-use Rattle.control_machine.specs.MachineCut.{Place, left_at, IsCutIn}
+use Rattle.control_machine.specs.MachineCut.{Place, left_at}
 use Rattle.control_machine.specs.Turns.{went, left_from, Turns}
-use Rattle.control_machine.proofs.OpenLaws.{goes_as}
 use Rattle.control_machine.proofs.Answered.{came_as}
 use Rattle.control_machine.proofs.CutLaws.{cut_as, cut_behind, cut_here, cut_inside}
 

@@ -19,11 +19,11 @@ use Rattle.jm_meaning.specs.Children.{in_order}
 use Rattle.jm_meaning.specs.Beginning.{max_rounds}
 use Rattle.jm_meaning.specs.Meaning.{Here, meaning, group_rounds}
 use Rattle.jm_meaning.proofs.PartLaws.{next-round, round_at, no-rounds, one-round}
+use Rattle.open_elements.proofs.PassLaws.{prefix, none-left, all-left}
 use Rattle.control_machine.specs.declared.stack.Frame.{Frame}
 use Rattle.control_machine.specs.declared.position.Group.{Group}
 use Rattle.control_machine.specs.declared.position.Position.{Position}
 use Rattle.control_machine.specs.Left.{left_in, rest_of, left_of, here_in, children_at, ended}
-use Rattle.control_machine.proofs.PassLaws.{prefix, none-left, all-left}
 
 -- what is left in a machine whose signal is Normal
 pub left_normal : (plan : Tree) (m : Position) (s : State) → m.signal ≡ Normal → left_of plan m s ≡ left_in (here_in plan m) m.group m.stack.frames (over (normal s))

@@ -8,7 +8,7 @@ use Rattle.element_tree.specs.declared.kinds.Element.{Element}
 use Rattle.cursor_steps.specs.declared.pass.Pass.{Pass}
 use Rattle.cursor_steps.specs.RunningChildren.{is_left, after_child}
 use Rattle.jm_meaning.specs.Children.{children_of}
-use Rattle.control_machine.specs.Load.{remaining}
+use Rattle.open_elements.specs.ChildrenLeft.{remaining}
 use Rattle.control_machine.specs.Left.{children_at}
 
 pub some_left : (p : Pass) (place : ℕ) → place ≡ p.next → place < p.children → is_left p ≡ true

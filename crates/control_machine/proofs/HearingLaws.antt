@@ -10,16 +10,18 @@ use Rattle.element_tree.specs.Tree.{Tree, Apart}
 use Rattle.jm_meaning.specs.declared.signal.Signal.{Signal}
 use Rattle.jm_meaning.specs.Sampling.{after_sample}
 use Rattle.jm_meaning.specs.Beginning.{max_rounds}
-use Rattle.control_machine.specs.declared.cursor.Cursor.{Cursor}
-use Rattle.control_machine.specs.declared.cursor.Cursor.TheVariants.{Transaction}
+use Rattle.open_elements.specs.declared.cursor.Cursor.{Cursor}
+use Rattle.open_elements.specs.declared.cursor.Cursor.TheVariants.{Transaction}
+use Rattle.open_elements.specs.Cursors.{shut_of, lock_in, begun_of, FitsKind}
+use Rattle.open_elements.specs.Closing.{KeepsLock}
+use Rattle.open_elements.specs.Hearing.{hearing}
 use Rattle.control_machine.specs.declared.stack.Frame.{Frame}
 use Rattle.control_machine.specs.declared.position.Position.{Position}
-use Rattle.control_machine.specs.Cursors.{shut_of, lock_in, begun_of, FitsKind}
-use Rattle.control_machine.specs.Left.{KeepsLock, open_lock, IsAlone, IsOpen, AreOpen, AreApart, IsOut, StandsIn}
+use Rattle.control_machine.specs.Left.{open_lock, IsAlone, IsOpen, AreOpen, AreApart, IsOut, StandsIn}
 use Rattle.control_machine.specs.declared.moves.Leave.{Leave}
 use Rattle.control_machine.specs.declared.moves.Leave.TheVariants as leaves
 use Rattle.control_machine.specs.Turns.{signal_left}
-use Rattle.control_machine.specs.Hearing.{hearing, frame_hearing, all_hearing, told}
+use Rattle.control_machine.specs.Hearing.{frame_hearing, all_hearing, told}
 
 -- ---- one after another
 

@@ -3,11 +3,12 @@ use Rattle.std.proofs.Common.{◌≡◌, ℕ, suc, ◌+◌, ◌*◌, ◌≤◌, 
 use Rattle.element_tree.specs.declared.kinds.Element.{Element}
 use Rattle.element_tree.specs.declared.package.Turn.{Turn}
 use Rattle.element_tree.specs.declared.package.Turn.TheVariants.{Child}
+use Rattle.open_elements.specs.ChildrenLeft.{remaining, children_left}
 use Rattle.control_machine.specs.declared.stack.Frame.{Frame}
 use Rattle.control_machine.specs.declared.position.Position.{Position}
 use Rattle.control_machine.specs.declared.position.Went.{Went}
 use Rattle.control_machine.specs.declared.position.Went.TheVariants.{On, To}
-use Rattle.control_machine.specs.Load.{children_count, scale, remaining, children_left, load, load_of}
+use Rattle.control_machine.specs.Load.{children_count, scale, load, load_of}
 use Rattle.cursor_steps.specs.RunningChildren.{TakesChild}
 use Rattle.control_machine.specs.Turns.{Lightens, IsOpened, load_in}
 use Rattle.control_machine.proofs.LoadLaws.{left_light, child_light, plain_light, round_light, group_light}

@@ -8,8 +8,9 @@ use Rattle.std.proofs.lemmas.List.Sums.{length-filter, count_by-le-length}
 use Rattle.element_tree.specs.declared.kinds.Element.{Element}
 use Rattle.cursor_steps.specs.RunningChildren.{is_run_at, runs_of}
 use Rattle.jm_meaning.specs.Children.{children_of}
+use Rattle.open_elements.specs.ChildrenLeft.{children_left}
 use Rattle.control_machine.specs.declared.stack.Frame.{Frame}
-use Rattle.control_machine.specs.Load.{children_count, scale, children_left, load}
+use Rattle.control_machine.specs.Load.{children_count, scale, load}
 use Rattle.control_machine.specs.Turns.{IsOpened}
 
 pub scale-positive : (c d : ℕ) → 1 ≤ scale c d

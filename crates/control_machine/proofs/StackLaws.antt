@@ -18,19 +18,21 @@ use Rattle.jm_meaning.specs.State.{State, Ending, Part, normal, stopped, and_the
 use Rattle.jm_meaning.specs.Meaning.{Here, children_in, meaning}
 use Rattle.jm_meaning.specs.Transactions.{gives_sample, counting, summed, with_own_sample}
 use Rattle.jm_meaning.specs.Sections.{leaving_open}
-use Rattle.control_machine.specs.declared.cursor.Cursor.{Cursor}
-use Rattle.control_machine.specs.declared.cursor.Cursor.TheVariants.{Transaction}
+use Rattle.open_elements.specs.declared.cursor.Cursor.{Cursor}
+use Rattle.open_elements.specs.declared.cursor.Cursor.TheVariants.{Transaction}
+use Rattle.open_elements.specs.Moves.{past}
+use Rattle.open_elements.specs.Cursors.{cursor_left, Shut, Plain, Summing, Leaving, shut_of, lock_in}
+use Rattle.open_elements.specs.Closing.{closing}
+use Rattle.open_elements.specs.Hearing.{hearing}
+use Rattle.open_elements.proofs.ClosingLaws.{goes_closing, closing_gives, closing_hears, ends_so, left_there, stop_closing}
 use Rattle.control_machine.specs.declared.stack.Frame.{Frame}
 use Rattle.control_machine.specs.declared.position.Group.{Group}
 use Rattle.control_machine.specs.declared.position.Position.{Position}
 use Rattle.control_machine.specs.declared.position.Went.TheVariants.{On, To}
 use Rattle.control_machine.specs.declared.moves.Move.TheVariants.{TransactionSample}
-use Rattle.control_machine.specs.Moves.{past}
-use Rattle.control_machine.specs.Cursors.{cursor_left, Shut, Plain, Summing, Leaving, shut_of, lock_in}
-use Rattle.control_machine.specs.Left.{label_at, frame_left, closing, closed, rest_of, group_around, left_in, left_after, here_in, open_lock, IsAlone, AreApart}
-use Rattle.control_machine.specs.Hearing.{hearing, frame_hearing, all_hearing}
+use Rattle.control_machine.specs.Left.{label_at, frame_left, closed, rest_of, group_around, left_in, left_after, here_in, open_lock, IsAlone, AreApart}
+use Rattle.control_machine.specs.Hearing.{frame_hearing, all_hearing}
 use Rattle.control_machine.specs.Turns.{went, closing_move}
-use Rattle.control_machine.proofs.ClosingLaws.{goes_closing, closing_gives, closing_hears, ends_so, left_there, stop_closing}
 
 -- what an open element's cursor leaves
 abbrev pub left_by : Here → Frame → Element → Part

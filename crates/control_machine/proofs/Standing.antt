@@ -12,11 +12,13 @@ use Rattle.element_tree.specs.Tree.{Tree, Nests, Apart}
 use Rattle.cursor_steps.specs.RunningChildren.{begun_after}
 use Rattle.jm_meaning.specs.Children.{children_of}
 use Rattle.jm_meaning.specs.Beginning.{max_rounds}
-use Rattle.control_machine.specs.declared.cursor.Cursor.{Cursor}
-use Rattle.control_machine.specs.declared.cursor.Cursor.TheVariants.{Simple, Once, Loop, If, While, Each, Interleave, Random, Order, Switch, Transaction, Section}
+use Rattle.open_elements.specs.declared.cursor.Cursor.{Cursor}
+use Rattle.open_elements.specs.declared.cursor.Cursor.TheVariants.{Simple, Once, Loop, If, While, Each, Interleave, Random, Order, Switch, Transaction, Section}
+use Rattle.open_elements.specs.Cursors.{Shut, Plain, Summing, Leaving, shut_of, lock_in, FitsKind, begun_of}
+use Rattle.open_elements.specs.ChildrenLeft.{children_left}
+use Rattle.open_elements.specs.Closing.{KeepsLock}
 use Rattle.control_machine.specs.declared.stack.Frame.{Frame}
 use Rattle.control_machine.specs.declared.position.Group.{Group}
-use Rattle.control_machine.specs.Cursors.{Shut, Plain, Summing, Leaving, shut_of, lock_in, FitsKind, begun_of}
 use Rattle.control_machine.specs.declared.position.Position.{Position}
 use Rattle.control_machine.specs.declared.position.Went.{Went}
 use Rattle.control_machine.specs.declared.position.Went.TheVariants.{On, To}
@@ -25,8 +27,8 @@ use Rattle.var_functions.specs.declared.error.VarError.{VarError}
 use Rattle.var_functions.specs.declared.error.VarError.TheVariants.{NoMemory}
 use Rattle.cursor_steps.specs.RunningChildren.{is_run_at, runs_of}
 use Rattle.choice_controllers.specs.Chosen.{waiting}
-use Rattle.control_machine.specs.Load.{children_count, children_left}
-use Rattle.control_machine.specs.Left.{KeepsLock, open_lock, IsAlone, IsApart, AreApart, IsOpen, AreOpen, GroupIsOpen, IsOut, StandsIn}
+use Rattle.control_machine.specs.Load.{children_count}
+use Rattle.control_machine.specs.Left.{open_lock, IsAlone, IsApart, AreApart, IsOpen, AreOpen, GroupIsOpen, IsOut, StandsIn}
 use Rattle.control_machine.specs.Turns.{IsWent, IsOpened, IsRoundless, IsRoundIn, IsNormalOn, MovesLockOn, TakesTurn, SameRest, opening_move}
 use Rattle.control_machine.proofs.LoadLaws.{few_runs}
 

@@ -19,11 +19,11 @@ use Rattle.jm_meaning.specs.Children.{children_of}
 use Rattle.jm_meaning.specs.Meaning.{Here, here_at, meaning, signal_of, failure_in, failure_of, group_rounds, group_meaning, group_part}
 use Rattle.node_table.specs.declared.element_links.Link.{Link}
 use Rattle.node_table.specs.ElementLinks.{links_of}
+use Rattle.open_elements.proofs.PassLaws.{none-left, count-is}
+use Rattle.open_elements.proofs.CursorCalls.{same_element}
 use Rattle.control_machine.specs.Opened.{Opened}
 use Rattle.control_machine.specs.declared.position.Position.{Position}
 use Rattle.control_machine.specs.Left.{left_in, rest_of, left_of, children_at, AreOpen, AreApart, IsOut, StandsIn}
-use Rattle.control_machine.proofs.PassLaws.{none-left, count-is}
-use Rattle.control_machine.proofs.CursorCalls.{same_element}
 
 -- the machine of this group
 abbrev pub first_of : ℕ → Loops → ℕ → Opened → List ℕ → Signal → List Link → Position

@@ -9,13 +9,14 @@ use Rattle.element_tree.specs.Tree.{Tree}
 use Rattle.cursor_steps.specs.RunningChildren.{begun_after}
 use Rattle.jm_meaning.specs.Children.{children_of}
 use Rattle.jm_meaning.specs.Beginning.{max_rounds}
+use Rattle.open_elements.specs.declared.cursor.Cursor.{Cursor}
+use Rattle.open_elements.specs.Cursors.{shut_of, begun_of, FitsKind}
+use Rattle.open_elements.specs.Answers.{StandsAt}
 use Rattle.control_machine.specs.Opened.{Opened}
-use Rattle.control_machine.specs.declared.cursor.Cursor.{Cursor}
 use Rattle.control_machine.specs.declared.stack.Frame.{Frame}
 use Rattle.control_machine.specs.declared.position.Position.{Position}
-use Rattle.control_machine.specs.Cursors.{shut_of, begun_of, FitsKind}
 use Rattle.control_machine.specs.Left.{StandsIn, IsOpen}
-use Rattle.control_machine.specs.Answers.{StandsAt, HasAnswered}
+use Rattle.control_machine.specs.Answers.{HasAnswered}
 use Rattle.control_machine.proofs.Standing.{answered_open, apart_on}
 
 -- an open element whose cursor has moved on

@@ -14,16 +14,17 @@ use Rattle.jm_meaning.specs.declared.signal.Signal.TheVariants.{Normal}
 use Rattle.jm_meaning.specs.State.{State, Own, Ending, Part, state_of, at_units, at_rounds, normal, stopped, taking_unit}
 use Rattle.jm_meaning.specs.Sections.{leaving_open}
 use Rattle.jm_meaning.specs.Meaning.{Here, children_in, meaning, kind_meaning}
-use Rattle.control_machine.specs.declared.cursor.Cursor.{Cursor}
+use Rattle.open_elements.specs.declared.cursor.Cursor.{Cursor}
+use Rattle.open_elements.specs.Moves.{past}
+use Rattle.open_elements.specs.Cursors.{cursor_left, Shut, Plain, Summing, Leaving, shut_of}
+use Rattle.open_elements.specs.Closing.{closing}
+use Rattle.open_elements.specs.Entering.{kind_part, opening}
 use Rattle.control_machine.specs.declared.stack.Frame.{Frame}
 use Rattle.control_machine.specs.declared.position.Position.{Position}
 use Rattle.control_machine.specs.declared.position.Went.{Went}
 use Rattle.control_machine.specs.declared.position.Went.TheVariants.{On, To}
 use Rattle.control_machine.specs.declared.moves.Move.TheVariants.{RunSampler}
-use Rattle.control_machine.specs.Moves.{past}
-use Rattle.control_machine.specs.Cursors.{cursor_left, Shut, Plain, Summing, Leaving, shut_of}
-use Rattle.control_machine.specs.Left.{Beside, here_in, left_in, left_of, left_after, label_at, closing, own_at, kind_part, open_lock, IsAlone, AreApart}
-use Rattle.control_machine.specs.Entering.{opening}
+use Rattle.control_machine.specs.Left.{Beside, here_in, left_in, left_of, left_after, label_at, own_at, open_lock, IsAlone, AreApart}
 use Rattle.control_machine.specs.Turns.{went, opening_move}
 use Rattle.control_machine.proofs.StackLaws.{goes_left, left_gives, stop_through, refused_left, innermost}
 use Rattle.control_machine.proofs.Opening.{meant}

@@ -2,16 +2,9 @@
 use Rattle.std.specs.Prelude.{List, map}
 use Rattle.jm_base.specs.declared.types.Sample.{Sample}
 use Rattle.jm_meaning.specs.Sampling.{after_sample}
-use Rattle.jm_meaning.specs.Transactions.{with_sample}
-use Rattle.control_machine.specs.declared.cursor.Cursor.{Cursor}
-use Rattle.control_machine.specs.declared.cursor.Cursor.TheVariants.{Transaction}
+use Rattle.open_elements.specs.Hearing.{hearing}
 use Rattle.control_machine.specs.declared.stack.Frame.{Frame}
 use Rattle.control_machine.specs.declared.position.Position.{Position}
-
--- a transaction counts the sample
-abbrev pub hearing : Sample → Cursor → Cursor
-hearing sample (Transaction c) = Transaction (record { children = c.children; tally = with_sample c.tally sample })
-hearing sample c = c
 
 abbrev pub frame_hearing : Sample → Frame → Frame
 frame_hearing sample f = record { element = f.element; round = f.round; depth = f.depth; cursor = hearing sample f.cursor }

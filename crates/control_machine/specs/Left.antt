@@ -6,8 +6,7 @@ use Rattle.jm_base.specs.declared.types.End.{End}
 use Rattle.jm_base.specs.declared.types.End.TheVariants.{Completed, StopThread, StopTest, Stopped, SampleLimit, RoundLimit, ValueLimit, NoMemory}
 use Rattle.jm_base.specs.Run.{Run, over, give, Entered as EnteredEvent, Left as LeftEvent}
 use Rattle.element_tree.specs.declared.kinds.Element.{Element}
-use Rattle.element_tree.specs.declared.kinds.Kind.{Kind}
-use Rattle.element_tree.specs.declared.kinds.Kind.TheVariants.{Script, Http, Transaction, CriticalSection}
+use Rattle.element_tree.specs.declared.kinds.Kind.TheVariants.{Transaction, CriticalSection}
 use Rattle.element_tree.specs.Names.{lock_of}
 use Rattle.element_tree.specs.Tree.{Tree, Nests, Apart}
 use Rattle.var_functions.specs.declared.state.UserState.{UserState}
@@ -17,9 +16,7 @@ use Rattle.jm_meaning.specs.declared.signal.Signal.TheVariants.{Normal, NextLoop
 use Rattle.jm_meaning.specs.State.{State, Own, Ending, Part, state_of, normal, stopped, and_then, with_unit}
 use Rattle.jm_meaning.specs.Rounds.{round_of_group, round_start}
 use Rattle.jm_meaning.specs.Children.{children_of, in_order}
-use Rattle.jm_meaning.specs.Sampling.{sampling}
-use Rattle.jm_meaning.specs.Transactions.{with_own_sample, transaction_from}
-use Rattle.jm_meaning.specs.Sections.{leaving}
+use Rattle.jm_meaning.specs.Transactions.{with_own_sample}
 use Rattle.jm_meaning.specs.Beginning.{max_rounds}
 use Rattle.jm_meaning.specs.Meaning.{Here, children_in, meaning, group_rounds}
 use Rattle.node_table.specs.ElementLinks.{links_of}
@@ -28,20 +25,15 @@ use Rattle.control_machine.specs.declared.position.Group.{Group}
 use Rattle.control_machine.specs.declared.position.Position.{Position}
 use Rattle.control_machine.specs.declared.moves.Move.{Move}
 use Rattle.control_machine.specs.declared.moves.Move.TheVariants.{Iteration, RunSampler, EnterSection, LeaveSection, TransactionSample, Finished}
-use Rattle.control_machine.specs.Moves.{pass_left}
-use Rattle.control_machine.specs.Cursors.{cursor_left, Shut, Plain, Summing, Leaving, shut_of, lock_in, begun_of, FitsKind}
+use Rattle.open_elements.specs.Moves.{pass_left}
+use Rattle.open_elements.specs.Cursors.{cursor_left, Shut, Plain, Summing, Leaving, shut_of, lock_in, begun_of, FitsKind}
+use Rattle.open_elements.specs.Closing.{closing, KeepsLock}
+use Rattle.open_elements.specs.Entering.{kind_part, IsSamplerKind}
 
 -- what an open element gives after the child that is open
 abbrev pub frame_left : Here → Frame → Option Element → Part
 frame_left here f None s = over (normal s)
 frame_left here f (Some e) s = cursor_left (meaning here f.depth) f.round (children_in here e) e f.cursor s
-
--- what an open element makes of the run in it: a transaction counts the samples, and gives its own after them; a section is
--- left after it
-abbrev pub closing : ℕ → Shut → Run Ending → Run Ending
-closing label Plain inner = inner
-closing label (Summing tally) inner = transaction_from label tally inner
-closing label (Leaving lock) inner = leaving lock inner
 
 abbrev pub closed : Here → Frame → Run Ending → Run Ending
 closed here f inner = closing (label_at here.plan.elements f.element) (shut_of f.cursor) inner
@@ -99,12 +91,7 @@ state_at m beside user = state_of user (own_at m beside)
 
 -- ---- moves
 
--- a sampler by its number
-abbrev pub kind_part : Here → ℕ → Element → Kind → Part
-kind_part here number e (Script replies request) s = with_unit s (sampling here.plan.elements number here.at_failure)
-kind_part here number e (Http body host method params path port replies) s = with_unit s (sampling here.plan.elements number here.at_failure)
-kind_part here number e kind s = over (normal s)
-
+-- a sampler by its number, where an element has it
 abbrev pub sampler_part : Here → ℕ → Option Element → Part
 sampler_part here number None s = over (normal s)
 sampler_part here number (Some e) s = kind_part here number e e.kind s
@@ -134,11 +121,6 @@ IsFinish RoundLimit = Unit {0}
 IsFinish ValueLimit = ⊥
 IsFinish NoMemory = ⊥
 
-abbrev pub IsSamplerKind : Kind → Type 0
-IsSamplerKind (Script replies request) = Unit {0}
-IsSamplerKind (Http body host method params path port replies) = Unit {0}
-IsSamplerKind kind = ⊥
-
 -- the number is that of a sampler
 pub record IsSampler (elements : List Element) (number : ℕ) : Type 0 where
   pub element : Element
@@ -150,12 +132,6 @@ pub record IsTransaction (elements : List Element) (number : ℕ) : Type 0 where
   pub element : Element
   pub there : slice_get elements number ≡ Some element
   pub kind : element.kind ≡ Transaction
-
--- a section keeps the lock of its element
-abbrev pub KeepsLock : List Element → Kind → Shut → Type 0
-KeepsLock elements k Plain = Unit {0}
-KeepsLock elements k (Summing tally) = Unit {0}
-KeepsLock elements k (Leaving lock) = (name : List ℕ) × (k ≡ CriticalSection name) × (lock ≡ lock_of elements name)
 
 -- the number is that of the lock of a critical section
 pub record IsLock (elements : List Element) (lock : ℕ) : Type 0 where

@@ -1,9 +1,6 @@
 pub mod Opened
-pub mod Moves
-pub mod Cursors
 pub mod Left
 pub mod Load
-pub mod Entering
 pub mod Turns
 pub mod Hearing
 pub mod MachineCut

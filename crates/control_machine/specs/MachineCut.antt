@@ -1,18 +1,14 @@
 -- What stands where a machine was refused on its way.
-use Rattle.std.specs.Prelude.{◌≡◌, ℕ, List, []}
+use Rattle.std.specs.Prelude.{ℕ, []}
 use Rattle.jm_base.specs.Run.{Run}
 use Rattle.jm_base.specs.Outside.{Account, Goes}
-use Rattle.element_tree.specs.declared.kinds.Element.{Element}
 use Rattle.element_tree.specs.Tree.{Tree}
 use Rattle.var_functions.specs.declared.state.UserState.{UserState}
 use Rattle.var_functions.specs.Came.{LeftOf}
-use Rattle.jm_meaning.specs.State.{State, Own, Ending, state_of}
-use Rattle.jm_meaning.specs.Children.{Below}
+use Rattle.jm_meaning.specs.State.{State, Ending}
 use Rattle.jm_meaning.specs.Meaning.{meaning}
 use Rattle.jm_meaning.specs.Cut.{StandsLater}
-use Rattle.control_machine.specs.declared.cursor.Cursor.{Cursor}
 use Rattle.control_machine.specs.declared.position.Position.{Position}
-use Rattle.control_machine.specs.Cursors.{cursor_left, shut_of}
 use Rattle.control_machine.specs.Left.{Beside, left_of, left_after, here_in, state_at}
 
 -- where a thread stands in its run: between two turns, or before an element is entered at which elements nest that deep
@@ -34,13 +30,3 @@ pub record IsCut (plan : Tree) (before : Account) (run : Beside → Run Ending) 
   pub goes : (beside : Beside) → Goes before (run beside) [] (left_at plan machine place (state_at machine beside between)) moment
   pub stands : StandsLater between new
   pub rest : (beside : Beside) → LeftOf moment (left_at plan machine place (state_at machine beside between)) after
-
--- An open element was refused on its way: it has opened the round that began last or not, and the variables are as that
--- has left them.
-pub record IsCutIn (e : Element) (old : Cursor) (before new : UserState) : Type 0 where
-  pub cursor : Cursor
-  pub between : UserState
-  pub shut : shut_of cursor ≡ shut_of old
-  pub same : (below : Below) (round : ℕ) (children : List ℕ) (own : Own)
-      → cursor_left below round children e old (state_of before own) ≡ cursor_left below round children e cursor (state_of between own)
-  pub stands : StandsLater between new

@@ -7,9 +7,9 @@ use Rattle.var_functions.specs.declared.state.UserState.{UserState}
 use Rattle.var_functions.specs.Came.{CameTo}
 use Rattle.var_functions.specs.FunctionState.{IsLater}
 use Rattle.jm_meaning.specs.Sections.{leaving_open}
+use Rattle.open_elements.specs.Moves.{past}
 use Rattle.control_machine.specs.declared.moves.Move.{Move}
 use Rattle.control_machine.specs.declared.position.Position.{Position}
-use Rattle.control_machine.specs.Moves.{past}
 use Rattle.control_machine.specs.Left.{Beside, StandsIn, left_of, state_at, moved, IsMove, open_lock}
 use Rattle.control_machine.specs.MachineCut.{IsCut}
 use Rattle.control_machine.specs.Turns.{TakesRound, IsNormalAt, IsRoundOf, MovesLock}

@@ -16,6 +16,9 @@ use Rattle.jm_meaning.specs.State.{State, Ending}
 use Rattle.jm_meaning.specs.Children.{children_of}
 use Rattle.jm_meaning.specs.Meaning.{meaning}
 use Rattle.jm_meaning.specs.Sections.{leaving_open}
+use Rattle.open_elements.specs.Moves.{turned, past}
+use Rattle.open_elements.specs.Cursors.{cursor_left, round_in, Shut, Plain, Summing, Leaving, shut_of}
+use Rattle.open_elements.specs.ChildrenLeft.{remaining, children_left}
 use Rattle.control_machine.specs.declared.stack.Frame.{Frame}
 use Rattle.control_machine.specs.declared.position.Group.{Group}
 use Rattle.control_machine.specs.declared.position.Position.{Position}
@@ -26,11 +29,9 @@ use Rattle.control_machine.specs.declared.moves.Move.TheVariants.{Iteration, Run
 use Rattle.control_machine.specs.declared.moves.Leave.{Leave}
 use Rattle.control_machine.specs.declared.moves.Leave.TheVariants as leaves
 use Rattle.jm_meaning.specs.Transactions.{gives_sample}
-use Rattle.control_machine.specs.Moves.{turned, past}
-use Rattle.control_machine.specs.Cursors.{cursor_left, round_in, Shut, Plain, Summing, Leaving, shut_of}
 use Rattle.control_machine.specs.Left.{Beside, StandsIn, left_of, left_in, left_after, closed, here_in, state_at, moved, IsMove, open_lock}
 use Rattle.control_machine.specs.MachineCut.{IsCut}
-use Rattle.control_machine.specs.Load.{children_count, scale, load, load_of, remaining, children_left}
+use Rattle.control_machine.specs.Load.{children_count, scale, load, load_of}
 
 -- what is left after a turn
 abbrev pub went : Tree → Position → State → Went → Run Ending

@@ -1,15 +1,10 @@
 //! The machine of a thread's plan: it goes from one move to the next, through the thread's rounds and their open elements.
 #![tactic(auto)]
 
-mod cursor;
-mod enter;
 mod machine;
 mod moves;
-mod opens;
 mod position;
-mod section;
 mod stack;
-mod transaction;
 mod turns;
 
 pub use jm_meaning::Tally;

@@ -9,7 +9,7 @@ ghost use Rattle.jm_meaning.specs.Sampling.{after_sample};
 ghost use Rattle.jm_meaning.specs.Sections.{leaving_open};
 ghost use Rattle.jm_meaning.specs.Meaning.{group_part, here_at, failure_of};
 ghost use Rattle.jm_meaning.specs.Beginning.{max_rounds, first_places};
-ghost use Rattle.control_machine.specs.Moves.{past};
+ghost use Rattle.open_elements.specs.Moves.{past};
 ghost use Rattle.control_machine.specs.Left.{Beside, StandsIn, left_of, state_at, moved, IsMove, open_lock};
 ghost use Rattle.control_machine.specs.Turns.{TakesRound, IsNormalAt, IsRoundOf, MovesLock, signal_left};
 ghost use Rattle.control_machine.specs.Hearing.{told};

@@ -2,12 +2,13 @@
 
 ghost use Rattle.std.specs.Prelude.{◌≡◌, List, [], ◌∷◌, OnOk, OnErr, MatchOption};
 ghost use Rattle.var_functions.specs.FunctionState.{IsLater};
-ghost use Rattle.control_machine.specs.Answers.{StandsAt, TopAnswers};
+ghost use Rattle.open_elements.specs.Answers.{StandsAt};
+ghost use Rattle.control_machine.specs.Answers.{TopAnswers};
 ghost use Rattle.control_machine.specs.Hearing.{all_hearing};
 
-use crate::cursor::Cursor;
 use element_tree::{Plan, Turn};
 use jm_base::{M, Outside, Sample};
+use open_elements::Cursor;
 use std::alloc::Global;
 use std::marker::Model;
 use var_functions::{UserState, VarError};

@@ -11,14 +11,13 @@ ghost use Rattle.jm_meaning.specs.Transactions;
 ghost use Rattle.jm_meaning.specs.Beginning.{max_rounds};
 ghost use Rattle.jm_meaning.specs.declared.signal.Signal.{Signal};
 ghost use Rattle.node_table.specs.ElementLinks.{links_of};
+ghost use Rattle.open_elements.specs.Cursors.{shut_of, Summing};
+ghost use Rattle.open_elements.specs.ChildrenLeft.{children_left};
 ghost use Rattle.control_machine.specs.Left.{StandsIn, left_after, state_at, here_in, open_lock};
 ghost use Rattle.control_machine.specs.Turns.{Lightens, LeavesOn, opening_move, closing_move, closing_of, left_answered, load_in, IsOpened, TakesTurn, Turns, TurnsOn, SameThread, SameRest};
 ghost use Rattle.control_machine.specs.Answers.{with_frames, HasAnswered};
-ghost use Rattle.control_machine.specs.Cursors.{shut_of, Summing};
-ghost use Rattle.control_machine.specs.Load.{children_left, load_of};
+ghost use Rattle.control_machine.specs.Load.{load_of};
 
-use crate::cursor::Cursor;
-use crate::enter::{Entered, enter};
 use crate::moves::Move;
 use crate::position::{Position, Went};
 use crate::stack::{Frame, Stack};
@@ -27,6 +26,7 @@ use jm_base::{End, Outside};
 use jm_meaning::{Signal, Tally, gives_sample};
 use logic_controllers::round_begins;
 use node_table::Links;
+use open_elements::{Cursor, Entered, enter};
 use std::alloc::Global;
 use var_functions::{UserState, VarError};
 

@@ -11,7 +11,8 @@ use Rattle.element_tree.specs.declared.kinds.Kind.{Kind}
 use Rattle.element_tree.specs.declared.kinds.Kind.TheVariants as kinds
 use Rattle.element_tree.specs.declared.types.Class.TheVariants as classes
 use Rattle.element_tree.specs.Types.{class_of}
-use Rattle.control_machine.specs.Left.{IsSamplerKind, IsLock}
+use Rattle.open_elements.specs.Entering.{IsSamplerKind}
+use Rattle.control_machine.specs.Left.{IsLock}
 use Rattle.thread_machine.specs.Stepped.{IsKindOf}
 use Rattle.element_tree.specs.Names.{gives_samples, sample_name, lock_of_kind, lock_name, with_text, distinct_after, labels_of, label_of, locks_of, lock_of}
 

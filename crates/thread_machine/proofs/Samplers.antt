@@ -26,12 +26,13 @@ use Rattle.jm_meaning.specs.Sampling.{sampling, given_sample, given, after_waite
 use Rattle.jm_meaning.specs.Sections.{leaving_open}
 use Rattle.jm_meaning.specs.Meaning.{Here, and_end, end_of}
 use Rattle.jm_meaning.proofs.PartLaws.{no-units, one-unit}
+use Rattle.open_elements.specs.Moves.{past}
+use Rattle.open_elements.specs.Entering.{kind_part, IsSamplerKind}
 use Rattle.control_machine.specs.declared.position.Position.{Position}
 use Rattle.control_machine.specs.declared.moves.Move.TheVariants.{RunSampler}
-use Rattle.control_machine.specs.Moves.{past}
 use Rattle.control_machine.specs.Opened.{Opened}
 use Rattle.control_machine.specs.Hearing.{told}
-use Rattle.control_machine.specs.Left.{here_in, left_in, left_after, left_of, moved, kind_part, sampler_part, open_lock, IsSamplerKind, IsSampler, IsLock, StandsIn}
+use Rattle.control_machine.specs.Left.{here_in, left_in, left_after, left_of, moved, sampler_part, open_lock, IsSampler, IsLock, StandsIn}
 use Rattle.thread_machine.specs.declared.trace.TraceItem.TheVariants.{Null as NullItem}
 use Rattle.thread_machine.specs.declared.runner.Runner.{Runner}
 use Rattle.thread_machine.specs.declared.step.Step.{Step}

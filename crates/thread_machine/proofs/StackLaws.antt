@@ -6,9 +6,9 @@ use Rattle.var_functions.specs.declared.error.VarError.{VarError}
 use Rattle.var_functions.specs.Came.{CameTo}
 use Rattle.jm_meaning.specs.State.{State, Ending}
 use Rattle.jm_meaning.specs.Meaning.{Here}
+use Rattle.open_elements.specs.Moves.{past}
 use Rattle.control_machine.specs.declared.stack.Frame.{Frame}
 use Rattle.control_machine.specs.declared.position.Group.{Group}
-use Rattle.control_machine.specs.Moves.{past}
 use Rattle.jm_meaning.specs.Sections.{leaving_open}
 use Rattle.control_machine.specs.Left.{left_in, open_lock, AreApart}
 use Rattle.control_machine.proofs.StackLaws.{goes_left, refused_left}

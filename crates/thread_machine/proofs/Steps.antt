@@ -24,10 +24,10 @@ use Rattle.config_elements.specs.RoundStart.{Config, first_config, begin_round}
 use Rattle.jm_meaning.specs.Beginning.{Options, max_rounds, first_places, first_of, set_first}
 use Rattle.jm_meaning.specs.RampUp.{pause_of}
 use Rattle.jm_meaning.specs.Meaning.{and_end, after_pause, end_of, events, thread_part, group_part, here_at}
+use Rattle.open_elements.specs.Moves.{past}
 use Rattle.control_machine.specs.declared.position.Position.{Position}
 use Rattle.control_machine.specs.declared.moves.Move.{Move}
 use Rattle.control_machine.specs.declared.moves.Move.TheVariants.{Iteration, RunSampler, EnterSection, LeaveSection, TransactionSample, Finished}
-use Rattle.control_machine.specs.Moves.{past}
 use Rattle.cursor_steps.specs.CursorStep.{answers, past_limit as step_past_limit}
 use Rattle.jm_meaning.specs.declared.signal.Signal.TheVariants.{Normal, Stop}
 use Rattle.jm_meaning.specs.Rounds.{where_fed, on_fed, round_start}

@@ -11,7 +11,8 @@ use Rattle.element_tree.specs.Types.{class_of}
 use Rattle.scope_resolver.specs.Scoping.{same_class, is_of_class}
 use Rattle.node_table.specs.KeptPackages.{packages_of, package_at}
 use Rattle.node_table.proofs.PackageLaws.{sampler_kept}
-use Rattle.control_machine.specs.Left.{IsSamplerKind, IsSampler}
+use Rattle.open_elements.specs.Entering.{IsSamplerKind}
+use Rattle.control_machine.specs.Left.{IsSampler}
 
 sampler_kind : (k : Kind) → IsSamplerKind k → same_class classes.Sampler (class_of k) ≡ true
 sampler_kind (Script replies request) is = refl

@@ -7,9 +7,9 @@ use Rattle.var_functions.specs.declared.error.VarError.{VarError}
 use Rattle.var_functions.specs.Came.{Refused}
 use Rattle.element_tree.specs.declared.kinds.Element.{Element}
 use Rattle.jm_meaning.specs.State.{State, Ending}
+use Rattle.open_elements.specs.Moves.{past}
 use Rattle.control_machine.specs.declared.moves.Move.{Move}
 use Rattle.control_machine.specs.declared.moves.Move.TheVariants.{Iteration, RunSampler, EnterSection, LeaveSection, TransactionSample, Finished}
-use Rattle.control_machine.specs.Moves.{past}
 use Rattle.jm_meaning.specs.Sections.{leaving_open}
 use Rattle.control_machine.specs.Left.{StandsIn, IsSampler, IsTransaction, IsLock, IsFinish, open_lock}
 use Rattle.control_machine.specs.Turns.{IsNormalAt, MovesLock}

@@ -13,7 +13,7 @@ ghost use Rattle.jm_meaning.specs.Rounds.{round_start};
 ghost use Rattle.node_table.specs.KeptPackages.{packages_of};
 ghost use Rattle.jm_meaning.specs.Sections.{leaving_open};
 ghost use Rattle.jm_meaning.specs.Meaning.{and_end};
-ghost use Rattle.control_machine.specs.Moves.{past};
+ghost use Rattle.open_elements.specs.Moves.{past};
 ghost use Rattle.control_machine.specs.Hearing.{told};
 ghost use Rattle.control_machine.specs.Left.{StandsIn, left_of, left_after, state_at, moved, open_lock, IsSampler, IsTransaction, IsLock};
 ghost use Rattle.control_machine.specs.Turns.{IsNormalAt};

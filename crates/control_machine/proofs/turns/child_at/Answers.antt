@@ -1,6 +1,6 @@
 use Rattle.std.proofs.Common.{sym, ◌∙◌, arith}
 use Rattle.cursor_steps.specs.RunningChildren.{runs_of}
-use Rattle.control_machine.proofs.PassLaws.{past_taken, taken_get, runs_there}
+use Rattle.control_machine.proofs.LinkedChild.{past_taken, taken_get, runs_there}
 use Rattle.control_machine.proofs.turns.child_at.Goals as goal
 
 pub returns-then-place-eq65535 : goal.returns-then-place-eq65535

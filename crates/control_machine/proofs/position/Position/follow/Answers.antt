@@ -4,7 +4,7 @@ use Rattle.std.proofs.lemmas.Result.{IfOk-weaker}
 use Rattle.jm_base.specs.declared.types.End.TheVariants.{RoundLimit}
 use Rattle.jm_meaning.specs.declared.signal.Signal.TheVariants.{Stop}
 use Rattle.jm_meaning.specs.Meaning.{meaning}
-use Rattle.control_machine.specs.Cursors.{round_in}
+use Rattle.open_elements.specs.Cursors.{round_in}
 use Rattle.control_machine.specs.Left.{here_in, own_at, state_at, left_after, open_lock}
 use Rattle.control_machine.specs.Load.{load_of}
 use Rattle.control_machine.specs.Turns.{IsOpened, TakesTurn, load_in, closing_of}

@@ -1,7 +1,7 @@
 use Rattle.std.proofs.Common.{refl, ◌∙◌, arith}
 use Rattle.jm_base.proofs.RunLaws.{goes-append}
 use Rattle.var_functions.proofs.CameLaws.{refused-first}
-use Rattle.control_machine.proofs.OpenLaws.{goes_as}
+use Rattle.open_elements.proofs.OpenLaws.{goes_as}
 use Rattle.control_machine.proofs.Rounding.{later_rounds}
 use Rattle.var_functions.proofs.LaterLaws.{later_same, later_then}
 use Rattle.control_machine.specs.Left.{left_of, state_at}

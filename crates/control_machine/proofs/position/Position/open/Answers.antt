@@ -4,12 +4,12 @@ use Rattle.std.proofs.lemmas.List.FromFn.{length-map-range_with_len}
 use Rattle.node_table.specs.ElementLinks.{link_of}
 use Rattle.jm_meaning.specs.Meaning.{meaning}
 use Rattle.jm_meaning.specs.Sections.{leaving_open}
+use Rattle.open_elements.specs.Moves.{past}
 use Rattle.control_machine.specs.Left.{here_in, own_at, state_at, open_lock, IsSampler}
 use Rattle.std.specs.Prelude.{is_some}
 use Rattle.control_machine.proofs.Opening.{nests_at, apart_at}
 use Rattle.control_machine.proofs.Turning.{open_nothing, open_sampler, open_frame, open_refused, own_is}
 use Rattle.control_machine.proofs.Standing.{opened_apart, pushed_opens, pushed_turn}
-use Rattle.control_machine.specs.Moves.{past}
 use Rattle.control_machine.specs.MachineCut.{before_element}
 use Rattle.control_machine.proofs.Coming.{turns_at}
 use Rattle.control_machine.proofs.position.Position.open.Goals as goal

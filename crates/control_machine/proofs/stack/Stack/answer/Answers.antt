@@ -1,5 +1,5 @@
 use Rattle.std.proofs.Common.{◌≡◌, ◌∷◌, reverse, ap, ◌∙◌, subst, vec_len}
-use Rattle.control_machine.specs.Answers.{CursorAnswers}
+use Rattle.open_elements.specs.Answers.{CursorAnswers}
 use Rattle.control_machine.proofs.Topmost.{moved_on, last_is, over_last}
 use Rattle.control_machine.proofs.stack.Stack.answer.Goals as goal
 

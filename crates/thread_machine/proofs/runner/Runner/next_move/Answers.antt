@@ -1,6 +1,6 @@
 use Rattle.var_functions.proofs.CameLaws.{came-first}
 use Rattle.jm_meaning.specs.Sections.{leaving_open}
-use Rattle.control_machine.specs.Moves.{past}
+use Rattle.open_elements.specs.Moves.{past}
 use Rattle.control_machine.specs.Left.{left_of, state_at, moved, open_lock}
 use Rattle.thread_machine.specs.Standing.{state_in}
 use Rattle.thread_machine.specs.Inside.{standing_of}

@@ -1,0 +1,12 @@
+pub mod PassLaws
+pub mod StepLaws
+pub mod CursorLaws
+pub mod EnterLaws
+pub mod ShuffleLaws
+pub mod ChoiceLaws
+pub mod ClosingLaws
+pub mod CursorCalls
+pub mod AtElement
+pub mod FitLaws
+pub mod OpenLaws
+pub mod CutLaws

@@ -1,0 +1,106 @@
+use Rattle.std.proofs.Common.{rules, sym, ap, ◌∙◌, subst, ◌≡◌}
+use Rattle.std.specs.Prelude.{Some, slice_get}
+use Rattle.jm_base.specs.Run.{over}
+use Rattle.element_tree.specs.declared.kinds.Element.{Element}
+use Rattle.element_tree.specs.declared.kinds.Kind.TheVariants as kinds
+use Rattle.logic_controllers.specs.ForEachController.{Row}
+use Rattle.jm_meaning.specs.State.{state_of, at_places, normal}
+use Rattle.jm_meaning.specs.Meaning.{kind_meaning}
+use Rattle.jm_meaning.proofs.CutLaws.{stands_same}
+use Rattle.open_elements.specs.Entering.{here_with, IsSamplerKind}
+use Rattle.open_elements.proofs.CursorCalls.{same_element}
+use Rattle.open_elements.proofs.OpenLaws.{kind_is, other_kind, sampler_means, goes_as}
+use Rattle.open_elements.proofs.entering.enter_other.Goals as goal
+
+pub enter_as-requires-in-ForEach : goal.enter_as-requires-in-ForEach
+enter_as-requires-in-ForEach g c =
+    let row : Row = record { input = c.in-ForEach.input; separator = c.in-ForEach.separator; start = c.in-ForEach.start; end = c.in-ForEach.end } in
+    record { there = (c.in-Some.element.now, sym c.in-Some.ensures, (row, c.in-ForEach.output, c.in-ForEach.is)); counted = c.requires.counted }
+
+pub returns-in-Script : goal.returns-in-Script
+returns-in-Script g c = record {
+  came = λ e failure below round own there.
+      let k = kinds.Script c.in-Script.replies c.in-Script.request in
+      goes_as _ _ _ (sampler_means (here_with c.args.plan.now failure) below c.args.child e e.kind k round (state_of c.args.state.now (at_places own c.args.places.now))
+      (kind_is c.args.plan.now.elements c.args.child c.in-Some.element.now e k c.in-Some.ensures there c.in-Script.is) tt);
+  fits = λ e there.
+      let k = kinds.Script c.in-Script.replies c.in-Script.request in
+      subst IsSamplerKind (sym (kind_is c.args.plan.now.elements c.args.child c.in-Some.element.now e k c.in-Some.ensures there c.in-Script.is)) tt;
+  stands = stands_same c.args.state.now;
+  places = tt;
+}
+
+pub returns-in-Http : goal.returns-in-Http
+returns-in-Http g c =
+    let h = c.in-Http in
+    let k = kinds.Http h.body h.host h.method h.params h.path h.port h.replies in
+    record {
+      came = λ e failure below round own there.
+          goes_as _ _ _ (sampler_means (here_with c.args.plan.now failure) below c.args.child e e.kind k round (state_of c.args.state.now (at_places own c.args.places.now))
+          (kind_is c.args.plan.now.elements c.args.child c.in-Some.element.now e k c.in-Some.ensures there h.is) tt);
+      fits = λ e there. subst IsSamplerKind (sym (kind_is c.args.plan.now.elements c.args.child c.in-Some.element.now e k c.in-Some.ensures there h.is)) tt;
+      stands = stands_same c.args.state.now;
+      places = tt;
+    }
+
+pub returns-in-Simple : goal.returns-in-Simple
+returns-in-Simple g c = c.enter_as.ensures c.args.places.now
+
+pub returns-in-OnceOnly : goal.returns-in-OnceOnly
+returns-in-OnceOnly g c = c.enter_as-in-OnceOnly.ensures c.args.places.now
+
+pub returns-in-Loop : goal.returns-in-Loop
+returns-in-Loop g c = c.enter_as-in-Loop.ensures c.args.places.now
+
+pub returns-in-If : goal.returns-in-If
+returns-in-If g c = c.enter_as-in-If.ensures c.args.places.now
+
+pub returns-in-While : goal.returns-in-While
+returns-in-While g c = c.enter_as-in-While.ensures c.args.places.now
+
+pub returns-in-ForEach : goal.returns-in-ForEach
+returns-in-ForEach g c = c.enter_as-in-ForEach.ensures c.args.places.now
+
+pub returns-in-Random : goal.returns-in-Random
+returns-in-Random g c = c.enter_as-in-Random.ensures c.args.places.now
+
+pub returns-in-RandomOrder : goal.returns-in-RandomOrder
+returns-in-RandomOrder g c = c.enter_as-in-RandomOrder.ensures c.args.places.now
+
+pub returns-in-Switch : goal.returns-in-Switch
+returns-in-Switch g c = c.enter_as-in-Switch.ensures c.args.places.now
+
+pub returns-in-Transaction : goal.returns-in-Transaction
+returns-in-Transaction g c =
+    let kind = λ (e : Element) (there : slice_get c.args.plan.now.elements c.args.child ≡ Some e).
+    kind_is c.args.plan.now.elements c.args.child c.in-Some.element.now e (kinds.Transaction) c.in-Some.ensures there c.in-Transaction.is in
+    record {
+      came = λ e failure below round own there.
+          goes_as _ _ _ (ap (λ x. kind_meaning (here_with c.args.plan.now failure) below c.args.child e x round (state_of c.args.state.now (at_places own c.args.places.now))) (kind e there)
+          ∙ c.enter_transaction.ensures.came c.args.plan.now e failure below round (state_of c.args.state.now (at_places own c.args.places.now)) (record { there = there; of_kind = kind e there }) (c.requires.counted e there));
+      fits = λ e there. c.enter_transaction.ensures.fits c.args.plan.now.elements e (record { there = there; of_kind = kind e there }) (c.requires.counted e there);
+      stands = stands_same c.args.state.now;
+      places = tt;
+    }
+
+pub returns-in_default-kind : goal.returns-in_default-kind
+returns-in_default-kind g c =
+    let d = c.in_default-kind in
+    record {
+      came = λ e failure below round own there.
+          goes_as _ _ _ (subst (λ x. kind_meaning (here_with c.args.plan.now failure) below c.args.child e x.kind round (state_of c.args.state.now (at_places own c.args.places.now)) ≡ over (normal (state_of c.args.state.now (at_places own c.args.places.now))))
+          (same_element c.args.plan.now.elements c.args.child c.in-Some.element.now e (sym c.in-Some.ensures) there)
+          (other_kind (here_with c.args.plan.now failure) below c.args.child e c.in-Some.element.now.kind round (state_of c.args.state.now (at_places own c.args.places.now))
+          d.not-Script d.not-Http d.not-Simple d.not-OnceOnly d.not-Loop d.not-If d.not-While d.not-ForEach d.not-Interleave d.not-Random d.not-RandomOrder d.not-Switch d.not-Transaction (c.requires.other c.in-Some.element.now (sym c.in-Some.ensures))));
+      fits = λ e there. tt;
+      stands = stands_same c.args.state.now;
+      places = tt;
+    }
+
+pub returns-in_default : goal.returns-in_default
+returns-in_default g c = record {
+  came = search rules;
+  fits = λ e there. tt;
+  stands = stands_same c.args.state.now;
+  places = tt;
+}
