@@ -17,7 +17,7 @@ use Rattle.open_elements.specs.Closing.{KeepsLock}
 use Rattle.open_elements.specs.Hearing.{hearing}
 use Rattle.control_machine.specs.declared.stack.Frame.{Frame}
 use Rattle.control_machine.specs.declared.position.Position.{Position}
-use Rattle.control_machine.specs.Left.{open_lock, IsAlone, IsOpen, AreOpen, AreApart, IsOut, StandsIn}
+use Rattle.control_machine.specs.Left.{open_lock, IsAlone, IsOpen, AreOpen, AreApart, depth_in, DepthsFall, IsOut, StandsIn}
 use Rattle.control_machine.specs.declared.moves.Leave.{Leave}
 use Rattle.control_machine.specs.declared.moves.Leave.TheVariants as leaves
 use Rattle.control_machine.specs.Turns.{signal_left}
@@ -101,6 +101,15 @@ all_apart_hearing sample elements (f ∷ fs) h = (
   all_apart_hearing sample elements fs h.1,
 )
 
+-- the depths stay
+depth_hearing : (sample : Sample) (fs : List Frame) → depth_in (all_hearing sample fs) ≡ depth_in fs
+depth_hearing sample [] = refl
+depth_hearing sample (f ∷ fs) = refl
+
+falls_hearing : (sample : Sample) (fs : List Frame) → DepthsFall fs → DepthsFall (all_hearing sample fs)
+falls_hearing sample [] h = tt
+falls_hearing sample (f ∷ fs) h = (subst (λ n. f.depth < n) (sym (depth_hearing sample fs)) h.0, falls_hearing sample fs h.1)
+
 out_after : (ok : Bool) (failure : Signal) → IsOut failure → IsOut (after_sample ok failure)
 out_after true failure h = tt
 out_after false failure h = h
@@ -110,6 +119,7 @@ told_stands plan sample m s = record {
   group = s.group;
   open_ = all_open_hearing sample plan.elements m.rounds m.stack.frames s.open_;
   apart = all_apart_hearing sample plan.elements m.stack.frames s.apart;
+  falls = falls_hearing sample m.stack.frames s.falls;
   failure = s.failure;
   signal = out_after sample.ok m.at_failure s.failure;
   links = s.links;
@@ -121,4 +131,4 @@ out_left leaves.StopThread = tt
 out_left leaves.StopTest = tt
 
 pub left_stands : (plan : Tree) (how : Leave) (m : Position) → StandsIn plan m → StandsIn plan (record m { signal = signal_left how })
-left_stands plan how m s = record { group = s.group; open_ = s.open_; apart = s.apart; failure = s.failure; signal = out_left how; links = s.links }
+left_stands plan how m s = record { group = s.group; open_ = s.open_; apart = s.apart; falls = s.falls; failure = s.failure; signal = out_left how; links = s.links }

@@ -46,6 +46,7 @@ loop_stands plan m stands = let o = stands.group in record {
   group = record { element = o.element; there = o.there; below = o.below; apart = o.apart; pass = o.pass; bound = o.bound };
   open_ = stands.open_;
   apart = stands.apart;
+  falls = stands.falls;
   failure = stands.failure;
   signal = tt;
   links = stands.links;

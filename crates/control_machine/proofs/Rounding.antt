@@ -59,6 +59,7 @@ round_stands plan m stands empty some = let o = stands.group in record {
   group = record { element = o.element; there = o.there; below = o.below; apart = o.apart; pass = o.pass; bound = omega (arith, o.bound, some) };
   open_ = rw empty tt;
   apart = rw empty tt;
+  falls = rw empty tt;
   failure = stands.failure;
   signal = stands.signal;
   links = stands.links;

@@ -1,10 +1,9 @@
 -- A machine stands in its plan after each turn.
-use Rattle.std.proofs.Common.{◌≡◌, ◌∙◌, ap, inr, ℕ, zero, suc, ◌+◌, ◌-◌, ◌≤◌, ◌<◌, Bool, true, false, List, [], ◌∷◌, length, take, Option, Some, None, refl, sym, subst, arith}
-use Rattle.std.specs.Prelude.{◌||◌, ◌&&◌, not, is_some, if◌then◌else◌, slice_get, Result, Ok, Err, MatchResult, IfOk, IfSome}
+use Rattle.std.proofs.Common.{◌≡◌, ◌∙◌, inr, ℕ, zero, suc, ◌+◌, ◌-◌, ◌≤◌, ◌<◌, Bool, true, false, List, [], ◌∷◌, length, take, Option, Some, None, refl, sym, subst, arith}
+use Rattle.std.specs.Prelude.{◌||◌, ◌&&◌, not, is_some, if◌then◌else◌, slice_get, Result, Ok, Err, MatchResult, IfOk}
 use Rattle.std.specs.List.{AllByRecursion, filter}
 use Rattle.std.proofs.lemmas.Option.{slice_get_within}
 use Rattle.element_tree.specs.declared.kinds.Element.{Element}
-use Rattle.element_tree.specs.declared.kinds.Kind.{Kind}
 use Rattle.element_tree.specs.declared.package.Turn.{Turn}
 use Rattle.element_tree.specs.declared.package.Turn.TheVariants.{Child, Round, Over}
 use Rattle.element_tree.specs.Types.{is_section}
@@ -13,10 +12,10 @@ use Rattle.cursor_steps.specs.RunningChildren.{begun_after}
 use Rattle.jm_meaning.specs.Children.{children_of}
 use Rattle.jm_meaning.specs.Beginning.{max_rounds}
 use Rattle.open_elements.specs.declared.cursor.Cursor.{Cursor}
-use Rattle.open_elements.specs.declared.cursor.Cursor.TheVariants.{Simple, Once, Loop, If, While, Each, Interleave, Random, Order, Switch, Transaction, Section}
 use Rattle.open_elements.specs.Cursors.{Shut, Plain, Summing, Leaving, shut_of, lock_in, FitsKind, begun_of}
 use Rattle.open_elements.specs.ChildrenLeft.{children_left}
 use Rattle.open_elements.specs.Closing.{KeepsLock}
+use Rattle.open_elements.proofs.CursorCases.{few_in_pass, section_is}
 use Rattle.control_machine.specs.declared.stack.Frame.{Frame}
 use Rattle.control_machine.specs.declared.position.Group.{Group}
 use Rattle.control_machine.specs.declared.position.Position.{Position}
@@ -26,9 +25,8 @@ use Rattle.control_machine.specs.declared.moves.Move.TheVariants.{EnterSection}
 use Rattle.var_functions.specs.declared.error.VarError.{VarError}
 use Rattle.var_functions.specs.declared.error.VarError.TheVariants.{NoMemory}
 use Rattle.cursor_steps.specs.RunningChildren.{is_run_at, runs_of}
-use Rattle.choice_controllers.specs.Chosen.{waiting}
 use Rattle.control_machine.specs.Load.{children_count}
-use Rattle.control_machine.specs.Left.{open_lock, IsAlone, IsApart, AreApart, IsOpen, AreOpen, GroupIsOpen, IsOut, StandsIn}
+use Rattle.control_machine.specs.Left.{open_lock, IsAlone, IsApart, AreApart, IsOpen, AreOpen, depth_in, DepthsFall, GroupIsOpen, IsOut, StandsIn}
 use Rattle.control_machine.specs.Turns.{IsWent, IsOpened, IsRoundless, IsRoundIn, IsNormalOn, MovesLockOn, TakesTurn, SameRest, opening_move}
 use Rattle.control_machine.proofs.LoadLaws.{few_runs}
 
@@ -71,31 +69,22 @@ all_at P (y ∷ xs) zero x all h = subst P (same h) all.0 where
   same h = cc
 all_at P (y ∷ xs) (suc i) x all h = all_at P xs i x all.1 h
 
-few_chosen : (count : ℕ) (chosen : Option ℕ) → IfSome chosen (λ place. place < count) → waiting chosen ≤ count
-few_chosen count None h = omega arith
-few_chosen count (Some place) h = omega (arith, h)
-
--- a cursor has no more children left than run
-pub few_in_pass : (n count : ℕ) (k : Kind) (c : Cursor) → FitsKind n count k c → children_left c ≤ count
-few_in_pass n count k (Simple c) h = let e = h.2 in omega (arith, e)
-few_in_pass n count k (Once c) h = let e = h.2 in omega (arith, e)
-few_in_pass n count k (Loop c) h = let e = h.2 in omega (arith, e)
-few_in_pass n count k (If c) h = let e = h.2 in omega (arith, e)
-few_in_pass n count k (While c) h = let e = h.2 in omega (arith, e)
-few_in_pass n count k (Each c) h = let e = h.2 in omega (arith, e)
-few_in_pass n count k (Interleave c) h = few_chosen count c.chosen h.2
-few_in_pass n count k (Random c) h = few_chosen count c.chosen h.2
-few_in_pass n count k (Order c) h = let e = h.2 in omega (arith, e)
-few_in_pass n count k (Switch c) h = few_chosen count c.chosen h.2
-few_in_pass n count k (Transaction c) h = let e = h.2 in omega (arith, e)
-few_in_pass n count k (Section c) h = let e = h.2 in omega (arith, e)
-
 -- an open element has no more children left than all elements have children
 pub few_left : (elements : List Element) (limit left : ℕ) (f : Frame) → IsOpen elements limit left f → children_left f.cursor ≤ children_count elements
 few_left elements limit left f o =
     let p = few_in_pass f.element (length (children_of elements o.element)) o.element.kind f.cursor o.fits in
     let r = few_runs elements f.element o.element o.there in
     omega (arith, p, r)
+
+-- ---- how many are open
+
+-- each open element takes one of 30 levels
+pub within_30 : (fs : List Frame) → DepthsFall fs → length fs + depth_in fs ≤ 30
+within_30 [] h = omega arith
+within_30 (f ∷ fs) h = let rest = within_30 fs h.1 in omega (arith, h.0, rest)
+
+pub few_open : (fs : List Frame) → DepthsFall fs → length fs ≤ 30
+few_open fs h = let within = within_30 fs h in omega (arith, within)
 
 -- ---- the children that run are among the children
 
@@ -133,21 +122,6 @@ apart_on elements fs f c shut h = record {
   below = subst (λ o. AllByRecursion (Apart f.depth (is_some (lock_in o (open_lock fs))) elements) h.element.children) (sym shut) h.below;
   alone = subst (λ o. IsAlone o (open_lock fs)) (sym shut) h.alone;
 }
-
--- a cursor is that of a section exactly at a critical section
-section_is : (n count : ℕ) (k : Kind) (c : Cursor) → FitsKind n count k c → is_some (lock_in (shut_of c) None) ≡ is_section k
-section_is n count k (Simple c) h = sym (ap is_section h.1)
-section_is n count k (Once c) h = sym (ap is_section h.1)
-section_is n count k (Loop c) h = sym (ap is_section h.1.1)
-section_is n count k (If c) h = sym (ap is_section h.1.2)
-section_is n count k (While c) h = sym (ap is_section h.1.1)
-section_is n count k (Each c) h = sym (ap is_section h.1.2)
-section_is n count k (Interleave c) h = sym (ap is_section h.1)
-section_is n count k (Random c) h = sym (ap is_section h.1)
-section_is n count k (Order c) h = sym (ap is_section h.1)
-section_is n count k (Switch c) h = sym (ap is_section h.1.1)
-section_is n count k (Transaction c) h = sym (ap is_section h.1)
-section_is n count k (Section c) h = sym (ap is_section h.1.1)
 
 within : (o : Shut) (outer : Option ℕ) (b : Bool) → is_some (lock_in o None) ≡ b → is_some (lock_in o outer) ≡ (is_some outer || b)
 within o None b is = is
@@ -200,13 +174,14 @@ opening_lock (Summing tally) outer alone = refl
 opening_lock (Leaving lock) outer alone = (alone, refl)
 
 pub pushed_turn : (plan : Tree) (m m' : Position) (f : Frame) (res : Result Went VarError) → Pushed m m' f res → SameRest m m' → IsOpen plan.elements max_rounds m.rounds f
-    → IsApart plan.elements m.stack.frames f → StandsIn plan m → IfOk res (TakesTurn plan m.rounds (open_lock m.stack.frames) m')
-pushed_turn plan m m' f (Ok w) pushed rest open' apart stands = rw pushed.0 (record {
+    → IsApart plan.elements m.stack.frames f → f.depth < depth_in m.stack.frames → StandsIn plan m → IfOk res (TakesTurn plan m.rounds (open_lock m.stack.frames) m')
+pushed_turn plan m m' f (Ok w) pushed rest open' apart deeper stands = rw pushed.0 (record {
   given = opening_given plan.elements f.element open'.element (shut_of f.cursor) open'.there open'.lock;
   stands = record {
     group = fewer_group plan.elements m'.rounds m.rounds m.group m'.group rest.group (omega (arith, rest.rounds)) stands.group;
     open_ = subst (λ fs. AreOpen plan.elements m'.rounds fs) (sym pushed.1) (subst (λ n. AreOpen plan.elements n (f ∷ m.stack.frames)) (sym rest.rounds) (open', stands.open_));
     apart = subst (AreApart plan.elements) (sym pushed.1) (apart, stands.apart);
+    falls = subst DepthsFall (sym pushed.1) (deeper, stands.falls);
     failure = subst IsOut (sym rest.failure) stands.failure;
     signal = subst IsOut (sym rest.signal) stands.signal;
     links = rest.links ∙ stands.links;
@@ -216,7 +191,7 @@ pushed_turn plan m m' f (Ok w) pushed rest open' apart stands = rw pushed.0 (rec
   rounds = by_opening (λ w. IsRoundless w m.rounds m'.rounds) (shut_of f.cursor) (omega (arith, rest.rounds)) (λ lock is. omega (arith, rest.rounds));
   index = by_opening (λ w. IsRoundIn w m'.group) (shut_of f.cursor) tt (λ lock is. tt);
 })
-pushed_turn plan m m' f (Err e) pushed rest open' apart stands = tt
+pushed_turn plan m m' f (Err e) pushed rest open' apart deeper stands = tt
 
 pub pushed_opens : (plan : Tree) (m m' : Position) (n round depth : ℕ) (c : Cursor) (e : Element) → slice_get plan.elements n ≡ Some e → FitsKind n (length (children_of plan.elements e)) e.kind c → (res : Result Went VarError)
     → Pushed m m' (record { element = n; round = round; depth = depth - 1; cursor = c }) res → IfOk res (λ w. IsOpened plan.elements depth m.stack.frames m'.stack.frames)

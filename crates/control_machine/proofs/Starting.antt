@@ -23,7 +23,7 @@ use Rattle.open_elements.proofs.PassLaws.{none-left, count-is}
 use Rattle.open_elements.proofs.CursorCalls.{same_element}
 use Rattle.control_machine.specs.Opened.{Opened}
 use Rattle.control_machine.specs.declared.position.Position.{Position}
-use Rattle.control_machine.specs.Left.{left_in, rest_of, left_of, children_at, AreOpen, AreApart, IsOut, StandsIn}
+use Rattle.control_machine.specs.Left.{left_in, rest_of, left_of, children_at, AreOpen, AreApart, DepthsFall, IsOut, StandsIn}
 
 -- the machine of this group
 abbrev pub first_of : ℕ → Loops → ℕ → Opened → List ℕ → Signal → List Link → Position
@@ -59,6 +59,7 @@ new_stands plan number e loops on_error children stack places failure links grou
       };
       open_ = subst (AreOpen plan.elements 16777216) (sym empty) tt;
       apart = subst (AreApart plan.elements) (sym empty) tt;
+      falls = subst DepthsFall (sym empty) tt;
       failure = subst IsOut (sym action) (action_out on_error);
       signal = tt;
       links = linked;

@@ -38,11 +38,13 @@ module _ (plan : Tree) (m : Position) (new : Opened) (f : Frame) (rest : List Fr
   has_answered stays begun shut fits =
       let open_ = rw top at stands.open_ in
       let apart = rw top at stands.apart in
+      let falls = rw top at stands.falls in
       record {
         top = stays;
-        stands = record { group = stands.group; open_ = open_.1; apart = apart.1; failure = stands.failure; signal = stands.signal; links = stands.links };
+        stands = record { group = stands.group; open_ = open_.1; apart = apart.1; falls = falls.1; failure = stands.failure; signal = stands.signal; links = stands.links };
         open_ = answered_open plan.elements m.rounds f c turn open_.0 (fits open_.0.element f.element open_.0.there open_.0.fits) begun shut;
         apart = apart_on plan.elements rest f c shut apart.0;
+        falls = falls.0;
       }
 
 -- the machine, where a child comes next
@@ -51,6 +53,7 @@ stands_on place is h = record {
   group = h.stands.group;
   open_ = rw h.top (rw is at h.open_, h.stands.open_);
   apart = rw h.top (h.apart, h.stands.apart);
+  falls = rw h.top (h.falls, h.stands.falls);
   failure = h.stands.failure;
   signal = h.stands.signal;
   links = h.stands.links;

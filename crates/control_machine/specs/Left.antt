@@ -1,5 +1,5 @@
 -- What is left of a thread's run, seen from its innermost open element.
-use Rattle.std.specs.Prelude.{◌≡◌, ℕ, ◌+◌, ◌-◌, ◌≤◌, List, [], ◌∷◌, length, Option, Some, None, false, is_some, slice_get, unwrap_or}
+use Rattle.std.specs.Prelude.{◌≡◌, ℕ, ◌+◌, ◌-◌, ◌<◌, ◌≤◌, List, [], ◌∷◌, length, Option, Some, None, false, is_some, slice_get, unwrap_or}
 use Rattle.std.specs.Option.{option_map}
 use Rattle.std.specs.List.{AllByRecursion}
 use Rattle.jm_base.specs.declared.types.End.{End}
@@ -185,6 +185,16 @@ abbrev pub AreApart : List Element → List Frame → Type 0
 AreApart elements [] = Unit {0}
 AreApart elements (f ∷ fs) = IsApart elements fs f × AreApart elements fs
 
+-- how deep elements nest at most inside the innermost of these, and in the group where none is open
+abbrev pub depth_in : List Frame → ℕ
+depth_in [] = 30
+depth_in (f ∷ fs) = f.depth
+
+-- the depths of the open elements fall from the outermost, which is below the group's, to the innermost
+abbrev pub DepthsFall : List Frame → Type 0
+DepthsFall [] = Unit {0}
+DepthsFall (f ∷ fs) = (f.depth < depth_in fs) × DepthsFall fs
+
 -- the group, with children that nest at most that deep, and rounds within the limit
 pub record GroupIsOpen (elements : List Element) (left : ℕ) (g : Group) : Type 0 where
   pub element : Element
@@ -208,6 +218,7 @@ pub record StandsIn (plan : Tree) (m : Position) : Type 0 where
   pub group : GroupIsOpen plan.elements m.rounds m.group
   pub open_ : AreOpen plan.elements m.rounds m.stack.frames
   pub apart : AreApart plan.elements m.stack.frames
+  pub falls : DepthsFall m.stack.frames
   pub failure : IsOut m.at_failure
   pub signal : IsOut m.signal
   pub links : m.links ≡ links_of plan.elements

@@ -1,5 +1,5 @@
 -- What the next move of a machine comes to.
-use Rattle.std.specs.Prelude.{◌≡◌, Result, IfOk, OnErr}
+use Rattle.std.specs.Prelude.{◌≡◌, ◌≤◌, length, Result, IfOk, OnErr}
 use Rattle.jm_base.specs.Outside.{Account}
 use Rattle.element_tree.specs.Tree.{Tree}
 use Rattle.var_functions.specs.declared.error.VarError.{VarError}
@@ -15,12 +15,14 @@ use Rattle.control_machine.specs.MachineCut.{IsCut}
 use Rattle.control_machine.specs.Turns.{TakesRound, IsNormalAt, IsRoundOf, MovesLock}
 
 -- From one position a thread came to another by a move: what was left is what the move leaves, or past a limit the open section
--- is left; the move is one of the plan, and the position stands in it; no round is given back. Out of memory it was cut.
+-- is left; the move is one of the plan, and the position stands in it, with at most 30 open elements; no round is given back. Out
+-- of memory it was cut.
 pub record NextMove (plan : Tree) (before : Account) (old : Position) (user : UserState) (after : Account) (new : Position) (user-new : UserState) (result : Result Move VarError) : Type 0 where
   pub came : (beside : Beside) → CameTo before (left_of plan old (state_at old beside user)) after (moved plan new (state_at new beside user-new))
       (leaving_open (open_lock old.stack.frames) (past (state_at new beside user-new))) result
   pub given : IfOk result (IsMove plan.elements)
   pub stands : IfOk result (λ m. StandsIn plan new)
+  pub deep : IfOk result (λ m. length new.stack.frames ≤ 30)
   pub normal : IfOk result (λ m. IsNormalAt m new.signal)
   pub lock : IfOk result (λ m. MovesLock m (open_lock old.stack.frames) (open_lock new.stack.frames))
   pub rounds : IfOk result (λ m. TakesRound m old.rounds new.rounds)

@@ -1,6 +1,6 @@
 // The machine of a thread: it goes from one move to the next.
 
-ghost use Rattle.std.specs.Prelude.{◌≡◌, ◌<◌, None, slice_get, length, IfOk, OnErr};
+ghost use Rattle.std.specs.Prelude.{◌≡◌, ◌<◌, ◌≤◌, [], None, slice_get, length, IfOk, OnErr};
 ghost use Rattle.element_tree.specs.Tree.{Tree, threads_of, group_of};
 ghost use Rattle.var_functions.specs.Came.{CameTo};
 ghost use Rattle.var_functions.specs.FunctionState.{IsLater};
@@ -53,6 +53,7 @@ impl Machine {
         ensures rounds { IfOk result (λ m. m.rounds ≡ max_rounds) }
         ensures places { IfOk result (λ m. m.places ≡ first_places plan.now.elements) }
         ensures group { IfOk result (λ m. m.group.element ≡ group_of plan.now thread) }
+        ensures empty { IfOk result (λ m. m.stack.frames ≡ []) }
         ensures lock { IfOk result (λ m. open_lock m.stack.frames ≡ None) }
     {
         let number = plan.group_of(thread);
@@ -110,6 +111,7 @@ impl Machine {
             (leaving_open (open_lock self.old.stack.frames) (past (state_at self.new beside state.new))) result }
         ensures given { IfOk result (IsMove plan.now.elements) }
         ensures stands { IfOk result (λ m. StandsIn plan.now self.new) }
+        ensures deep { IfOk result (λ m. length self.new.stack.frames ≤ 30) }
         ensures normal { IfOk result (λ m. IsNormalAt m self.new.signal) }
         ensures lock { IfOk result (λ m. MovesLock m (open_lock self.old.stack.frames) (open_lock self.new.stack.frames)) }
         ensures rounds { IfOk result (λ m. TakesRound m self.old.rounds self.new.rounds) }

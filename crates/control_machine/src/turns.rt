@@ -13,7 +13,7 @@ ghost use Rattle.jm_meaning.specs.declared.signal.Signal.{Signal};
 ghost use Rattle.node_table.specs.ElementLinks.{links_of};
 ghost use Rattle.open_elements.specs.Cursors.{shut_of, Summing};
 ghost use Rattle.open_elements.specs.ChildrenLeft.{children_left};
-ghost use Rattle.control_machine.specs.Left.{StandsIn, left_after, state_at, here_in, open_lock};
+ghost use Rattle.control_machine.specs.Left.{StandsIn, left_after, state_at, here_in, open_lock, depth_in};
 ghost use Rattle.control_machine.specs.Turns.{Lightens, LeavesOn, opening_move, closing_move, closing_of, left_answered, load_in, IsOpened, TakesTurn, Turns, TurnsOn, SameThread, SameRest};
 ghost use Rattle.control_machine.specs.Answers.{with_frames, HasAnswered};
 ghost use Rattle.control_machine.specs.Load.{load_of};
@@ -202,7 +202,7 @@ impl Position {
         requires normal { self.old.signal ≡ Signal.Normal }
         requires nests { Nests depth plan.now.elements child }
         requires apart { Apart depth (is_some (open_lock self.old.stack.frames)) plan.now.elements child }
-        requires depth { depth ≤ 30 }
+        requires depth { depth ≤ depth_in self.old.stack.frames }
         ensures turns { Turns plan.now (O.account outside.old)
             (λ beside. left_after plan.now self.old (meaning (here_in plan.now self.old) depth child round (state_at self.old beside state.old)))
             (open_lock self.old.stack.frames) (O.account outside.new) self.new state.new result }

@@ -8,5 +8,6 @@ pub mod ClosingLaws
 pub mod CursorCalls
 pub mod AtElement
 pub mod FitLaws
+pub mod CursorCases
 pub mod OpenLaws
 pub mod CutLaws

@@ -1,4 +1,4 @@
-//! An element of a plan that is open: its cursor, of any kind, what it answers when its turn comes, and how it is entered.
+//! An open element of a plan: its cursor, of any kind, what it answers when its turn comes, and how it is entered.
 #![tactic(auto)]
 
 mod cursor;

@@ -6,7 +6,7 @@ use logic_controllers::SimpleCursor;
 #[derive(Clone, Copy)]
 pub struct OpenSection {
     /// Where it stands among its children.
-    pub children: SimpleCursor,
+    pub(crate) children: SimpleCursor,
     /// The number of its lock.
     pub lock: u16,
 }

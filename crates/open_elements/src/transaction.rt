@@ -8,7 +8,7 @@ use logic_controllers::SimpleCursor;
 #[derive(Clone, Copy)]
 pub struct OpenTransaction {
     /// Where it stands among its children.
-    pub children: SimpleCursor,
+    pub(crate) children: SimpleCursor,
     /// What it has counted.
     pub tally: Tally,
 }

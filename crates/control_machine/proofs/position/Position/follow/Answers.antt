@@ -5,7 +5,7 @@ use Rattle.jm_base.specs.declared.types.End.TheVariants.{RoundLimit}
 use Rattle.jm_meaning.specs.declared.signal.Signal.TheVariants.{Stop}
 use Rattle.jm_meaning.specs.Meaning.{meaning}
 use Rattle.open_elements.specs.Cursors.{round_in}
-use Rattle.control_machine.specs.Left.{here_in, own_at, state_at, left_after, open_lock}
+use Rattle.control_machine.specs.Left.{here_in, own_at, state_at, left_after, open_lock, depth_in}
 use Rattle.control_machine.specs.Load.{load_of}
 use Rattle.control_machine.specs.Turns.{IsOpened, TakesTurn, load_in, closing_of}
 use Rattle.control_machine.specs.Answers.{with_frames}
@@ -49,7 +49,7 @@ returns-then-self-eq0-clause-goes g c = λ f rest h.
     let s = h.stands in
     rw p.1 (subst (λ fs. TakesTurn c.args.plan.now c.args.self.now.rounds (open_lock (f ∷ rest)) (record (with_frames c.args.self.now fs) { signal = Stop RoundLimit }) (closing_of (Stop RoundLimit) f)) (sym p.0)
     (closed_turn c.args.plan.now _ (record (with_frames c.args.self.now rest) { signal = Stop RoundLimit }) f h.open_ h.apart.alone
-    (record { group = s.group; open_ = s.open_; apart = s.apart; failure = s.failure; signal = tt; links = s.links })))
+    (record { group = s.group; open_ = s.open_; apart = s.apart; falls = s.falls; failure = s.failure; signal = tt; links = s.links })))
 
 pub returns-then-self-eq0-clause-lighter : goal.returns-then-self-eq0-clause-lighter
 returns-then-self-eq0-clause-lighter g c = λ f old rest h depth takes.
@@ -71,6 +71,7 @@ returns-else-self-eq0-clause-goes g c = λ f rest h.
         open_ = rw h.top
             (round_open c.args.plan.now.elements c.args.self.now.rounds (c.args.self.now.rounds - 1) f c.args.turn c.in-Round.is c.if-self-eq0.false refl h.open_, fewer_open c.args.plan.now.elements (c.args.self.now.rounds - 1) c.args.self.now.rounds rest (omega arith) s.open_);
         apart = rw h.top (h.apart, s.apart);
+        falls = rw h.top (h.falls, s.falls);
         failure = s.failure;
         signal = s.signal;
         links = s.links;
@@ -111,8 +112,8 @@ open-requires-clause-apart g c =
 
 pub open-requires-clause-depth : goal.open-requires-clause-depth
 open-requires-clause-depth g c =
-    let h = answered_by c.in-Some.frame.now c.in-Some.ensures.0 c.in-Some.ensures.1 c.requires.answered.2 in
-    omega (arith, h.open_.depth)
+    let top : depth_in c.args.self.now.stack.frames ≡ c.in-Some.frame.now.depth = ap depth_in c.in-Some.ensures.1 in
+    omega (arith, top)
 
 pub returns-in-Some-child_at-clause-turns : goal.returns-in-Some-child_at-clause-turns
 returns-in-Some-child_at-clause-turns g c = λ f rest e h there.

@@ -6,6 +6,7 @@ use Rattle.control_machine.proofs.Rounding.{later_rounds}
 use Rattle.var_functions.proofs.LaterLaws.{later_same, later_then}
 use Rattle.control_machine.specs.Left.{left_of, state_at}
 use Rattle.control_machine.proofs.CutLaws.{cut_behind}
+use Rattle.control_machine.proofs.Standing.{few_open}
 use Rattle.control_machine.proofs.position.Position.next.Goals as goal
 
 pub turns-init : goal.turns-init
@@ -47,6 +48,7 @@ returns-in-Ok-To g c =
       came = λ beside. goes-append (i.goes beside) (rw is at (t.turns.came beside));
       given = rw is at t.goes.given;
       stands = t.goes.stands;
+      deep = few_open _ t.goes.stands.falls;
       normal = rw is at t.goes.normal;
       lock = rw i.lock at (rw is at t.goes.lock);
       rounds = later_rounds c.in-Ok-To.next _ _ _ i.fewer (rw is at t.goes.rounds);
@@ -64,6 +66,7 @@ returns-in-Err g c =
       came = λ beside. refused-first (i.goes beside) (rw i.lock at (t.turns.came beside));
       given = tt;
       stands = tt;
+      deep = tt;
       normal = tt;
       lock = tt;
       rounds = tt;

@@ -9,7 +9,7 @@ use Rattle.control_machine.specs.Left.{here_in, own_at, state_at, open_lock, IsS
 use Rattle.std.specs.Prelude.{is_some}
 use Rattle.control_machine.proofs.Opening.{nests_at, apart_at}
 use Rattle.control_machine.proofs.Turning.{open_nothing, open_sampler, open_frame, open_refused, own_is}
-use Rattle.control_machine.proofs.Standing.{opened_apart, pushed_opens, pushed_turn}
+use Rattle.control_machine.proofs.Standing.{opened_apart, pushed_opens, pushed_turn, within_30}
 use Rattle.control_machine.specs.MachineCut.{before_element}
 use Rattle.control_machine.proofs.Coming.{turns_at}
 use Rattle.control_machine.proofs.position.Position.open.Goals as goal
@@ -68,10 +68,11 @@ returns-in-Ok-Open-clause-goes g c =
     let f = rw c.in-Ok-Open.field-0-is at (c.in-Ok-Open.ensures.has_entered.fits n.element n.there) in
     let a = apart_at c.args.plan.now.elements c.args.depth c.args.child (is_some (open_lock c.args.self.now.stack.frames)) c.requires.apart in
     let r = c.push.ensures.rest in
+    let within = within_30 c.args.self.now.stack.frames c.requires.stands.falls in
     pushed_turn c.args.plan.now c.args.self.now c.push.new.self _ c.push.result c.push.ensures.pushed
     (record { group = r.group; rounds = r.rounds; failure = r.failure; signal = r.signal; links = r.links })
-    (record { element = n.element; there = n.there; fits = f.0; below = n.below; depth = omega (arith, c.requires.depth); bound = omega (arith, f.1, c.requires.stands.group.bound); lock = rw c.in-Ok-Open.field-0-is at (c.in-Ok-Open.ensures.lock n.element n.there) })
-    (opened_apart c.args.plan.now.elements c.args.self.now.stack.frames c.args.child c.args.round c.args.depth c.in-Ok-Open.cursor a.element a.there (rw c.in-Ok-Open.field-0-is at (c.in-Ok-Open.ensures.has_entered.fits a.element a.there)).0 a.free a.below) c.requires.stands
+    (record { element = n.element; there = n.there; fits = f.0; below = n.below; depth = omega (arith, c.requires.depth, within); bound = omega (arith, f.1, c.requires.stands.group.bound); lock = rw c.in-Ok-Open.field-0-is at (c.in-Ok-Open.ensures.lock n.element n.there) })
+    (opened_apart c.args.plan.now.elements c.args.self.now.stack.frames c.args.child c.args.round c.args.depth c.in-Ok-Open.cursor a.element a.there (rw c.in-Ok-Open.field-0-is at (c.in-Ok-Open.ensures.has_entered.fits a.element a.there)).0 a.free a.below) (omega (arith, n.some, c.requires.depth)) c.requires.stands
 
 pub returns-in-Ok-Open-clause-load : goal.returns-in-Ok-Open-clause-load
 returns-in-Ok-Open-clause-load g c =
