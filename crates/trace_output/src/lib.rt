@@ -10,5 +10,5 @@ mod tail;
 
 pub use error::PrintError;
 pub use history::print_history;
-pub use results::{print_all_results, print_results};
+pub use results::{print_all_results, print_results, result_lines};
 pub use tail::{end_of, print_all_report, print_report};

@@ -1,6 +1,6 @@
 // Result lines.
 
-ghost use Rattle.std.specs.Prelude.{◌≡◌, ◌<◌, ◌≤◌, ◌++◌, All, length, Some, is_some, option_map, true, IfOk, OnOk, IsErrOf};
+ghost use Rattle.std.specs.Prelude.{◌≡◌, ◌<◌, ◌≤◌, ◌++◌, All, length, Some, is_some, option_map, true, IfOk, OnOk, OnErr, IsErrOf};
 ghost use Rattle.element_tree.specs.Tree.{threads_of, thread_name_of};
 ghost use Rattle.element_tree.specs.Names.{labels_of};
 ghost use Rattle.output_lines.specs.Lines.{header_text};
@@ -149,7 +149,7 @@ fn put_trace<K: Sink>(
     let mut rest = trace;
     'texts: while !rest.is_empty() {
         let (items, after) = rest.split_at(fitting(plan, &name, rest));
-        put_items(alloc, pending, sink, plan, thread, &name, items)?;
+        put_items(alloc, pending, sink, plan, thread, items)?;
         rest = after;
     }
     Ok(())
@@ -206,12 +206,10 @@ fn put_items<K: Sink>(
     sink: &mut K,
     plan: &Plan,
     thread: u16,
-    name: &Text,
     items: &[TraceItem],
 ) -> Result<(), PrintError>
     requires thread { thread < length (threads_of plan.now) }
     requires labels { All (IsLabelled (length (labels_of plan.now.elements))) items.now }
-    requires name { name.now ≡ thread_name_of plan.now thread }
     ensures put { OnOk result (IsPut (trace_text plan.now thread items.now)
         (way (K.written sink.old) (K.faults sink.old) pending.old)
         (way (K.written sink.new) (K.faults sink.new) pending.new)) }
@@ -222,14 +220,30 @@ fn put_items<K: Sink>(
         (way (K.written sink.old) (K.faults sink.old) pending.old)
         (way (K.written sink.new) (K.faults sink.new) pending.new) }
 {
-    let Ok(mut lines) = lines_of(alloc, plan, thread, name, items) else {
-        return Err(PrintError::NoMemory);
-    };
-    let mut text = Vec::new(alloc);
-    if lines.append_to(&mut text).is_err() {
+    let mut lines = Vec::new(alloc);
+    if result_lines(alloc, &mut lines, plan, thread, items).is_err() {
         return Err(PrintError::NoMemory);
     }
-    put_lines(pending, sink, &text)
+    put_lines(pending, sink, &lines)
+}
+
+/// Appends a line for each sample of a thread's trace, or of some items of it, as `output_lines::result_line` does for each
+/// of them, with one writer of comma-separated fields for all. Out of memory appends nothing.
+pub fn result_lines(
+    alloc: Global,
+    out: &mut Vec<u8>,
+    plan: &Plan,
+    thread: u16,
+    items: &[TraceItem],
+) -> M<()>
+    requires thread { thread < length (threads_of plan.now) }
+    requires labels { All (IsLabelled (length (labels_of plan.now.elements))) items.now }
+    ensures ok { OnOk result (out.new.items ≡ out.old.items ++ trace_text plan.now thread items.now) }
+    ensures err { OnErr result (out.new.items ≡ out.old.items) }
+{
+    let name = plan.thread_name(alloc, thread)?;
+    let mut lines = lines_of(alloc, plan, thread, &name, items)?;
+    lines.append_to(out)
 }
 
 // The line of each sample of these items.
