@@ -13,9 +13,10 @@ ghost use Rattle.logic_controllers.specs.ForEachController.{input_name, value_at
 use crate::rounds::Rounds;
 use cursor_steps::Controller;
 use element_tree::{Kind, Plan, Turn};
+use itoa::Buffer;
 use jm_base::{M, Outside, Text};
 use std::alloc::Global;
-use var_functions::{UserState, VarError, Vars, decimal_text};
+use var_functions::{UserState, VarError, Vars};
 
 /// What a ForEach Controller does next (the manual's "ForEach Controller"): it runs its children once for each variable
 /// of a numbered row, whose value goes to another variable.
@@ -33,12 +34,15 @@ pub struct EachCursor {
 fn input_name(alloc: Global, input: &[u8], separator: bool, number: u64) -> M<Text>
     ensures { IfOk result (λ t. t ≡ input_name input.now separator number) }
 {
-    let digits = decimal_text(alloc, number)?;
-    let mut text = Vec::from_slice(alloc, input)?;
+    let mut buffer = Buffer::new();
+    let digits = buffer.format(number).as_bytes();
+    let mut text = Vec::new(alloc);
+    text.reserve(input.len() + 1 + digits.len())?;
+    text.extend_from_slice(input)?;
     if separator {
         text.extend_from_slice(b"_")?;
     }
-    text.extend_from_slice(digits.bytes())?;
+    text.extend_from_slice(digits)?;
     Ok(Text::of(text))
 }
 

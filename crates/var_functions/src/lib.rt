@@ -12,7 +12,6 @@ mod vars;
 
 pub use error::{PropsError, VarError};
 pub use expansion::expand;
-pub use number::decimal_text;
 pub use props::Props;
 pub use state::{FnState, UserState};
 pub use vars::Vars;

@@ -101,7 +101,7 @@ pub(crate) fn int_sum(texts: &[Text]) -> Option<i64>
 }
 
 /// The decimal text of a number. `NoMemory` comes where there is no memory for it.
-pub fn decimal_text(alloc: Global, number: u64) -> M<Text>
+pub(crate) fn decimal_text(alloc: Global, number: u64) -> M<Text>
     ensures { IfOk result (λ t. t ≡ decimal number) }
 {
     let mut buffer = Buffer::new();
