@@ -26,6 +26,9 @@ pub enum TraceItem {
 // Room for at most this many samples is taken before a thread runs.
 const MOST_RESERVED: u32 = 65_536;
 
+// Each step takes room for this many items.
+const STEP_ROOM: usize = 5;
+
 /// Items in order, and room for more.
 #[derive(Drop)]
 pub struct Trace {
@@ -42,13 +45,14 @@ impl Model for Trace {
 }
 
 impl Trace {
-    /// An empty trace with room for a section that is left and for the thread's end, and where there is memory for as many
-    /// samples as are asked for, up to 65,536: a trace that grows while other threads run is moved, which stops them all.
+    /// An empty trace with room for a section that is left and for the thread's end. Where there is memory it also has room
+    /// for as many samples as are asked for, up to 65,536, and for what the step after them takes room for: a trace that grows
+    /// while other threads run is moved, which stops them all.
     pub fn new(alloc: Global, samples: u32) -> M<Trace>
         ensures { IfOk result (λ t. (t.items ≡ []) × (2 ≤ t.room)) }
     {
         let mut items = Vec::new(alloc);
-        let wished = samples.min(MOST_RESERVED) as usize + 2;
+        let wished = samples.min(MOST_RESERVED) as usize + STEP_ROOM;
         if items.reserve(wished).is_err() {
             items.reserve(2)?;
         }
@@ -62,7 +66,7 @@ impl Trace {
         ensures kept { self.old.room ≤ self.new.room }
         ensures same { self.new.items ≡ self.old.items }
     {
-        self.items.reserve(5)?;
+        self.items.reserve(STEP_ROOM)?;
         Ok(())
     }
 
