@@ -9,6 +9,7 @@ use Rattle.output_lines.specs.Lines.{header_text}
 use Rattle.output_lines.specs.Reports.{summary_text}
 use Rattle.phaser_core.specs.Shares.{Partition}
 use Rattle.run_engine.specs.Keeps.{all_entries}
+use Rattle.run_engine.specs.SectionsRun.{AllLeave}
 use Rattle.thread_machine.specs.declared.trace.TraceItem.{TraceItem}
 use Rattle.trace_output.specs.Texts.{traces_text, reports_text, ends_text}
 use Rattle.weave_engine.specs.Books.{lists_in, AllFollow}
@@ -20,11 +21,13 @@ abbrev pub weave_options : WeaveOf → Options
 weave_options w = record { seed = w.seed; props = w.props; budget = w.samples }
 
 -- What the threads of a plan have done by a schedule: the traces and the reports of the woven run. Each trace is that of its
--- thread over the plan's own replies, or a prefix of it and the stop; each sample of each trace counts in exactly one report,
--- that of the interval which its result line shows; and in the total, which all reports sum to.
+-- thread over the plan's own replies, or a prefix of it and the stop, and leaves each section that it enters; each sample of
+-- each trace counts in exactly one report, that of the interval which its result line shows; and in the total, which all
+-- reports sum to.
 pub record IsWeave (w : WeaveOf) (plan : Tree) (traces : List (List TraceItem)) (reports : List Report) (total : Report) : Type 0 where
   pub woven : Woven plan (weave_options w) w.schedule traces reports
   pub follows : AllFollow plan (weave_options w) traces
+  pub sections : AllLeave traces
   pub parted : Partition (length (labels_of plan.elements)) (lists_in traces) reports
   pub total_is : total.rows ≡ sum_of (length (labels_of plan.elements)) (all_entries (lists_in traces))
 

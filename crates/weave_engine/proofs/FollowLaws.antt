@@ -18,7 +18,7 @@ use Rattle.thread_machine.specs.SectionOrder.{left_traced}
 use Rattle.weave_engine.specs.declared.seat.Owed.TheVariants as by
 use Rattle.weave_engine.specs.declared.seat.Seat.{Seat}
 use Rattle.weave_engine.specs.Steps.{Thread}
-use Rattle.weave_engine.specs.Seats.{SeatIs, IsNoMemory, owed_after, StandsFor, SeatStands, KeepsOn, AllStand, AllKeepOn, traces_in, first_outside, AreSeats, all_seats_settled, is_settled, is_nothing}
+use Rattle.weave_engine.specs.Seats.{SeatIs, IsNoMemory, owed_after, StandsFor, SeatStands, KeepsOn, AllStand, AllKeepOn, AllClosed, traces_in, first_outside, AreSeats, all_seats_settled, is_settled, is_nothing}
 use Rattle.outside_world.specs.Scripted.{scripts_of}
 use Rattle.thread_machine.specs.declared.trace.TraceItem.{TraceItem}
 use Rattle.weave_engine.specs.Books.{Followed, AllFollow}
@@ -155,6 +155,17 @@ number_at i [] ts k x are there = absurd (no_item k x there)
 number_at i (y ∷ ys) [] k x are there = absurd are
 number_at i (y ∷ ys) (t ∷ ts) zero x are there = let same = ap (λ (z : Seat). z.worker.thread) (sym (seat_same there)) in let is = are.1 in omega (arith, same, is)
 number_at i (y ∷ ys) (t ∷ ts) (suc k) x are there = let h = number_at (i + 1) ys ts k x are.2 there in omega (arith, h)
+
+closed_at : (i : ℕ) (xs : List Seat) (ts : List Thread) (k : ℕ) (x : Seat) → AreSeats i xs ts → slice_get xs k ≡ Some x → x.ended ≡ true → x.worker.section ≡ None
+closed_at i [] ts k x are there ended = absurd (no_item k x there)
+closed_at i (y ∷ ys) [] k x are there ended = absurd are
+closed_at i (y ∷ ys) (t ∷ ts) zero x are there ended =
+    subst (λ (z : Seat). z.worker.section ≡ None) (seat_same there) (are.0.at_end (ap (λ (z : Seat). z.ended) (seat_same there) ∙ ended))
+closed_at i (y ∷ ys) (t ∷ ts) (suc k) x are there ended = closed_at (i + 1) ys ts k x are.2 there ended
+
+-- threads that have settled have no section open
+pub all_closed : (seats : List Seat) (ts : List Thread) → AreSeats 0 seats ts → all_seats_settled seats ≡ true → AllClosed seats
+all_closed seats ts are quiet k x there = closed_at 0 seats ts k x are there (settled_ended seats k x quiet there)
 
 -- a thread that has run to an end which is not out of memory shows all of its events
 script_of : (now : Account) (plan : Tree) (options : Options) (d : ℕ) (trace : List TraceItem) (end : End) → (IsNoMemory end → ⊥) → HasRun (first_outside plan) now plan d options trace end

@@ -439,6 +439,10 @@ pub record Starts (plan : Tree) (options : Options) (seats : List Seat) (core : 
 abbrev pub AllOf : Tree → List Seat → Type 0
 AllOf plan seats = (k : ℕ) (x : Seat) → slice_get seats k ≡ Some x → x.worker.plan ≡ plan
 
+-- no thread of the seats has a section open
+abbrev pub AllClosed : List Seat → Type 0
+AllClosed seats = (k : ℕ) (x : Seat) → slice_get seats k ≡ Some x → x.worker.section ≡ None
+
 -- the threads of a run that is over, and its reports
 pub record IsFinished (plan : Tree) (options : Options) (schedule : List Token) (seats : List Seat) (reports : List Report) : Type 0 where
   pub woven : Woven plan options schedule (traces_in seats) reports
@@ -446,4 +450,5 @@ pub record IsFinished (plan : Tree) (options : Options) (schedule : List Token) 
   pub partition : Partition (length (labels_of plan.elements)) (lists_in (traces_in seats)) reports
   pub keep : AllKeep (length (labels_of plan.elements)) options.budget (lists_in (traces_in seats))
   pub plans : AllOf plan seats
+  pub closed : AllClosed seats
   pub count : length seats ≡ length (threads_of plan)

@@ -1,12 +1,13 @@
 // The run of a schedule.
 
-ghost use Rattle.std.specs.Prelude.{◌≡◌, true, ◌-◌, ◌*◌, ◌<◌, ◌≤◌, ℕ, List, All, length, IfOk, OnOk};
+ghost use Rattle.std.specs.Prelude.{◌≡◌, true, ◌-◌, ◌*◌, ◌<◌, ◌≤◌, ℕ, List, All, None, length, IfOk, OnOk};
 ghost use Rattle.element_tree.specs.Tree.{threads_of};
 ghost use Rattle.phaser_core.specs.declared.view.Numbers.{Numbers};
 ghost use Rattle.jm_meaning.specs.Beginning.{Options};
 ghost use Rattle.thread_machine.specs.Bare.{IsLabelled};
+ghost use Rattle.thread_machine.specs.SectionOrder.{SectionsFrom};
 ghost use Rattle.weave_engine.specs.Books.{lists_in, AllKeep, AllFollow};
-ghost use Rattle.weave_engine.specs.Seats.{SeatIs, AreSeats, CoreIs, IsFresh, AllFresh, Runs, IsJoined, all_seats_settled, SeatStands, AllStand, AllOf, traces_in, first_outside, Starts, IsFinished};
+ghost use Rattle.weave_engine.specs.Seats.{SeatIs, AreSeats, CoreIs, IsFresh, AllFresh, Runs, IsJoined, all_seats_settled, SeatStands, AllStand, AllOf, AllClosed, traces_in, first_outside, Starts, IsFinished};
 ghost use Rattle.weave_engine.specs.Turns.{Weave, is_idle, joined_to};
 ghost use Rattle.phaser_core.specs.CoreShape.{IsDone};
 ghost use Rattle.weave_engine.specs.Woven.{thread_at_start, threads_to, numbers_of, split_to, Woven, NamesOneRun};
@@ -163,9 +164,11 @@ fn run_all<'p>(
 
 // The traces of threads of the plan, in their order.
 fn traces_of(alloc: Global, plan: &Plan, seats: Vec<Seat<'_>>) -> M<Items<Items<TraceItem>>>
-    requires { AllOf plan.now seats.items }
+    requires plans { AllOf plan.now seats.items }
+    requires closed { AllClosed seats.items }
     ensures traces { IfOk result (λ t. t ≡ traces_in seats.entry.items) }
     ensures labelled { IfOk result (All (All (IsLabelled (length (labels_of plan.now.elements))))) }
+    ensures sections { IfOk result (All (λ t. SectionsFrom None t None)) }
 {
     let mut traces = Vec::with_capacity(alloc, seats.len())?;
     'seats: for seat in seats {
@@ -176,9 +179,11 @@ fn traces_of(alloc: Global, plan: &Plan, seats: Vec<Seat<'_>>) -> M<Items<Items<
 
 // The trace of a thread of the plan.
 fn trace_of(plan: &Plan, seat: Seat<'_>) -> Items<TraceItem>
-    requires { seat.worker.plan ≡ plan.now }
+    requires plan { seat.worker.plan ≡ plan.now }
+    requires closed { seat.worker.section ≡ None }
     ensures trace { result ≡ seat.entry.worker.trace }
     ensures labelled { All (IsLabelled (length (labels_of plan.now.elements))) result }
+    ensures sections { SectionsFrom None result None }
 {
     let Seat { worker, .. } = seat;
     Items::of(worker.into_trace())
@@ -209,6 +214,8 @@ pub fn weave(
     ensures threads { IfOk result (λ b. length b.traces ≡ length (threads_of plan.now)) }
     ensures keep { IfOk result (λ b. AllKeep (length (labels_of plan.now.elements)) budget (lists_in b.traces)) }
     ensures labelled { IfOk result (λ b. All (All (IsLabelled (length (labels_of plan.now.elements)))) b.traces) }
+    // Each trace enters a section where none is open, leaves the one that is, and ends with none open.
+    ensures sections { IfOk result (λ b. All (λ t. SectionsFrom None t None) b.traces) }
 {
     let finished = run_all(alloc, plan, props, seed, budget, schedule)?;
     let Finished { seats, reports } = finished;

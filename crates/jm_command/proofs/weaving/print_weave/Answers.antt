@@ -19,6 +19,7 @@ returns-in-Ok-print_all_results g c =
     weave_says c.args.ask.now c.args.plan.now c.in-Ok.books.traces c.in-Ok.books.reports c.in-Ok-total_of.total (record {
       woven = c.in-Ok.ensures.woven;
       follows = c.in-Ok.ensures.follows;
+      sections = c.in-Ok.ensures.sections;
       parted = c.in-Ok.ensures.partition;
       total_is = c.in-Ok-total_of.ensures.rows;
     })
@@ -29,6 +30,7 @@ returns-in-Err-WriteFault g c =
     weave_failed c.args.ask.now c.args.plan.now c.in-Ok.books.traces c.in-Ok.books.reports c.in-Ok-total_of.total (record {
       woven = c.in-Ok.ensures.woven;
       follows = c.in-Ok.ensures.follows;
+      sections = c.in-Ok.ensures.sections;
       parted = c.in-Ok.ensures.partition;
       total_is = c.in-Ok-total_of.ensures.rows;
     })
@@ -39,6 +41,7 @@ returns g c =
     weave_cut c.args.ask.now c.args.plan.now c.in-Ok.books.traces c.in-Ok.books.reports c.in-Ok-total_of.total (record {
       woven = c.in-Ok.ensures.woven;
       follows = c.in-Ok.ensures.follows;
+      sections = c.in-Ok.ensures.sections;
       parted = c.in-Ok.ensures.partition;
       total_is = c.in-Ok-total_of.ensures.rows;
     })

@@ -7,7 +7,7 @@ use Rattle.weave_engine.specs.Seats.{RunsOn, first_outside}
 use Rattle.weave_engine.specs.Turns.{Weave}
 use Rattle.weave_engine.specs.Woven.{AllRun, at_start, numbers_of}
 use Rattle.weave_engine.proofs.WovenLaws.{after_tokens, after_rounds, after_closing, count1, woven, partition, keep}
-use Rattle.weave_engine.proofs.FollowLaws.{all_follow}
+use Rattle.weave_engine.proofs.FollowLaws.{all_follow, all_closed}
 use Rattle.weave_engine.proofs.weaving.run_all.Goals as goal
 
 pub all_tokens-requires-clause-runs : goal.all_tokens-requires-clause-runs
@@ -145,5 +145,6 @@ returns c =
       keep = keep plan options tokens seats0 seats1 seats2 core0 core1 core2 core3 core4 locks0 locks1 locks2 b.runs b.count run1 c.in_ok-run_out.ensures.runs c.in_ok-run_out.ensures.count c.in_ok-close_open.ensures.closes
           c.in_ok-join_all.ensures.joined reports;
       plans = λ k x there. (stand k x there).0;
+      closed = all_closed seats2 r.0.threads r.2.threads c.in_ok-run_out.ensures.settled;
       count = c.in_ok-run_out.ensures.count ∙ count1 plan options tokens seats0 seats1 seats1 core0 core1 core1 core1 core1 locks0 locks1 locks1 b.runs b.count run1;
     }

@@ -7,8 +7,11 @@ traces_long : (xs : List Seat) → length (traces_in xs) ≡ length xs
 traces_long [] = refl
 traces_long (x ∷ xs) = ap suc (traces_long xs)
 
-pub traces_of-requires : goal.traces_of-requires
-traces_of-requires c = c.in_ok-finished.ensures.plans
+pub traces_of-requires-clause-plans : goal.traces_of-requires-clause-plans
+traces_of-requires-clause-plans c = c.in_ok-finished.ensures.plans
+
+pub traces_of-requires-clause-closed : goal.traces_of-requires-clause-closed
+traces_of-requires-clause-closed c = c.in_ok-finished.ensures.closed
 
 pub returns-clause-woven : goal.returns-clause-woven
 returns-clause-woven c = rw (c.in_ok-traces.ensures.traces, c.of.ensures) c.in_ok-finished.ensures.woven
