@@ -1,9 +1,10 @@
 #!/bin/sh
 # Prints how fast `run` is with 1, 2, 4 and 8 threads over the plan's own replies and an interval of 100 ms, beside `solo` with
 # one thread of the same plan in the same minute: samples a second from the start of the process to its exit, and until the
-# last report came, which is when the threads have ended and the results are still to be printed; each the best of several.
+# last report came, which is when the threads have ended and the results are still to be printed; each the best of several, in turn.
 # And the peak of its memory for each sample. At first a plain loop, of which a sample is little more than its record and its line; then
-# nested loops with an If, a ForEach and templates, as in bench/solo.sh, where a thread has more to do by itself.
+# nested loops with an If, a ForEach and templates, as in bench/solo.sh, where a thread has more to do by itself. Beside them, what the
+# machine gives: how many samples a second two processes of `solo` make at the same time, which share nothing and print at the same time.
 # Usage: bench/run.sh [TIMES]    (7 times; it needs python3, for the clock and the memory of a child process)
 cd "$(dirname "$0")/.." || exit 1
 ./jm check </dev/null >/dev/null 2>&1
@@ -58,20 +59,40 @@ def measured(text, *words):
         raise SystemExit(f"{words}: status {os.waitstatus_to_exitcode(status)}, {samples} samples")
     return took, reported, used.ru_maxrss * 1024, samples, intervals
 
-def best(text, *words):
-    runs = [measured(text, *words) for _ in range(TIMES)]
+def seconds_of_two(text):
+    """Seconds until two processes of `solo` that begin together have both ended."""
+    with tempfile.TemporaryFile() as one, tempfile.TemporaryFile() as other, open("/dev/null", "wb") as nowhere:
+        for source in (one, other):
+            source.write(text)
+            source.seek(0)
+        start = time.perf_counter()
+        children = [subprocess.Popen([PROGRAM, "solo"], stdin=source, stdout=nowhere, stderr=nowhere) for source in (one, other)]
+        if any([child.wait() for child in children]):
+            raise SystemExit("solo failed")
+        return time.perf_counter() - start
+
+def best(runs):
     took, reported, peaks, samples, intervals = zip(*runs)
     return min(took), min(reported), min(peaks), samples[0], max(intervals)
 
-print(f"{os.cpu_count()} processors, {SAMPLES:,} samples a thread, the best of {TIMES}")
+THREADS = (1, 2, 4, 8)
+print(f"{os.cpu_count()} processors, {SAMPLES:,} samples a thread, the best of {TIMES}, in turn")
 for name, children in (("a plain loop", PLAIN), ("nested loops", NESTED)):
-    took, _, peak, samples, _ = best(plan(1, children), "solo")
-    alone = samples / took
+    one = plan(1, children)
+    solos, pairs, runs = [], [], {threads: [] for threads in THREADS}
+    for _ in range(TIMES):
+        solos.append(measured(one, "solo"))
+        pairs.append(seconds_of_two(one))
+        for threads in THREADS:
+            runs[threads].append(measured(plan(threads, children), "run", "--every", "100"))
+    took, _, peak, samples, _ = best(solos)
+    alone, both = samples / took, 2 * samples / min(pairs)
     print(f"{name}, solo: {samples:,} samples in {took * 1000:.1f} ms, {alone:,.0f} a second, {peak / samples:.0f} bytes a sample")
-    for threads in (1, 2, 4, 8):
-        took, reported, peak, samples, intervals = best(plan(threads, children), "run", "--every", "100")
-        one = samples / took if threads == 1 else one
+    print(f"{name}, two processes of solo at once: {both:,.0f} a second, {both / alone:.2f} of one")
+    single = best(runs[1])
+    for threads in THREADS:
+        took, reported, peak, samples, intervals = best(runs[threads])
         print(f"{name}, run, {threads} thread{'s' * (threads > 1)}: {samples:,} samples in {took * 1000:.1f} ms, {samples / took:,.0f} a second, "
-              f"{samples / took / alone:.2f} of solo, {samples / took / one:.2f} of one thread; threads ended after {reported * 1000:.1f} ms, "
-              f"{samples / reported:,.0f} a second; {peak / samples:.0f} bytes a sample, {intervals} intervals")
+              f"{samples / took / alone:.2f} of solo, {threads * single[0] / took:.2f} of one thread; threads ended after {reported * 1000:.1f} ms, "
+              f"{samples / reported:,.0f} a second, {threads * single[1] / reported:.2f} of one thread; {peak / samples:.0f} bytes a sample, {intervals} intervals")
 PY
