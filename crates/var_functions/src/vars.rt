@@ -214,8 +214,7 @@ impl Vars {
         ensures values { (other : List ℕ) → value_of other self.new
             ≡ (if is_same other name.now then None else value_of other self.old) }
     {
-        let bytes = self.bytes_at(name);
-        let _ = self.pairs.remove(name);
-        self.bytes -= bytes;
+        let old = self.pairs.remove(name);
+        self.bytes -= bytes_found(name.len(), &old);
     }
 }
