@@ -24,8 +24,7 @@ pub(crate) fn put_text(
 ) -> Result<(), VarError>
     ensures exact { Puts (put_var name value.now vars.old) vars.old vars.new result }
 {
-    let value = Text::new(alloc, value)?;
-    vars.put(name, value)
+    vars.put_copy(alloc, name.bytes(), value)
 }
 
 /// Sets a variable to a number.
@@ -88,8 +87,7 @@ pub(crate) fn put_match(
     ensures exact { Changes (sets_match name.now (match_by template.now text.now spans.now)) vars.old vars.new result }
 {
     let value = filled(alloc, template, text, spans)?;
-    let own = Text::new(alloc, name)?;
-    vars.put(own, value)?;
+    vars.put_copy(alloc, name, value.bytes())?;
     put_all_groups(alloc, name, text, spans, vars)
 }
 
