@@ -8,7 +8,7 @@ use Rattle.critical_section.specs.Book.{Section, IsPast, HasOpen, HasPlacesBelow
 use Rattle.critical_section.specs.SectionSeats.{view_of, IsSeatOf, locks_of as locks_in}
 use Rattle.thread_machine.specs.declared.trace.TraceItem.{TraceItem}
 use Rattle.thread_machine.specs.declared.trace.TraceItem.TheVariants.{Paused, Sampled, Null, Entered, Left, Ended}
-use Rattle.thread_machine.specs.SectionOrder.{SectionsFrom}
+use Rattle.thread_machine.specs.SectionOrder.{LeavesAll}
 use Rattle.thread_machine.specs.Standing.{Standing}
 
 -- the lock and the place of a section
@@ -44,7 +44,7 @@ AllRise traces = (i : ℕ) (d : List TraceItem) → i < length traces → Rises 
 
 -- in each trace each section is entered where none is open, and left: none is open at the end
 abbrev pub AllLeave : List (List TraceItem) → Type 0
-AllLeave traces = (i : ℕ) (d : List TraceItem) → i < length traces → SectionsFrom None (slice_index_or traces i d) None
+AllLeave traces = (i : ℕ) (d : List TraceItem) → i < length traces → LeavesAll (slice_index_or traces i d)
 
 -- of each lock, the places of its sections in all traces together are the numbers below how many there are, each once
 abbrev pub AreNumbered : ℕ → List (List TraceItem) → Type 0

@@ -17,6 +17,10 @@ SectionsFrom held (Entered lock place ∷ items) last = (held ≡ None) × Secti
 SectionsFrom held (Left lock ∷ items) last = (held ≡ Some lock) × SectionsFrom None items last
 SectionsFrom held (Ended end ∷ items) last = SectionsFrom held items last
 
+-- each section of a trace is entered where none is open, and none is open at its end
+abbrev pub LeavesAll : List TraceItem → Type 0
+LeavesAll items = SectionsFrom None items None
+
 -- the section that is open after these items, where this one was before
 abbrev pub open_from : Option ℕ → List Item → Option ℕ
 open_from held [] = held

@@ -7,7 +7,7 @@ ghost use Rattle.jm_base.specs.Outside.{Account};
 ghost use Rattle.jm_meaning.specs.Beginning.{Options};
 ghost use Rattle.thread_machine.specs.Bare.{IsCountedIn, IsLabelled};
 ghost use Rattle.thread_machine.specs.SampleCounts.{samples_in};
-ghost use Rattle.thread_machine.specs.SectionOrder.{sections_in, PlacedAfter, SectionsFrom};
+ghost use Rattle.thread_machine.specs.SectionOrder.{sections_in, PlacedAfter, LeavesAll};
 ghost use Rattle.thread_machine.specs.Standing.{Stands};
 ghost use Rattle.thread_machine.specs.Follows.{HasRun};
 
@@ -47,7 +47,7 @@ pub fn run_alone<O: Outside>(
     ensures intervals { IfOk result (λ solo. All (IsCountedIn 0) solo.trace.items) }
     ensures count { IfOk result (λ solo. samples_in solo.trace.items + sections_in solo.trace.items ≤ budget) }
     ensures places { IfOk result (λ solo. PlacedAfter [] solo.trace.items) }
-    ensures sections { IfOk result (λ solo. SectionsFrom None solo.trace.items None) }
+    ensures sections { IfOk result (λ solo. LeavesAll solo.trace.items) }
 
     // Out of memory before the first step, the outside was asked nothing.
     ensures unasked { OnErr result (O.account outside.new ≡ O.account outside.old) }

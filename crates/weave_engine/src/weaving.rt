@@ -5,7 +5,7 @@ ghost use Rattle.element_tree.specs.Tree.{threads_of};
 ghost use Rattle.phaser_core.specs.declared.view.Numbers.{Numbers};
 ghost use Rattle.jm_meaning.specs.Beginning.{Options};
 ghost use Rattle.thread_machine.specs.Bare.{IsLabelled};
-ghost use Rattle.thread_machine.specs.SectionOrder.{SectionsFrom};
+ghost use Rattle.thread_machine.specs.SectionOrder.{LeavesAll};
 ghost use Rattle.weave_engine.specs.Books.{lists_in, AllKeep, AllFollow};
 ghost use Rattle.weave_engine.specs.Seats.{SeatIs, AreSeats, CoreIs, IsFresh, AllFresh, Runs, IsJoined, all_seats_settled, SeatStands, AllStand, AllOf, AllClosed, traces_in, first_outside, Starts, IsFinished};
 ghost use Rattle.weave_engine.specs.Turns.{Weave, is_idle, joined_to};
@@ -168,7 +168,7 @@ fn traces_of(alloc: Global, plan: &Plan, seats: Vec<Seat<'_>>) -> M<Items<Items<
     requires closed { AllClosed seats.items }
     ensures traces { IfOk result (λ t. t ≡ traces_in seats.entry.items) }
     ensures labelled { IfOk result (All (All (IsLabelled (length (labels_of plan.now.elements))))) }
-    ensures sections { IfOk result (All (λ t. SectionsFrom None t None)) }
+    ensures sections { IfOk result (All LeavesAll) }
 {
     let mut traces = Vec::with_capacity(alloc, seats.len())?;
     'seats: for seat in seats {
@@ -183,7 +183,7 @@ fn trace_of(plan: &Plan, seat: Seat<'_>) -> Items<TraceItem>
     requires closed { seat.worker.section ≡ None }
     ensures trace { result ≡ seat.entry.worker.trace }
     ensures labelled { All (IsLabelled (length (labels_of plan.now.elements))) result }
-    ensures sections { SectionsFrom None result None }
+    ensures sections { LeavesAll result }
 {
     let Seat { worker, .. } = seat;
     Items::of(worker.into_trace())
@@ -215,7 +215,7 @@ pub fn weave(
     ensures keep { IfOk result (λ b. AllKeep (length (labels_of plan.now.elements)) budget (lists_in b.traces)) }
     ensures labelled { IfOk result (λ b. All (All (IsLabelled (length (labels_of plan.now.elements)))) b.traces) }
     // Each trace enters a section where none is open, leaves the one that is, and ends with none open.
-    ensures sections { IfOk result (λ b. All (λ t. SectionsFrom None t None) b.traces) }
+    ensures sections { IfOk result (λ b. All LeavesAll b.traces) }
 {
     let finished = run_all(alloc, plan, props, seed, budget, schedule)?;
     let Finished { seats, reports } = finished;

@@ -6,7 +6,7 @@ use Rattle.std.proofs.lemmas.List.Elements.{All-append}
 use Rattle.element_tree.specs.Names.{labels_of}
 use Rattle.thread_machine.specs.declared.trace.TraceItem.{TraceItem}
 use Rattle.thread_machine.specs.Bare.{IsLabelled}
-use Rattle.thread_machine.specs.SectionOrder.{SectionsFrom}
+use Rattle.thread_machine.specs.SectionOrder.{LeavesAll}
 use Rattle.weave_engine.specs.declared.seat.Seat.{Seat}
 use Rattle.weave_engine.specs.Seats.{AllOf, AllClosed, traces_in}
 use Rattle.weave_engine.proofs.weaving.traces_of.Goals as goal
@@ -19,9 +19,6 @@ none_left : {A : Type 0} (xs : List A) → length xs ≡ 0 → xs ≡ []
 none_left [] none = refl
 none_left (x ∷ xs) none = absurd (omega (arith, none))
 
-abbrev closed_trace : List TraceItem → Type 0
-closed_trace t = SectionsFrom None t None
-
 pub seats-init : goal.seats-init
 seats-init c =
     let items : into_iter_items c.into_iter-seat-iterator.result ≡ c.args.seats.items = search rules in
@@ -31,7 +28,7 @@ seats-init c =
       plans = subst (AllOf c.args.plan.now) (sym items) c.requires.plans;
       closed = subst AllClosed (sym items) c.requires.closed;
       labelled = subst (All (All (IsLabelled (length (labels_of c.args.plan.now.elements))))) (sym none) (λ i d low. absurd (omega (arith, low)));
-      sections = subst (All closed_trace) (sym none) (λ i d low. absurd (omega (arith, low)));
+      sections = subst (All LeavesAll) (sym none) (λ i d low. absurd (omega (arith, low)));
     }
 
 pub trace_of-requires-clause-plan : goal.trace_of-requires-clause-plan
@@ -59,8 +56,8 @@ seats-preserved c =
       labelled = subst (All (All (IsLabelled (length (labels_of c.args.plan.now.elements))))) (sym grown)
           (All-append (All (IsLabelled (length (labels_of c.args.plan.now.elements)))) before (trace ∷ []) inv.labelled
           (all_one (All (IsLabelled (length (labels_of c.args.plan.now.elements)))) trace c.trace_of.ensures.labelled));
-      sections = subst (All closed_trace) (sym grown)
-          (All-append closed_trace before (trace ∷ []) inv.sections (all_one closed_trace trace c.trace_of.ensures.sections));
+      sections = subst (All LeavesAll) (sym grown)
+          (All-append LeavesAll before (trace ∷ []) inv.sections (all_one LeavesAll trace c.trace_of.ensures.sections));
     }
 
 pub returns-clause-traces : goal.returns-clause-traces
@@ -73,4 +70,4 @@ pub returns-clause-labelled : goal.returns-clause-labelled
 returns-clause-labelled c = subst (All (All (IsLabelled (length (labels_of c.args.plan.now.elements))))) (sym c.of.ensures) c.seats.invariant.labelled
 
 pub returns-clause-sections : goal.returns-clause-sections
-returns-clause-sections c = subst (All closed_trace) (sym c.of.ensures) c.seats.invariant.sections
+returns-clause-sections c = subst (All LeavesAll) (sym c.of.ensures) c.seats.invariant.sections

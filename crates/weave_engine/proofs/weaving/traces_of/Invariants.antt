@@ -3,7 +3,7 @@ use Rattle.std.specs.Prelude.{All}
 use Rattle.std.specs.Vec.Iter.{into_iter_items}
 use Rattle.element_tree.specs.Names.{labels_of}
 use Rattle.thread_machine.specs.Bare.{IsLabelled}
-use Rattle.thread_machine.specs.SectionOrder.{SectionsFrom}
+use Rattle.thread_machine.specs.SectionOrder.{LeavesAll}
 use Rattle.weave_engine.specs.Seats.{AllOf, AllClosed, traces_in}
 use Rattle.weave_engine.proofs.weaving.traces_of.Given as goal
 
@@ -13,5 +13,5 @@ invariant-seats l = record {
   plans : AllOf l.plan (into_iter_items l.seat-iterator);
   closed : AllClosed (into_iter_items l.seat-iterator);
   labelled : All (All (IsLabelled (length (labels_of l.plan.elements)))) l.traces.items;
-  sections : All (λ t. SectionsFrom None t None) l.traces.items;
+  sections : All LeavesAll l.traces.items;
 }
