@@ -2,7 +2,7 @@
 
 ghost use Rattle.std.specs.Prelude.{◌≡◌, ◌<◌, length, IfOk};
 ghost use Rattle.element_tree.specs.Names.{labels_of};
-ghost use Rattle.element_tree.specs.Tree.{threads_of, thread_name_of};
+ghost use Rattle.element_tree.specs.Tree.{threads_of};
 ghost use Rattle.line_cases.specs.Counted.{IsCount};
 
 use crate::counted::report_in;
@@ -107,17 +107,15 @@ pub fn result_case(
 }
 
 // The same line 64 times in one text.
-fn many_lines(alloc: Global, plan: &Plan, line: &Line, name: &Text) -> M<Vec<u8>>
+fn many_lines<'a>(alloc: Global, plan: &'a Plan, line: &'a Line) -> M<Vec<u8>>
     requires thread { line.now.thread < length (threads_of plan.now) }
     requires label { line.now.sample.label < length (labels_of plan.now.elements) }
-    requires name { name.now ≡ thread_name_of plan.now line.now.thread }
 {
-    let mut lines = ResultLines::new(alloc);
-    for _ in 0..64 {
-        lines.add(plan, line.thread, name, &line.sample, line.interval)?;
-    }
+    let mut lines = ResultLines::new(alloc, plan, line.thread)?;
     let mut text = Vec::new(alloc);
-    lines.append_to(&mut text)?;
+    for _ in 0..64 {
+        lines.add(&mut text, &line.sample, line.interval)?;
+    }
     Ok(text)
 }
 
@@ -126,10 +124,9 @@ fn write_often(alloc: Global, plan: &Plan, line: &Line, texts: u32) -> M<u64>
     requires thread { line.now.thread < length (threads_of plan.now) }
     requires label { line.now.sample.label < length (labels_of plan.now.elements) }
 {
-    let name = plan.thread_name(alloc, line.thread)?;
     let mut bytes = 0u64;
     for _ in 0..texts {
-        let text = many_lines(alloc, plan, line, &name)?;
+        let text = many_lines(alloc, plan, line)?;
         bytes = bytes.wrapping_add(text.len() as u64);
     }
     Ok(bytes)

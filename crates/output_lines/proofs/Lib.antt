@@ -1,1 +1,3 @@
 pub mod Labels
+pub mod NumberRows
+pub mod Middles

@@ -16,14 +16,15 @@ pub(crate) struct Rows {
 }
 
 impl Model for Rows {
-    ghost use Rattle.std.specs.Prelude.{◌≡◌, ℕ, List, Option, Some, None, false, if◌then◌else◌};
-    ghost use Rattle.csv.specs.Writing.{text_written, fields_written, has_written, writer_setup, default_writer};
+    ghost use Rattle.std.specs.Prelude.{◌≡◌, ℕ, List, [], Option, Some, None, false, if◌then◌else◌};
+    ghost use Rattle.csv.specs.Writing.{text_written, fields_written, has_written, writer_setup, writer_pending, default_writer};
 
     ghost Value = { Option (List ℕ) };
 
     ghost view = { λ r. if r.spent then None else text_written (λ v. Some v.items) r.writer };
 
-    ghost invariant = { λ r. r.spent ≡ false → (fields_written r.writer ≡ 0) × (has_written r.writer ≡ false) × (writer_setup r.writer ≡ default_writer) };
+    ghost invariant = { λ r. r.spent ≡ false → (fields_written r.writer ≡ 0) × (has_written r.writer ≡ false) × (writer_setup r.writer ≡ default_writer)
+        × (writer_pending r.writer ≡ []) };
 }
 
 impl Rows {
@@ -43,26 +44,19 @@ impl Rows {
         ensures ok { OnOk result (self.new ≡ option_map (λ text. text ++ csv_line (map (λ f. f.now) fields.now)) self.old) }
         ensures err { OnErr result (self.new ≡ None) }
     {
-        if self.writer.write_fields(fields).is_err() {
+        if self.writer.write_fields(fields).is_err() || self.writer.flush().is_err() {
             self.spent = true;
             return Err(NoMemory);
         }
         Ok(())
     }
 
-    // Appends the text of all rows so far. Out of memory appends nothing, and gives them up.
-    pub(crate) fn append_to(&mut self, out: &mut Vec<u8>) -> M<()>
-        requires { is_some self.old ≡ true }
-        ensures ok { OnOk result (Some out.new.items ≡ option_map (λ text. out.old.items ++ text) self.old) }
-        ensures kept { OnOk result (self.new ≡ self.old) }
-        ensures err { OnErr result (out.new.items ≡ out.old.items) }
-        ensures spent { OnErr result (self.new ≡ None) }
+    // The text of all rows so far.
+    pub(crate) fn text(&self) -> &[u8]
+        requires { is_some self.now ≡ true }
+        ensures { self.now ≡ Some result.now }
     {
-        if self.writer.flush().is_err() || out.extend_from_slice(self.writer.get_ref()).is_err() {
-            self.spent = true;
-            return Err(NoMemory);
-        }
-        Ok(())
+        self.writer.get_ref()
     }
 }
 
@@ -73,5 +67,6 @@ pub fn push_row(alloc: Global, out: &mut Vec<u8>, fields: &[&[u8]]) -> M<()>
 {
     let mut rows = Rows::new(alloc);
     rows.push(fields)?;
-    rows.append_to(out)
+    out.extend_from_slice(rows.text())?;
+    Ok(())
 }

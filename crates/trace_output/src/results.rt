@@ -1,9 +1,10 @@
 // Result lines.
 
-ghost use Rattle.std.specs.Prelude.{◌≡◌, ◌<◌, ◌≤◌, ◌++◌, All, length, Some, is_some, option_map, true, IfOk, OnOk, OnErr, IsErrOf};
-ghost use Rattle.element_tree.specs.Tree.{threads_of, thread_name_of};
+ghost use Rattle.std.specs.Prelude.{◌≡◌, ◌<◌, ◌≤◌, ◌++◌, All, length, OnOk, OnErr, IsErrOf};
+ghost use Rattle.element_tree.specs.Tree.{threads_of};
 ghost use Rattle.element_tree.specs.Names.{labels_of};
 ghost use Rattle.output_lines.specs.Lines.{header_text};
+ghost use Rattle.output_lines.specs.Bulk.{BeginsWith};
 ghost use Rattle.thread_machine.specs.Bare.{IsLabelled};
 ghost use Rattle.trace_output.specs.Texts.{line_of, trace_text, traces_text};
 ghost use Rattle.trace_output.specs.Printing.{way, IsPut, IsFailed, IsCut, TextOut, TextFailed, TextCut};
@@ -12,7 +13,7 @@ use crate::error::PrintError;
 use crate::line::{finish, put_lines};
 use edge_io::Sink;
 use element_tree::Plan;
-use jm_base::{Items, M, Text};
+use jm_base::{Items, M, NoMemory, Text};
 use line_output::Pending;
 use output_lines::{ResultLines, header_line};
 use std::alloc::Global;
@@ -228,62 +229,49 @@ fn put_items<K: Sink>(
 }
 
 /// Appends a line for each sample of a thread's trace, or of some items of it, as `output_lines::result_line` does for each
-/// of them, with one writer of comma-separated fields for all. Out of memory appends nothing.
-pub fn result_lines(
+/// of them, but faster. Out of memory appends nothing.
+pub fn result_lines<'a>(
     alloc: Global,
     out: &mut Vec<u8>,
-    plan: &Plan,
+    plan: &'a Plan,
     thread: u16,
-    items: &[TraceItem],
+    items: &'a [TraceItem],
 ) -> M<()>
     requires thread { thread < length (threads_of plan.now) }
     requires labels { All (IsLabelled (length (labels_of plan.now.elements))) items.now }
     ensures ok { OnOk result (out.new.items ≡ out.old.items ++ trace_text plan.now thread items.now) }
     ensures err { OnErr result (out.new.items ≡ out.old.items) }
 {
-    let name = plan.thread_name(alloc, thread)?;
-    let mut lines = lines_of(alloc, plan, thread, &name, items)?;
-    lines.append_to(out)
-}
-
-// The line of each sample of these items.
-fn lines_of(
-    alloc: Global,
-    plan: &Plan,
-    thread: u16,
-    name: &Text,
-    items: &[TraceItem],
-) -> M<ResultLines>
-    requires thread { thread < length (threads_of plan.now) }
-    requires labels { All (IsLabelled (length (labels_of plan.now.elements))) items.now }
-    requires name { name.now ≡ thread_name_of plan.now thread }
-    ensures { IfOk result (λ lines. lines ≡ Some (trace_text plan.now thread items.now)) }
-{
-    let mut lines = ResultLines::new(alloc);
-    for item in items {
-        add_line(&mut lines, plan, thread, name, item)?;
+    let mut lines = ResultLines::new(alloc, plan, thread)?;
+    let length = out.len();
+    if add_lines(&mut lines, out, items).is_err() {
+        out.truncate(length);
+        return Err(NoMemory);
     }
-    Ok(lines)
+    Ok(())
 }
 
-// Adds the line of an item, if it is a sample.
-fn add_line(
-    lines: &mut ResultLines,
-    plan: &Plan,
-    thread: u16,
-    name: &Text,
-    item: &TraceItem,
-) -> M<()>
-    requires kept { is_some lines.old ≡ true }
-    requires thread { thread < length (threads_of plan.now) }
-    requires label { IsLabelled (length (labels_of plan.now.elements)) item.now }
-    requires name { name.now ≡ thread_name_of plan.now thread }
-    ensures { OnOk result (lines.new ≡ option_map (λ text. text ++ line_of plan.now thread item.now) lines.old) }
+// Appends the line of each sample of these items. Out of memory a prefix of them is there.
+fn add_lines<'a>(lines: &mut ResultLines<'a>, out: &mut Vec<u8>, items: &'a [TraceItem]) -> M<()>
+    requires { All (IsLabelled (length (labels_of lines.old.plan.elements))) items.now }
+    ensures ok { OnOk result (out.new.items ≡ out.old.items ++ trace_text lines.old.plan lines.old.thread items.now) }
+    ensures err { OnErr result (BeginsWith out.old.items out.new.items) }
+{
+    for item in items {
+        add_line(lines, out, item)?;
+    }
+    Ok(())
+}
+
+// Appends the line of an item, if it is a sample.
+fn add_line<'a>(lines: &mut ResultLines<'a>, out: &mut Vec<u8>, item: &'a TraceItem) -> M<()>
+    requires { IsLabelled (length (labels_of lines.old.plan.elements)) item.now }
+    ensures ok { OnOk result (out.new.items ≡ out.old.items ++ line_of lines.old.plan lines.old.thread item.now) }
+    ensures err { OnErr result (out.new.items ≡ out.old.items) }
+    ensures same { lines.new ≡ lines.old }
 {
     match item {
-        TraceItem::Sampled { sample, interval } => {
-            lines.add(plan, thread, name, sample, *interval)
-        }
+        TraceItem::Sampled { sample, interval } => lines.add(out, sample, *interval),
         TraceItem::Paused(_)
         | TraceItem::Null { .. }
         | TraceItem::Entered { .. }

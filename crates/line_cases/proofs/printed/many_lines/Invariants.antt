@@ -1,7 +1,6 @@
-use Rattle.std.proofs.Common.{◌≡◌, true}
-use Rattle.std.specs.Prelude.{is_some}
+use Rattle.std.proofs.Common.{◌≡◌}
 use Rattle.line_cases.proofs.printed.many_lines.Given as goal
 
--- the lines so far are kept
+-- the lines are of this plan
 abbrev pub invariant-loop : goal.invariant-loop
-invariant-loop l = is_some l.lines ≡ true
+invariant-loop l = l.lines.plan ≡ l.plan
