@@ -3,8 +3,8 @@
 # one thread of the same plan in the same minute: samples a second from the start of the process to its exit, and until the
 # last report came, which is when the threads have ended and the results are still to be printed; each the best of several, in turn.
 # And the peak of its memory for each sample. At first a plain loop, of which a sample is little more than its record and its line; then
-# nested loops with an If, a ForEach and templates, as in bench/solo.sh, where a thread has more to do by itself. Beside them, what the
-# machine gives: how many samples a second two processes of `solo` make at the same time, which share nothing and print at the same time.
+# nested loops with an If, a ForEach and templates, as in bench/solo.sh, where a thread has more to do by itself; then a sampler with an
+# element of each class in its scope but a timer, for which `run` would wait. Beside them, what the machine gives: how many samples a second two processes of `solo` make at the same time, which share nothing and print at the same time.
 # Usage: bench/run.sh [TIMES]    (7 times; it needs python3, for the clock and the memory of a child process)
 cd "$(dirname "$0")/.." || exit 1
 ./jm check </dev/null >/dev/null 2>&1
@@ -15,8 +15,8 @@ PROGRAM = "crates/jm_program/out/jm_program"
 TIMES = int(os.environ["TIMES"])
 SAMPLES = 65_536
 
-def plan(threads, children):
-    group = {"type": "ThreadGroup", "name": "TG", "props": {"threads": threads}, "children": children}
+def plan(threads, children, loops):
+    group = {"type": "ThreadGroup", "name": "TG", "props": {"threads": threads, "loops": loops}, "children": children}
     return json.dumps({"type": "TestPlan", "children": [group]}).encode()
 
 def script(name, reply, **props):
@@ -35,6 +35,20 @@ NESTED = [
         controller("If", "C", [script("T", {"ms": 1})], condition='${__jexl3("${user}" == "ann")}'),
         controller("ForEach", "E", [script("S", {"echo": True, "ms": 1}, request=REQUEST)], input="u", output="o"),
     ], loops=64)], loops=64),
+]
+
+# The Counter and the data set advance before each sample, at the start of a round of the group.
+EACH = [
+    {"type": "Counter", "props": {"var": "n", "start": 1, "increment": 1}},
+    {"type": "DataSet", "props": {"names": ["user", "age"], "share": "thread", "text": "ann,31\nbob,47\ncarola,52\n"}},
+    {"type": "UserParameters", "props": {"vars": [["id", "${user}-${n}"]]}},
+    {**script("S", {"echo": True, "ms": 1}, request="id=${id};age=${age}"), "children": [
+        {"type": "BoundaryExtractor", "props": {"ref": "got", "left": "id=", "right": ";"}},
+        {"type": "RegexExtractor", "props": {"ref": "age", "pattern": "age=([0-9]+)"}},
+        {"type": "ResponseAssertion", "props": {"test": "substring", "patterns": ["id="]}},
+        {"type": "DurationAssertion", "props": {"ms": 1}},
+        {"type": "Listener"},
+    ]},
 ]
 
 def measured(text, *words):
@@ -77,14 +91,14 @@ def best(runs):
 
 THREADS = (1, 2, 4, 8)
 print(f"{os.cpu_count()} processors, {SAMPLES:,} samples a thread, the best of {TIMES}, in turn")
-for name, children in (("a plain loop", PLAIN), ("nested loops", NESTED)):
-    one = plan(1, children)
+for name, children, loops in (("a plain loop", PLAIN, 1), ("nested loops", NESTED, 1), ("an element of each class", EACH, SAMPLES)):
+    one = plan(1, children, loops)
     solos, pairs, runs = [], [], {threads: [] for threads in THREADS}
     for _ in range(TIMES):
         solos.append(measured(one, "solo"))
         pairs.append(seconds_of_two(one))
         for threads in THREADS:
-            runs[threads].append(measured(plan(threads, children), "run", "--every", "100"))
+            runs[threads].append(measured(plan(threads, children, loops), "run", "--every", "100"))
     took, _, peak, samples, _ = best(solos)
     alone, both = samples / took, 2 * samples / min(pairs)
     print(f"{name}, solo: {samples:,} samples in {took * 1000:.1f} ms, {alone:,.0f} a second, {peak / samples:.0f} bytes a sample")
