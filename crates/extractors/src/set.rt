@@ -24,7 +24,8 @@ pub(crate) fn put_text(
 ) -> Result<(), VarError>
     ensures exact { Puts (put_var name value.now vars.old) vars.old vars.new result }
 {
-    vars.put_copy(alloc, name.bytes(), value)
+    let value = Text::new(alloc, value)?;
+    vars.put(name, value)
 }
 
 /// Sets a variable to a number.
