@@ -4,11 +4,11 @@ use Rattle.std.specs.Option.{option_map}
 use Rattle.jm_base.specs.declared.types.End.TheVariants.{RoundLimit, StopThread, ValueLimit}
 use Rattle.jm_base.specs.Run.{Run, over, ◌>>=◌}
 use Rattle.template_text.specs.Pieces.{Pieces}
+use Rattle.var_functions.specs.Vars.{index_name}
 use Rattle.element_tree.specs.declared.kinds.Element.{Element}
 use Rattle.element_tree.specs.declared.kinds.Loops.{Loops}
 use Rattle.cursor_steps.specs.CursorStep.{Step}
 use Rattle.config_elements.specs.RoundStart.{begin_round}
-use Rattle.logic_controllers.specs.ControllerRounds.{index_name}
 use Rattle.logic_controllers.specs.LoopController.{round_begins}
 use Rattle.logic_controllers.specs.WhileController.{last_ok, goes_on}
 use Rattle.logic_controllers.specs.ForEachController.{Row, value_at}

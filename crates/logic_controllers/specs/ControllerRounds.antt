@@ -1,8 +1,8 @@
 -- The rounds of the Loop, While and ForEach Controllers.
-use Rattle.std.specs.Prelude.{◌≡◌, ℕ, ◌+◌, ◌-◌, true, false, List, ◌++◌, Option, Some, Result, IfOk, codes, decimal, if◌then◌else◌}
+use Rattle.std.specs.Prelude.{◌≡◌, ℕ, ◌+◌, ◌-◌, true, false, List, Option, Some, Result, IfOk, decimal, if◌then◌else◌}
 use Rattle.element_tree.specs.declared.package.Turn.{Turn}
 use Rattle.var_functions.specs.declared.error.VarError.{VarError}
-use Rattle.var_functions.specs.Vars.{Variables, put_var}
+use Rattle.var_functions.specs.Vars.{Variables, put_var, index_name}
 use Rattle.logic_controllers.specs.declared.rounds.Rounds.{Rounds}
 use Rattle.cursor_steps.specs.RunningChildren.{none_left, pass_over, IsAmong, Passes, begun_after}
 
@@ -13,10 +13,6 @@ before_rounds children = record { begun = 0; opening = false; pass = none_left c
 -- a round begins: its variables are still to be set, and all children are to be run
 abbrev pub round_begun : Rounds → Rounds
 round_begun r = record { begun = r.begun + 1; opening = true; pass = pass_over r.pass.children }
-
--- the index variable of a looping element of this name
-abbrev pub index_name : List ℕ → List ℕ
-index_name name = codes "__jm__" ++ name ++ codes "__idx"
 
 -- The variables where the round that began last is opened: its index, from 0, is set. There are none where they would
 -- be past their limit; and nothing is set where the round was opened already.

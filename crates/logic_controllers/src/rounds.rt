@@ -1,8 +1,8 @@
 // The rounds of a looping controller: how many have begun, and the children of the last one.
 
 ghost use Rattle.std.specs.Prelude.{◌≡◌, ◌+◌, ◌-◌, ◌^◌, ◌<◌, OnOk, OnErr, decimal};
-ghost use Rattle.var_functions.specs.Vars.{put_var, Puts};
-ghost use Rattle.logic_controllers.specs.ControllerRounds.{before_rounds, round_begun, index_name, opened_vars, opened};
+ghost use Rattle.var_functions.specs.Vars.{put_var, index_name, Puts};
+ghost use Rattle.logic_controllers.specs.ControllerRounds.{before_rounds, round_begun, opened_vars, opened};
 
 use cursor_steps::Pass;
 use std::alloc::Global;
@@ -24,7 +24,7 @@ pub struct Rounds {
 pub fn set_index(alloc: Global, name: &[u8], index: u32, vars: &mut Vars) -> Result<(), VarError>
     ensures { Puts (put_var (index_name name.now) (decimal index) vars.old) vars.old vars.new result }
 {
-    vars.put_number(alloc, b"__jm__", name, b"__idx", u64::from(index))
+    vars.put_index(alloc, name, u64::from(index))
 }
 
 impl Rounds {

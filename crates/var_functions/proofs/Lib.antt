@@ -1,5 +1,6 @@
 pub mod Numerals
 pub mod VarLaws
+pub mod BesideLaws
 pub mod CameLaws
 pub mod LaterLaws
 pub mod Expanding

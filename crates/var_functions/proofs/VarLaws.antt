@@ -156,7 +156,7 @@ at_once a b P Q h p = subst (λ r. MatchBool r P Q) (sym (is_within a b h)) p
 no_room : (a : ℕ) (b : ℕ) (x : Variables) → most_bytes < b → (if nat_le a most_text && nat_le b most_bytes then Some x else None) ≡ None
 no_room a b x h = grind (arith, nat_tests)
 
-room : (a : ℕ) (b : ℕ) (x : Variables) → a ≤ most_text → b ≤ most_bytes → (if nat_le a most_text && nat_le b most_bytes then Some x else None) ≡ Some x
+pub room : (a : ℕ) (b : ℕ) (x : Variables) → a ≤ most_text → b ≤ most_bytes → (if nat_le a most_text && nat_le b most_bytes then Some x else None) ≡ Some x
 room a b x h k = grind (arith, nat_tests)
 
 module _ (name value : List ℕ) (vars : Variables) (bytes next : ℕ) (kept : IsKept bytes vars) (is : next ≡ bytes - bytes_at name vars + (length name + length value)) where
@@ -214,7 +214,7 @@ same_step name value e es sorted more found Greater is =
     ap (λ l. e ∷ l) (more rest)
 
 -- setting a variable to its value changes nothing
-with_var-same : (name value : List ℕ) (vars : Variables) → IsStrictlySortedBy by_bytes (keys_of vars) → value_of name vars ≡ Some value → with_var name value vars ≡ vars
+pub with_var-same : (name value : List ℕ) (vars : Variables) → IsStrictlySortedBy by_bytes (keys_of vars) → value_of name vars ≡ Some value → with_var name value vars ≡ vars
 with_var-same name value [] sorted found = cc
 with_var-same name value (e ∷ es) sorted found =
     same_step name value e es sorted (with_var-same name value es (sorted_tail by_bytes e.0 (keys_of es) sorted)) found (by_bytes name e.0) refl

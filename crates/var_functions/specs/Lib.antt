@@ -1,4 +1,5 @@
 pub mod Vars
+pub mod Beside
 pub mod RunProps
 pub mod Numbers
 pub mod FunctionState

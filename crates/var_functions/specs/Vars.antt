@@ -1,5 +1,5 @@
 -- The variables of a thread: a map from names to values, as the list of its pairs in the order of the names' bytes.
-use Rattle.std.specs.Prelude.{◌≡◌, ℕ, ◌+◌, ◌≤◌, Bool, ◌&&◌, nat_le, List, [], ◌∷◌, length, Option, Some, None, Result, Ok, Err, if◌then◌else◌}
+use Rattle.std.specs.Prelude.{◌≡◌, ℕ, ◌+◌, ◌≤◌, Bool, ◌&&◌, nat_le, List, [], ◌∷◌, ◌++◌, codes, length, Option, Some, None, Result, Ok, Err, if◌then◌else◌}
 use Rattle.std.specs.declared.cmp.Ordering.{Ordering}
 use Rattle.std.specs.Ordering.{nat_cmp, is_eq}
 use Rattle.std.specs.Cmp.Lexicographic.{slice_cmp}
@@ -50,6 +50,10 @@ put_var name value vars =
 -- the same name
 abbrev pub is_same : List ℕ → List ℕ → Bool
 is_same name other = is_eq (by_bytes name other)
+
+-- the index variable of a looping element of this name
+abbrev pub index_name : List ℕ → List ℕ
+index_name name = codes "__jm__" ++ name ++ codes "__idx"
 
 -- the variables after one was to be set: as they are to be, or as they were
 abbrev pub Puts : Option Variables → Variables → Variables → Result (Unit {0}) VarError → Type 0

@@ -15,8 +15,9 @@ ghost use Rattle.var_functions.specs.Expansion.{expanded, and_then, appended, li
 use crate::error::VarError;
 use crate::function::{Function, function_named};
 use crate::state::{FnState, UserState};
+use crate::table::MOST_TEXT;
 use crate::value::value;
-use crate::vars::{MOST_TEXT, Vars};
+use crate::vars::Vars;
 use jm_base::{Outside, Text};
 use std::alloc::Global;
 use template_text::{Piece, Template, spell_call, spell_variable};

@@ -7,6 +7,7 @@ mod function;
 mod number;
 mod props;
 mod state;
+mod table;
 mod value;
 mod vars;
 

@@ -1,79 +1,90 @@
 // The variables of a thread.
 
-ghost use Rattle.std.specs.Prelude.{◌≡◌, ◌≢◌, ◌↔◌, ◌≤◌, ◌<◌, ◌^◌, ◌-◌, ◌+◌, ◌++◌, length, decimal, IfSome, MatchBool, true, [], None, Some, ℕ, List, OnOk, OnErr, IsOk, if◌then◌else◌};
+ghost use Rattle.std.specs.Prelude.{◌≡◌, ◌≢◌, ◌↔◌, ◌++◌, length, decimal, false, IfSome, MatchBool, true, [], None, Some, ℕ, List, OnOk, OnErr, if◌then◌else◌};
 ghost use Rattle.std.specs.Option.{option_copied};
-ghost use Rattle.var_functions.specs.Vars.{value_of, put_var, without_var, is_same, Puts, bytes_at, bytes_of, bytes_found, most_bytes};
+ghost use Rattle.var_functions.specs.Vars.{value_of, put_var, without_var, is_same, index_name, Puts};
+ghost use Rattle.var_functions.specs.Beside.{with_beside, IsBeside};
 
 use crate::error::VarError;
+use crate::table::{MOST_TEXT, Table, write_over};
 use itoa::Buffer;
-use jm_base::{M, Text};
+use jm_base::{M, NoMemory, Text};
 use std::alloc::Global;
-use std::collections::BTreeMap;
 use std::marker::Model;
-use std::mem::replace;
-
-/// How many bytes a value may have, and so an argument of a function and a whole expansion.
-pub const MOST_TEXT: usize = 65536;
-
-/// How many bytes all names and values of a thread may have.
-const MOST_BYTES: usize = 4194304;
 
 /// The variables of a thread: a map from names to values.
+///
+/// A loop sets its index in each round, so the index that was set last stands beside the map: setting it again needs no
+/// search.
 #[derive(Drop)]
 pub struct Vars {
-    pairs: BTreeMap<Vec<u8>, Text>,
-    bytes: usize,
-    // Memory in which names are put together.
-    joined: Vec<u8>,
+    table: Table,
+    // The name of the element whose index was set last.
+    element: Vec<u8>,
+    // The name of its index variable.
+    name: Vec<u8>,
+    // Its value.
+    digits: Text,
+    // Whether the value of this name is the one here. The table has one of as many bytes.
+    beside: bool,
+    // Whether that may be an older one.
+    ahead: bool,
 }
 
 impl Model for Vars {
-    ghost use Rattle.std.specs.Prelude.{map};
-    ghost use Rattle.var_functions.specs.Vars.{Variables, IsKept};
+    ghost use Rattle.std.specs.Prelude.{◌≡◌, true};
+    ghost use Rattle.var_functions.specs.Vars.{Variables, index_name};
+    ghost use Rattle.var_functions.specs.Beside.{with_beside, IsBeside};
 
     ghost Value = { Variables };
 
-    ghost view = { λ v. map (λ e. (e.0.items, e.1)) v.pairs.entries };
+    ghost view = { λ v. with_beside v.beside v.name.items v.digits v.table };
 
-    ghost invariant = { λ v. IsKept v.bytes (map (λ e. (e.0.items, e.1)) v.pairs.entries) };
+    ghost invariant = { λ v. v.beside ≡ true → (v.name.items ≡ index_name v.element.items) × IsBeside v.ahead v.name.items v.digits v.table };
 }
 
-/// How many bytes a name of that many and its value have, where it is defined.
-fn bytes_found(named: usize, value: &Option<Text>) -> usize
-    requires { IfSome value.now (λ v. length v + named ≤ 2 ^ 64 - 1) }
-    ensures { (name : List ℕ) → length name ≡ named → result ≡ bytes_found name value.now }
+/// Whether the value of the name that is asked for stands beside the table.
+fn is_beside(beside: bool, name: &[u8], asked: &[u8]) -> bool
+    ensures { MatchBool result ((beside ≡ true) × (asked.now ≡ name.now)) (beside ≡ true → is_same asked.now name.now ≡ false) }
 {
-    match value {
-        Some(value) => named + value.bytes().len(),
-        None => 0,
-    }
+    beside && asked == name
 }
 
-/// Writes a value over another one, in its memory where it has as many bytes. A call that refuses changes nothing.
-fn write_over(alloc: Global, text: &mut Text, value: &[u8]) -> M<()>
-    ensures ok { OnOk result (text.new ≡ value.now) }
-    ensures err { OnErr result (text.new ≡ text.old) }
-    ensures memory { length text.old ≡ length value.now → IsOk result }
+/// Copies the name of an element, and makes that of its index variable.
+fn name_index(own: &mut Vec<u8>, name: &mut Vec<u8>, element: &[u8]) -> M<()>
+    ensures own { OnOk result (own.new.items ≡ element.now) }
+    ensures name { OnOk result (name.new.items ≡ index_name element.now) }
 {
-    if text.bytes().len() != value.len() {
-        *text = Text::new(alloc, value)?;
+    own.clear();
+    own.extend_from_slice(element)?;
+    name.clear();
+    name.extend_from_slice(b"__jm__")?;
+    name.extend_from_slice(element)?;
+    name.extend_from_slice(b"__idx")?;
+    Ok(())
+}
+
+/// Writes a value that stands beside the table into it, if the table has an older one. A call that refuses changes nothing.
+fn settle(
+    alloc: Global,
+    beside: bool,
+    ahead: bool,
+    name: &[u8],
+    digits: &Text,
+    table: &mut Table,
+) -> M<()>
+    requires { beside ≡ true → IsBeside ahead name.now digits.now table.old }
+    ensures ok { OnOk result (table.new ≡ with_beside beside name.now digits.now table.old) }
+    ensures err { OnErr result (table.new ≡ table.old) }
+{
+    table.kept();
+    if !beside || !ahead {
         return Ok(());
     }
-    let mut bytes = replace(text, Text::of(Vec::new(alloc))).into_vec();
-    bytes.copy_from_slice(value);
-    *text = Text::of(bytes);
-    Ok(())
-}
-
-/// Makes a text of three parts, one after another.
-fn join(text: &mut Vec<u8>, prefix: &[u8], name: &[u8], suffix: &[u8]) -> M<()>
-    ensures { OnOk result (text.new.items ≡ prefix.now ++ name.now ++ suffix.now) }
-{
-    text.clear();
-    text.extend_from_slice(prefix)?;
-    text.extend_from_slice(name)?;
-    text.extend_from_slice(suffix)?;
-    Ok(())
+    match table.put_copy(alloc, name, digits.bytes()) {
+        Ok(()) => Ok(()),
+        Err(_) => Err(NoMemory),
+    }
 }
 
 impl Vars {
@@ -82,9 +93,12 @@ impl Vars {
         ensures { result ≡ [] }
     {
         Vars {
-            pairs: BTreeMap::new(alloc),
-            bytes: 0,
-            joined: Vec::new(alloc),
+            table: Table::new(alloc),
+            element: Vec::new(alloc),
+            name: Vec::new(alloc),
+            digits: Text::of(Vec::new(alloc)),
+            beside: false,
+            ahead: false,
         }
     }
 
@@ -92,27 +106,10 @@ impl Vars {
     pub fn get(&self, name: &[u8]) -> Option<&Text>
         ensures { option_copied result ≡ value_of name.now self.now }
     {
-        self.pairs.get(name)
-    }
-
-    /// How many bytes the name and its value have, where it is defined.
-    fn bytes_at(&self, name: &[u8]) -> usize
-        ensures { result ≡ bytes_at name.now self.now }
-    {
-        match self.pairs.get(name) {
-            Some(value) => name.len() + value.bytes().len(),
-            None => 0,
+        if is_beside(self.beside, &self.name, name) {
+            return Some(&self.digits);
         }
-    }
-
-    /// Whether that many bytes have room in place of those of the name and its value. Only near the limit the name is looked up.
-    fn has_room(&self, name: &[u8], added: usize) -> bool
-        requires { added ≤ 2 ^ 63 + 65536 }
-        ensures { MatchBool result (bytes_of self.now - bytes_at name.now self.now + added ≤ most_bytes)
-            (most_bytes < bytes_of self.now - bytes_at name.now self.now + added) }
-    {
-        let most = self.bytes + added;
-        most <= MOST_BYTES || most - self.bytes_at(name) <= MOST_BYTES
+        self.table.get(name)
     }
 
     /// Sets a variable, in place of the value that it had. The time is that of a search in an ordered map. A variable
@@ -126,20 +123,20 @@ impl Vars {
             ≡ (if is_same other name then Some value else value_of other self.old)) }
         ensures replaces { result ≡ Err VarError.NoMemory → value_of name self.old ≡ None }
     {
-        let length = value.bytes().len();
-        if length > MOST_TEXT {
-            return Err(VarError::ValueLimit);
+        if !self.beside {
+            return self.table.put(name, value);
         }
-        let named = name.bytes().len();
-        if !self.has_room(name.bytes(), named + length) {
-            return Err(VarError::ValueLimit);
-        }
-        match self.pairs.insert(name.into_vec(), value) {
-            Ok(old) => {
-                self.bytes = self.bytes - bytes_found(named, &old) + (named + length);
+        self.table.kept();
+        let own = is_beside(self.beside, &self.name, name.bytes());
+        match self.table.put(name, value) {
+            Ok(()) => {
+                self.table.kept();
+                if own {
+                    self.beside = false;
+                }
                 Ok(())
             }
-            Err(_) => Err(VarError::NoMemory),
+            Err(error) => Err(error),
         }
     }
 
@@ -152,46 +149,59 @@ impl Vars {
         ensures exact { Puts (put_var name.now value.now self.old) self.old self.new result }
         ensures memory { IfSome (value_of name.now self.old) (λ old. length old ≡ length value.now → result ≢ Err VarError.NoMemory) }
     {
-        let length = value.len();
-        if length > MOST_TEXT {
-            return Err(VarError::ValueLimit);
+        if !self.beside {
+            return self.table.put_copy(alloc, name, value);
         }
-        if !self.has_room(name, name.len() + length) {
-            return Err(VarError::ValueLimit);
-        }
-        match self.pairs.get_mut(name) {
-            Some(old) => {
-                let before = old.bytes().len();
-                write_over(alloc, old, value)?;
-                self.bytes = self.bytes - before + length;
+        self.table.kept();
+        let own = is_beside(self.beside, &self.name, name);
+        match self.table.put_copy(alloc, name, value) {
+            Ok(()) => {
+                self.table.kept();
+                if own {
+                    self.beside = false;
+                }
                 Ok(())
             }
-            None => self.put(Text::new(alloc, name)?, Text::new(alloc, value)?),
+            Err(error) => Err(error),
         }
     }
 
-    /// Sets a variable to the decimal text of a number, as `put_copy` sets one to a value. Its name is `prefix`, `name` and
-    /// `suffix` one after another, which takes memory only where it is longer than each one that was put together before.
+    /// Sets the index variable of an element of this name, `__jm__NAME__idx`, to an index, as `put_copy` sets a variable to
+    /// its decimal text, but without a search where the same one was set last and the index has as many digits.
     ///
     /// `ValueLimit` comes where all names and values together would have more than 4,194,304 bytes, without the old value of
     /// this name.
-    pub fn put_number(
-        &mut self,
-        alloc: Global,
-        prefix: &[u8],
-        name: &[u8],
-        suffix: &[u8],
-        number: u64,
-    ) -> Result<(), VarError>
-        ensures { Puts (put_var (prefix.now ++ name.now ++ suffix.now) (decimal number) self.old) self.old self.new result }
+    pub fn put_index(&mut self, alloc: Global, element: &[u8], index: u64) -> Result<(), VarError>
+        ensures { Puts (put_var (index_name element.now) (decimal index) self.old) self.old self.new result }
     {
-        let mut joined = replace(&mut self.joined, Vec::new(alloc));
-        let put = match join(&mut joined, prefix, name, suffix) {
-            Ok(()) => self.put_copy(alloc, &joined, Buffer::new().format(number).as_bytes()),
-            Err(_) => Err(VarError::NoMemory),
-        };
-        self.joined = joined;
-        put
+        let mut digits = Buffer::new();
+        let value = digits.format(index).as_bytes();
+        if self.beside
+            && value.len() == self.digits.bytes().len()
+            && self.element.as_slice() == element
+        {
+            self.table.kept();
+            write_over(alloc, &mut self.digits, value)?;
+            self.ahead = true;
+            return Ok(());
+        }
+        settle(
+            alloc,
+            self.beside,
+            self.ahead,
+            &self.name,
+            &self.digits,
+            &mut self.table,
+        )?;
+        self.beside = false;
+        name_index(&mut self.element, &mut self.name, element)?;
+        self.table.put_copy(alloc, &self.name, value)?;
+        self.table.kept();
+        if write_over(alloc, &mut self.digits, value).is_ok() {
+            self.beside = true;
+            self.ahead = false;
+        }
+        Ok(())
     }
 
     /// Whether a name is defined with this value, so that setting it again changes nothing. The time is that of a search in
@@ -202,7 +212,8 @@ impl Vars {
         if value.len() > MOST_TEXT {
             return false;
         }
-        match self.pairs.get(name) {
+        self.table.kept();
+        match self.get(name) {
             Some(old) => old.bytes() == value,
             None => false,
         }
@@ -214,7 +225,16 @@ impl Vars {
         ensures values { (other : List ℕ) → value_of other self.new
             ≡ (if is_same other name.now then None else value_of other self.old) }
     {
-        let old = self.pairs.remove(name);
-        self.bytes -= bytes_found(name.len(), &old);
+        if !self.beside {
+            self.table.remove(name);
+            return;
+        }
+        self.table.kept();
+        let own = is_beside(self.beside, &self.name, name);
+        self.table.remove(name);
+        self.table.kept();
+        if own {
+            self.beside = false;
+        }
     }
 }

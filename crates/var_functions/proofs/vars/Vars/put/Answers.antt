@@ -1,58 +1,61 @@
-use Rattle.std.proofs.Common.{◌≡◌, ◌≤◌, ◌<◌, ◌-◌, ◌+◌, length, refl, sym, ap, ◌∙◌, subst, arith, map, Some}
-use Rattle.var_functions.specs.Vars.{IsKept, bytes_of, bytes_at, bytes_found, most_bytes, with_var, value_of}
-use Rattle.var_functions.proofs.VarLaws.{seen, lookup-seen, bytes_at-le, past_limit, within_limit, kept_with, entries_with, old_at, sorted-seen, value_of-with_var}
+use Rattle.std.proofs.Common.{◌≡◌, ◌∙◌, true, false, Some, Err, ap, subst, sym}
+use Rattle.std.specs.Prelude.{MatchBool}
+use Rattle.var_functions.specs.Vars.{value_of, put_var, is_same, Puts}
+use Rattle.var_functions.specs.Beside.{with_beside}
+use Rattle.var_functions.proofs.VarLaws.{value_of-with_var}
+use Rattle.var_functions.proofs.BesideLaws.{at_true, at_false, put-own, put-other, stands-other, refused-puts, put_is, none-too}
 use Rattle.var_functions.proofs.vars.Vars.put.Goals as goal
 
-pub returns-then-not-has_room-clause-exact : goal.returns-then-not-has_room-clause-exact
-returns-then-not-has_room-clause-exact c =
-    let kept : IsKept c.self.inside.bytes c.args.self.now = subst (IsKept c.self.inside.bytes) c.self.view_is c.self.invariant in
-    let past : most_bytes < bytes_of c.args.self.now - bytes_at c.bytes.result.now c.args.self.now + (length c.bytes-named.result.now + length c.bytes-length.result.now) = rw c.if-not-has_room.true at c.has_room.ensures in (
-      past_limit c.args.name c.args.value c.args.self.now c.self.inside.bytes (c.self.inside.bytes - bytes_at c.args.name c.args.self.now + (length c.args.name + length c.args.value)) kept refl
-          (omega (arith, kept.sum, past, ap (λ n. bytes_at n c.args.self.now) c.bytes.ensures, ap length c.bytes-named.ensures, ap length c.bytes-length.ensures)),
-      refl,
-    )
+pub invariant_of-self-else-own : goal.invariant_of-self-else-own
+invariant_of-self-else-own c =
+    let v = c.self.inside in
+    let V = with_beside v.beside v.name.items v.digits v.table in
+    let asked = c.args.name in
+    let told : MatchBool c.is_beside-own.result ((v.beside ≡ true) × (asked ≡ v.name.items)) (v.beside ≡ true → is_same asked v.name.items ≡ false) = rw (c.bytes.ensures, c.deref.ensures.value) at c.is_beside-own.ensures in
+    λ on. ((c.self.invariant on).0, stands-other v.name.items v.digits v.table c.kept.ensures v.ahead v.beside (λ b. (c.self.invariant b).1) asked c.args.value c.put-2.new.self (at_false c.is_beside-own.result _ _ c.if-own.false told) c.in-Ok.ensures.exact on)
 
-pub overflow_sub-self : goal.overflow_sub-self
-overflow_sub-self c =
-    let kept : IsKept c.self.inside.bytes c.args.self.now = subst (IsKept c.self.inside.bytes) c.self.view_is c.self.invariant in
-    let found : value_of c.args.name c.args.self.now ≡ c.in-Ok.old = old_at c.into_vec.result c.args.name c.self.inside.pairs.entries c.args.self.now c.in-Ok.old c.into_vec.ensures c.self.view_is c.in-Ok.ensures.old in
-    let at : c.bytes_found.result ≡ bytes_at c.args.name c.args.self.now = c.bytes_found.ensures c.args.name (sym (ap length c.bytes-named.ensures)) ∙ ap (bytes_found c.args.name) (sym found) in
-    omega (arith, kept.sum, at, bytes_at-le c.args.name c.args.self.now)
+pub returns-then-own-clause-exact : goal.returns-then-own-clause-exact
+returns-then-own-clause-exact c =
+    let v = c.self.inside in
+    let V = with_beside v.beside v.name.items v.digits v.table in
+    let asked = c.args.name in
+    let told : MatchBool c.is_beside-own.result ((v.beside ≡ true) × (asked ≡ v.name.items)) (v.beside ≡ true → is_same asked v.name.items ≡ false) = rw (c.bytes.ensures, c.deref.ensures.value) at c.is_beside-own.ensures in
+    let own = at_true c.is_beside-own.result _ _ c.if-own.true told in
+    subst (λ vars. put_var asked c.args.value vars ≡ Some c.put-2.new.self) c.self.view_is
+    (put-own v.name.items v.digits v.table c.kept.ensures v.ahead v.beside (λ b. (c.self.invariant b).1) own.0 asked c.args.value own.1 c.put-2.new.self c.in-Ok.ensures.exact)
 
-pub invariant_of-self : goal.invariant_of-self
-invariant_of-self c =
-    let kept : IsKept c.self.inside.bytes c.args.self.now = subst (IsKept c.self.inside.bytes) c.self.view_is c.self.invariant in
-    let found : value_of c.args.name c.args.self.now ≡ c.in-Ok.old = old_at c.into_vec.result c.args.name c.self.inside.pairs.entries c.args.self.now c.in-Ok.old c.into_vec.ensures c.self.view_is c.in-Ok.ensures.old in
-    let at : c.bytes_found.result ≡ bytes_at c.args.name c.args.self.now = c.bytes_found.ensures c.args.name (sym (ap length c.bytes-named.ensures)) ∙ ap (bytes_found c.args.name) (sym found) in
-    let is : c.self.inside.bytes - c.bytes_found.result + (length c.bytes-named.result.now + length c.bytes-length.result.now) ≡ c.self.inside.bytes - bytes_at c.args.name c.args.self.now + (length c.args.name + length c.args.value) =
-    omega (arith, at, ap length c.bytes-named.ensures, ap length c.bytes-length.ensures) in
-    let fits : bytes_of c.args.self.now - bytes_at c.bytes.result.now c.args.self.now + (length c.bytes-named.result.now + length c.bytes-length.result.now) ≤ most_bytes = rw c.if-not-has_room.false at c.has_room.ensures in
-    let room : c.self.inside.bytes - c.bytes_found.result + (length c.bytes-named.result.now + length c.bytes-length.result.now) ≤ most_bytes = omega (arith, at, kept.sum, fits, ap (λ n. bytes_at n c.args.self.now) c.bytes.ensures) in
-    let entries : map seen c.insert.new.self.entries ≡ with_var c.args.name c.args.value c.args.self.now =
-    entries_with c.into_vec.result c.args.value c.args.name c.self.inside.pairs.entries c.insert.new.self.entries c.args.self.now c.into_vec.ensures c.self.view_is c.in-Ok.ensures.entries in
-    kept_with c.args.name c.args.value c.args.self.now c.self.inside.bytes (c.self.inside.bytes - c.bytes_found.result + (length c.bytes-named.result.now + length c.bytes-length.result.now)) kept is (map seen c.insert.new.self.entries) entries
-    (sorted-seen c.insert.new.self.entries c.in-Ok.ensures.ordered) room
+pub returns-else-own-clause-exact : goal.returns-else-own-clause-exact
+returns-else-own-clause-exact c =
+    let v = c.self.inside in
+    let V = with_beside v.beside v.name.items v.digits v.table in
+    let asked = c.args.name in
+    let told : MatchBool c.is_beside-own.result ((v.beside ≡ true) × (asked ≡ v.name.items)) (v.beside ≡ true → is_same asked v.name.items ≡ false) = rw (c.bytes.ensures, c.deref.ensures.value) at c.is_beside-own.ensures in
+    subst (λ vars. put_var asked c.args.value vars ≡ Some (with_beside v.beside v.name.items v.digits c.put-2.new.self)) c.self.view_is
+    (put-other v.name.items v.digits v.table c.kept.ensures v.ahead v.beside (λ b. (c.self.invariant b).1) asked c.args.value c.put-2.new.self (at_false c.is_beside-own.result _ _ c.if-own.false told) c.kept-in-Ok.ensures.ordered c.in-Ok.ensures.exact)
 
-pub returns-in-Ok-clause-exact : goal.returns-in-Ok-clause-exact
-returns-in-Ok-clause-exact c =
-    let kept : IsKept c.self.inside.bytes c.args.self.now = subst (IsKept c.self.inside.bytes) c.self.view_is c.self.invariant in
-    let found : value_of c.args.name c.args.self.now ≡ c.in-Ok.old = old_at c.into_vec.result c.args.name c.self.inside.pairs.entries c.args.self.now c.in-Ok.old c.into_vec.ensures c.self.view_is c.in-Ok.ensures.old in
-    let at : c.bytes_found.result ≡ bytes_at c.args.name c.args.self.now = c.bytes_found.ensures c.args.name (sym (ap length c.bytes-named.ensures)) ∙ ap (bytes_found c.args.name) (sym found) in
-    let is : c.self.inside.bytes - c.bytes_found.result + (length c.bytes-named.result.now + length c.bytes-length.result.now) ≡ c.self.inside.bytes - bytes_at c.args.name c.args.self.now + (length c.args.name + length c.args.value) =
-    omega (arith, at, ap length c.bytes-named.ensures, ap length c.bytes-length.ensures) in
-    let fits : bytes_of c.args.self.now - bytes_at c.bytes.result.now c.args.self.now + (length c.bytes-named.result.now + length c.bytes-length.result.now) ≤ most_bytes = rw c.if-not-has_room.false at c.has_room.ensures in
-    let room : c.self.inside.bytes - c.bytes_found.result + (length c.bytes-named.result.now + length c.bytes-length.result.now) ≤ most_bytes = omega (arith, at, kept.sum, fits, ap (λ n. bytes_at n c.args.self.now) c.bytes.ensures) in
-    let entries : map seen c.insert.new.self.entries ≡ with_var c.args.name c.args.value c.args.self.now =
-    entries_with c.into_vec.result c.args.value c.args.name c.self.inside.pairs.entries c.insert.new.self.entries c.args.self.now c.into_vec.ensures c.self.view_is c.in-Ok.ensures.entries in
-    let short : length c.args.value ≤ 65536 = omega (arith, c.if-length-gt-MOST_TEXT.false, ap length c.bytes-length.ensures) in
-    within_limit c.args.name c.args.value c.args.self.now c.self.inside.bytes (c.self.inside.bytes - c.bytes_found.result + (length c.bytes-named.result.now + length c.bytes-length.result.now)) kept is short room ∙ ap Some (sym entries)
+pub returns-in-Err-clause-exact : goal.returns-in-Err-clause-exact
+returns-in-Err-clause-exact c =
+    let v = c.self.inside in
+    let V = with_beside v.beside v.name.items v.digits v.table in
+    let asked = c.args.name in
+    let told : MatchBool c.is_beside-own.result ((v.beside ≡ true) × (asked ≡ v.name.items)) (v.beside ≡ true → is_same asked v.name.items ≡ false) = rw (c.bytes.ensures, c.deref.ensures.value) at c.is_beside-own.ensures in
+    subst (λ vars. Puts (put_var asked c.args.value vars) vars (with_beside v.beside v.name.items v.digits c.put-2.new.self) (Err c.in-Err.error)) c.self.view_is
+    (refused-puts v.name.items v.digits v.table c.kept.ensures v.ahead v.beside c.is_beside-own.result (λ b. (c.self.invariant b).1) asked c.args.value told c.put-2.new.self c.in-Err.error c.in-Err.ensures.exact)
 
-pub returns-in-Ok-clause-values : goal.returns-in-Ok-clause-values
-returns-in-Ok-clause-values c =
-    let entries : map seen c.insert.new.self.entries ≡ with_var c.args.name c.args.value c.args.self.now =
-    entries_with c.into_vec.result c.args.value c.args.name c.self.inside.pairs.entries c.insert.new.self.entries c.args.self.now c.into_vec.ensures c.self.view_is c.in-Ok.ensures.entries in
-    λ other. ap (value_of other) entries ∙ value_of-with_var other c.args.name c.args.value c.args.self.now
+pub returns-then-own-clause-values : goal.returns-then-own-clause-values
+returns-then-own-clause-values c = λ other.
+    ap (value_of other) (put_is c.args.name c.args.value c.args.self.now c.put-2.new.self (returns-then-own-clause-exact c)) ∙ value_of-with_var other c.args.name c.args.value c.args.self.now
 
-pub returns-clause-replaces : goal.returns-clause-replaces
-returns-clause-replaces c =
-    λ _. ap (λ n. value_of n c.args.self.now) (sym c.into_vec.ensures) ∙ ap (value_of c.into_vec.result.items) (sym c.self.view_is) ∙ sym (lookup-seen c.into_vec.result.items c.self.inside.pairs.entries) ∙ c.in-Err.ensures.absent
+pub returns-else-own-clause-values : goal.returns-else-own-clause-values
+returns-else-own-clause-values c = λ other.
+    let v = c.self.inside in
+    ap (value_of other) (put_is c.args.name c.args.value c.args.self.now (with_beside v.beside v.name.items v.digits c.put-2.new.self) (returns-else-own-clause-exact c)) ∙ value_of-with_var other c.args.name c.args.value c.args.self.now
+
+pub returns-in-Err-clause-replaces : goal.returns-in-Err-clause-replaces
+returns-in-Err-clause-replaces c = λ is.
+    let v = c.self.inside in
+    let V = with_beside v.beside v.name.items v.digits v.table in
+    let asked = c.args.name in
+    let told : MatchBool c.is_beside-own.result ((v.beside ≡ true) × (asked ≡ v.name.items)) (v.beside ≡ true → is_same asked v.name.items ≡ false) = rw (c.bytes.ensures, c.deref.ensures.value) at c.is_beside-own.ensures in
+    ap (value_of asked) (sym c.self.view_is)
+    ∙ none-too v.name.items v.digits v.table c.kept.ensures v.ahead v.beside c.is_beside-own.result (λ b. (c.self.invariant b).1) asked told (c.in-Err.ensures.replaces is)

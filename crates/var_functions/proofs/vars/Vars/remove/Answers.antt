@@ -1,28 +1,54 @@
-use Rattle.std.proofs.Common.{◌≡◌, ap, ◌∙◌, subst, arith, map, sym, refl}
-use Rattle.var_functions.specs.Vars.{IsKept, without_var, value_of, bytes_at, bytes_found}
-use Rattle.var_functions.proofs.VarLaws.{seen, lookup-seen, bytes_at-le, kept_without, entries_without, sorted-seen, value_of-without_var}
+use Rattle.std.proofs.Common.{◌≡◌, ◌∙◌, true, false, ap, subst, sym}
+use Rattle.std.specs.Prelude.{MatchBool}
+use Rattle.std.specs.List.Sorted.{IsStrictlySortedBy}
+use Rattle.std.specs.Map.{keys_of}
+use Rattle.var_functions.specs.Vars.{value_of, without_var, is_same, by_bytes}
+use Rattle.var_functions.specs.Beside.{with_beside}
+use Rattle.var_functions.proofs.VarLaws.{value_of-without_var}
+use Rattle.var_functions.proofs.BesideLaws.{at_true, at_false, all-kept, without-own, without-other, without-stands}
+use Rattle.var_functions.specs.Beside.{IsBeside}
 use Rattle.var_functions.proofs.vars.Vars.remove.Goals as goal
 
-pub overflow_sub-self : goal.overflow_sub-self
-overflow_sub-self c =
-    let kept : IsKept c.self.inside.bytes c.args.self.now = subst (IsKept c.self.inside.bytes) c.self.view_is c.self.invariant in
-    let found : value_of c.args.name.now c.args.self.now ≡ c.remove-old.result = ap (value_of c.args.name.now) (sym c.self.view_is) ∙ sym (lookup-seen c.args.name.now c.self.inside.pairs.entries) ∙ sym c.remove-old.ensures.value in
-    let at : c.bytes_found.result ≡ bytes_at c.args.name.now c.args.self.now = c.bytes_found.ensures c.args.name.now refl ∙ ap (bytes_found c.args.name.now) (sym found) in
-    omega (arith, kept.sum, at, bytes_at-le c.args.name.now c.args.self.now)
+pub invariant_of-self-else-own : goal.invariant_of-self-else-own
+invariant_of-self-else-own c =
+    let v = c.self.inside in
+    let V = with_beside v.beside v.name.items v.digits v.table in
+    let asked = c.args.name.now in
+    let told : MatchBool c.is_beside-own.result ((v.beside ≡ true) × (asked ≡ v.name.items)) (v.beside ≡ true → is_same asked v.name.items ≡ false) = rw (c.deref.ensures.value) at c.is_beside-own.ensures in
+    λ on. (
+      (c.self.invariant on).0,
+      subst (λ vars. IsBeside v.ahead v.name.items v.digits vars) (sym c.remove-2.ensures.exact)
+          (without-stands v.name.items v.digits v.table c.kept.ensures v.ahead v.beside (λ b. (c.self.invariant b).1) asked (at_false c.is_beside-own.result _ _ c.if-own.false told) on),
+    )
 
-pub invariant_of-self : goal.invariant_of-self
-invariant_of-self c =
-    let kept : IsKept c.self.inside.bytes c.args.self.now = subst (IsKept c.self.inside.bytes) c.self.view_is c.self.invariant in
-    let entries : map seen c.remove-old.new.self.entries ≡ without_var c.args.name.now c.args.self.now = entries_without c.args.name.now c.self.inside.pairs.entries c.remove-old.new.self.entries c.args.self.now c.self.view_is c.remove-old.ensures.entries in
-    let found : value_of c.args.name.now c.args.self.now ≡ c.remove-old.result = ap (value_of c.args.name.now) (sym c.self.view_is) ∙ sym (lookup-seen c.args.name.now c.self.inside.pairs.entries) ∙ sym c.remove-old.ensures.value in
-    let at : c.bytes_found.result ≡ bytes_at c.args.name.now c.args.self.now = c.bytes_found.ensures c.args.name.now refl ∙ ap (bytes_found c.args.name.now) (sym found) in
-    rw at (kept_without c.args.name.now c.args.self.now (map seen c.remove-old.new.self.entries) c.self.inside.bytes kept entries (sorted-seen c.remove-old.new.self.entries c.remove-old.ensures.ordered))
+pub returns-then-own-clause-exact : goal.returns-then-own-clause-exact
+returns-then-own-clause-exact c =
+    let v = c.self.inside in
+    let V = with_beside v.beside v.name.items v.digits v.table in
+    let asked = c.args.name.now in
+    let told : MatchBool c.is_beside-own.result ((v.beside ≡ true) × (asked ≡ v.name.items)) (v.beside ≡ true → is_same asked v.name.items ≡ false) = rw (c.deref.ensures.value) at c.is_beside-own.ensures in
+    let own = at_true c.is_beside-own.result _ _ c.if-own.true told in
+    c.remove-2.ensures.exact ∙ without-own v.name.items v.digits v.table c.kept.ensures v.ahead v.beside (λ b. (c.self.invariant b).1) own.0 asked own.1 ∙ ap (without_var asked) c.self.view_is
 
-pub returns-clause-exact : goal.returns-clause-exact
-returns-clause-exact c = entries_without c.args.name.now c.self.inside.pairs.entries c.remove-old.new.self.entries c.args.self.now c.self.view_is c.remove-old.ensures.entries
+pub returns-else-own-clause-exact : goal.returns-else-own-clause-exact
+returns-else-own-clause-exact c =
+    let v = c.self.inside in
+    let V = with_beside v.beside v.name.items v.digits v.table in
+    let asked = c.args.name.now in
+    let told : MatchBool c.is_beside-own.result ((v.beside ≡ true) × (asked ≡ v.name.items)) (v.beside ≡ true → is_same asked v.name.items ≡ false) = rw (c.deref.ensures.value) at c.is_beside-own.ensures in
+    ap (with_beside v.beside v.name.items v.digits) c.remove-2.ensures.exact
+    ∙ without-other v.name.items v.digits v.table c.kept.ensures v.ahead v.beside (λ b. (c.self.invariant b).1) asked (at_false c.is_beside-own.result _ _ c.if-own.false told)
+    (subst (λ vars. IsStrictlySortedBy by_bytes (keys_of vars)) c.remove-2.ensures.exact c.kept-2.ensures.ordered)
+    ∙ ap (without_var asked) c.self.view_is
 
-pub returns-clause-values : goal.returns-clause-values
-returns-clause-values c =
-    let kept : IsKept c.self.inside.bytes c.args.self.now = subst (IsKept c.self.inside.bytes) c.self.view_is c.self.invariant in
-    let entries : map seen c.remove-old.new.self.entries ≡ without_var c.args.name.now c.args.self.now = entries_without c.args.name.now c.self.inside.pairs.entries c.remove-old.new.self.entries c.args.self.now c.self.view_is c.remove-old.ensures.entries in
-    λ other. ap (value_of other) entries ∙ value_of-without_var other c.args.name.now c.args.self.now kept.ordered
+pub returns-then-own-clause-values : goal.returns-then-own-clause-values
+returns-then-own-clause-values c = λ other.
+    let v = c.self.inside in
+    let ordered = subst (λ vars. IsStrictlySortedBy by_bytes (keys_of vars)) c.self.view_is (all-kept v.name.items v.digits v.table c.kept.ensures v.ahead v.beside (λ b. (c.self.invariant b).1)).ordered in
+    ap (value_of other) (returns-then-own-clause-exact c) ∙ value_of-without_var other c.args.name.now c.args.self.now ordered
+
+pub returns-else-own-clause-values : goal.returns-else-own-clause-values
+returns-else-own-clause-values c = λ other.
+    let v = c.self.inside in
+    let ordered = subst (λ vars. IsStrictlySortedBy by_bytes (keys_of vars)) c.self.view_is (all-kept v.name.items v.digits v.table c.kept.ensures v.ahead v.beside (λ b. (c.self.invariant b).1)).ordered in
+    ap (value_of other) (returns-else-own-clause-exact c) ∙ value_of-without_var other c.args.name.now c.args.self.now ordered

@@ -2,7 +2,7 @@ use Rattle.std.proofs.Common.{refl, sym, subst, arith, map, []}
 use Rattle.std.specs.List.Sorted.{IsStrictlySortedBy}
 use Rattle.var_functions.specs.Vars.{IsKept}
 use Rattle.var_functions.proofs.VarLaws.{seen}
-use Rattle.var_functions.proofs.vars.Vars.new.Goals as goal
+use Rattle.var_functions.proofs.table.Table.new.Goals as goal
 
 nothing : IsKept 0 []
 unfolding IsStrictlySortedBy

@@ -2,7 +2,7 @@ use Rattle.std.proofs.Common.{◌≡◌, ◌≤◌, ◌<◌, ◌+◌, ◌-◌, s
 use Rattle.std.specs.Prelude.{nat_le, MatchBool}
 use Rattle.var_functions.specs.Vars.{IsKept, bytes_of, bytes_at, most_bytes}
 use Rattle.var_functions.proofs.VarLaws.{bytes_at-le, within, at_once}
-use Rattle.var_functions.proofs.vars.Vars.has_room.Goals as goal
+use Rattle.var_functions.proofs.table.Table.has_room.Goals as goal
 
 pub overflow_sub-result : goal.overflow_sub-result
 overflow_sub-result c =

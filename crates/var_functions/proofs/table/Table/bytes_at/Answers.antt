@@ -1,7 +1,7 @@
 use Rattle.std.proofs.Common.{◌≡◌, ap, ◌∙◌, Some, None}
 use Rattle.var_functions.specs.Vars.{value_of, bytes_found}
 use Rattle.var_functions.proofs.VarLaws.{lookup-seen}
-use Rattle.var_functions.proofs.vars.Vars.bytes_at.Goals as goal
+use Rattle.var_functions.proofs.table.Table.bytes_at.Goals as goal
 
 pub returns-in-Some : goal.returns-in-Some
 returns-in-Some c =
