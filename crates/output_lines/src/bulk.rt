@@ -4,11 +4,11 @@ ghost use Rattle.std.specs.Prelude.{map, ◌∷◌, [], ◌≡◌, ◌<◌, ◌-
 ghost use Rattle.csv.specs.Writing.{comma};
 ghost use Rattle.element_tree.specs.Tree.{threads_of};
 ghost use Rattle.element_tree.specs.Names.{labels_of};
-ghost use Rattle.output_lines.specs.Lines.{csv_line, result_text, truth};
+ghost use Rattle.output_lines.specs.Lines.{csv_line, result_text};
 ghost use Rattle.output_lines.specs.Bulk.{middle_fields, SaysTheSame, between, AreWords, BeginsWith};
 
-use crate::lines::truth;
 use crate::rows::Rows;
+use crate::texts::Middle;
 use element_tree::Plan;
 use itoa::Buffer;
 use jm_base::{M, NoMemory, Sample, Text};
@@ -117,33 +117,6 @@ fn tells_of(told: Option<&Sample>, sample: &Sample) -> bool
     }
 }
 
-// The fields of a sample from the label to the failure message.
-#[derive(Clone, Copy)]
-struct Middle<'a> {
-    label: &'a [u8],
-    code: &'a [u8],
-    message: &'a [u8],
-    name: &'a [u8],
-    success: &'a [u8],
-    failure: &'a [u8],
-}
-
-impl<'a> Middle<'a> {
-    fn fields(&self) -> [&'a [u8]; 6]
-        ensures { map (λ f. f.now) result ≡ self.now.label.now ∷ self.now.code.now ∷ self.now.message.now ∷ self.now.name.now ∷ self.now.success.now
-            ∷ self.now.failure.now ∷ [] }
-    {
-        [
-            self.label,
-            self.code,
-            self.message,
-            self.name,
-            self.success,
-            self.failure,
-        ]
-    }
-}
-
 // Writes the fields of a sample from the label to the failure message, without the end of their row.
 fn write_middle<'a>(
     alloc: Global,
@@ -158,14 +131,7 @@ fn write_middle<'a>(
     ensures kept { is_some rows.new ≡ true }
 {
     let mut code = Buffer::new();
-    let texts = Middle {
-        label,
-        code: code.format(sample.code).as_bytes(),
-        message: sample.message.bytes(),
-        name,
-        success: truth(sample.ok),
-        failure: sample.failure.bytes(),
-    };
+    let texts = Middle::of(label, name, code.format(sample.code).as_bytes(), sample);
     keep_few(alloc, rows);
     let start = rows.text().len();
     push_or_renew(alloc, rows, &texts.fields())?;

@@ -5,6 +5,7 @@ mod bulk;
 mod lines;
 mod reports;
 mod rows;
+mod texts;
 
 pub use bulk::ResultLines;
 pub use lines::{end_line, header_line, result_line};

@@ -3,9 +3,10 @@
 ghost use Rattle.std.specs.Prelude.{map, ◌∷◌, [], ◌≡◌, ◌<◌, ◌++◌, length, Some, None, is_some, option_map, true, IfOk, OnOk, OnErr};
 ghost use Rattle.element_tree.specs.Tree.{threads_of, thread_name_of};
 ghost use Rattle.element_tree.specs.Names.{labels_of};
-ghost use Rattle.output_lines.specs.Lines.{csv_line, sample_fields, header_text, result_text, end_text, end_name, truth};
+ghost use Rattle.output_lines.specs.Lines.{csv_line, sample_fields, header_text, result_text, end_text, end_name};
 
 use crate::rows::push_row;
+use crate::texts::{Middle, SampleTexts};
 use element_tree::Plan;
 use itoa::Buffer;
 use jm_base::{End, M, Sample};
@@ -55,41 +56,6 @@ pub fn result_line(
     sample_row(alloc, out, label.bytes(), name.bytes(), sample, interval)
 }
 
-// The texts of a result line.
-#[derive(Clone, Copy)]
-struct SampleTexts<'a> {
-    stamp: &'a [u8],
-    elapsed: &'a [u8],
-    label: &'a [u8],
-    code: &'a [u8],
-    message: &'a [u8],
-    name: &'a [u8],
-    success: &'a [u8],
-    failure: &'a [u8],
-    bytes: &'a [u8],
-    interval: &'a [u8],
-}
-
-impl<'a> SampleTexts<'a> {
-    fn fields(&self) -> [&'a [u8]; 10]
-        ensures { map (λ f. f.now) result ≡ self.now.stamp.now ∷ self.now.elapsed.now ∷ self.now.label.now ∷ self.now.code.now ∷ self.now.message.now
-            ∷ self.now.name.now ∷ self.now.success.now ∷ self.now.failure.now ∷ self.now.bytes.now ∷ self.now.interval.now ∷ [] }
-    {
-        [
-            self.stamp,
-            self.elapsed,
-            self.label,
-            self.code,
-            self.message,
-            self.name,
-            self.success,
-            self.failure,
-            self.bytes,
-            self.interval,
-        ]
-    }
-}
-
 // The row of a sample under this label, of a thread of this name.
 fn sample_row<'a>(
     alloc: Global,
@@ -110,12 +76,7 @@ fn sample_row<'a>(
     let texts = SampleTexts {
         stamp: stamp.format(sample.stamp).as_bytes(),
         elapsed: elapsed.format(sample.elapsed).as_bytes(),
-        label,
-        code: code.format(sample.code).as_bytes(),
-        message: sample.message.bytes(),
-        name,
-        success: truth(sample.ok),
-        failure: sample.failure.bytes(),
+        middle: Middle::of(label, name, code.format(sample.code).as_bytes(), sample),
         bytes: bytes.format(sample.bytes).as_bytes(),
         interval: number.format(interval).as_bytes(),
     };
@@ -131,12 +92,6 @@ pub fn end_line(alloc: Global, out: &mut Vec<u8>, plan: &Plan, thread: u16, end:
 {
     let name = plan.thread_name(alloc, thread)?;
     push_row(alloc, out, &[b"end", name.bytes(), end_name(end)])
-}
-
-pub(crate) fn truth(ok: bool) -> &'static [u8]
-    ensures { result.now ≡ truth ok }
-{
-    if ok { b"true" } else { b"false" }
 }
 
 fn end_name(end: End) -> &'static [u8]
