@@ -1,6 +1,6 @@
 -- The texts of a thread that has run.
 use Rattle.std.proofs.Common.{◌≡◌, ℕ, true, List, [], ◌∷◌, ◌++◌, Option, Some, refl, sym, ap, ap₂, ◌∙◌, subst, inl, inr}
-use Rattle.std.specs.Prelude.{All, codes, map}
+use Rattle.std.specs.Prelude.{All, codes, map, Result}
 use Rattle.std.specs.List.{flat_map}
 use Rattle.std.specs.Option.{option_map_or}
 use Rattle.std.proofs.lemmas.List.{append-nil, map-append}
@@ -26,7 +26,8 @@ use Rattle.command_words.specs.declared.command.Solo.{Solo}
 use Rattle.command_words.specs.declared.command.Command.TheVariants.{Check, Make, Solo as SoloCommand}
 use Rattle.command_words.specs.declared.command.Make.{Make as MakeOf}
 use Rattle.trace_output.specs.Texts.{line_of, trace_text}
-use Rattle.trace_output.specs.Printing.{TextOut, TextFailed, TextCut}
+use Rattle.trace_output.specs.declared.error.PrintError.{PrintError}
+use Rattle.trace_output.specs.Printing.{HasPrinted, TextOut, TextFailed, TextCut}
 use Rattle.jm_command.specs.declared.status.Status.{Status}
 use Rattle.jm_command.specs.declared.status.Status.TheVariants.{Done, Usage, Refused, ReadFault, WriteFault, Memory}
 use Rattle.jm_command.specs.Parts.{sinks, TextSays, ReportSays, MadeSays, PlanSays}
@@ -156,6 +157,10 @@ module _ (plan : Tree) (s : Solo) (trace : List TraceItem) (end : End) (shown : 
 -- a report that is whole, of a thread that was cut
 pub out_is_part : (text : List ℕ) (a b : Option (List ℕ)) (f g : ℕ) → TextOut text a b f g → TextCut text a b f g
 out_is_part text a b f g h = record { part = (text, [], sym (append-nil text), h.out); calm = h.calm }
+
+-- what became of the text of a value, by the answer that is known
+pub printed_as : {X : Type 0} (text : X → List ℕ) (x y : X) (a b : Option (List ℕ)) (f g : ℕ) (r s : Result (Unit {0}) PrintError) → x ≡ y → HasPrinted (text x) a b f g r → r ≡ s → HasPrinted (text y) a b f g s
+printed_as text x y a b f g r s same h is = subst (λ v. HasPrinted (text v) a b f g s) same (subst (HasPrinted (text x) a b f g) is h)
 
 -- ---- the other commands
 

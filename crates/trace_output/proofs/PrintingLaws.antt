@@ -1,6 +1,6 @@
 -- Texts that are put one after the other.
 use Rattle.std.proofs.Common.{◌≡◌, ℕ, ◌+◌, ◌<◌, List, [], ◌∷◌, ◌++◌, length, get_or, take, drop, Option, refl, sym, ap, ◌∙◌, append_assoc, subst, add-one, suc, arith}
-use Rattle.std.specs.Prelude.{All}
+use Rattle.std.specs.Prelude.{◌≢◌, All, Result, Ok, Err}
 use Rattle.std.proofs.Math.Seq.{take-suc, take-append_seam, drop-append_seam}
 use Rattle.std.proofs.lemmas.List.Elements.{All-take, All-drop}
 use Rattle.std.proofs.lemmas.List.{append-nil, take-append-drop, length-take-le}
@@ -8,11 +8,13 @@ use Rattle.std.proofs.lemmas.Grind.{flat_map-append}
 use Rattle.jm_base.specs.FaultCounts.{Rose}
 use Rattle.edge_io.specs.Edges.{AppendsProperPrefix}
 use Rattle.line_output.specs.OutputPieces.{AppendsPart}
-use Rattle.line_output.proofs.PieceLaws.{moves_none, moves_more, front_wider, front_more, front_sent, part_sent, part_none, part_more}
+use Rattle.line_output.proofs.PieceLaws.{moves_none, moves_more, front_wider, front_more, all_sent, front_sent, part_sent, part_none, part_more}
 use Rattle.element_tree.specs.Tree.{Tree}
 use Rattle.thread_machine.specs.declared.trace.TraceItem.{TraceItem}
+use Rattle.trace_output.specs.declared.error.PrintError.{PrintError}
+use Rattle.trace_output.specs.declared.error.PrintError.TheVariants.{WriteFault, NoMemory}
 use Rattle.trace_output.specs.Texts.{line_of, trace_text, each_numbered}
-use Rattle.trace_output.specs.Printing.{Way, way, IsPut, IsFailed, IsCut, TextFailed, TextCut}
+use Rattle.trace_output.specs.Printing.{Way, way, IsPut, IsFailed, IsCut, HasPut, HasPrinted}
 
 -- ---- one text after another
 
@@ -24,14 +26,14 @@ pub put_more : (s t : List ℕ) (u v w : Way) → IsPut s u v → IsPut t v w �
 put_more s t u v w p q = record { moved = moves_more u.written v.written w.written u.held v.held w.held s t p.moved q.moved; calm = q.calm ∙ p.calm }
 
 -- the sink fails at the text after one that is put
-pub failed_more : (s t : List ℕ) (u v w : Way) → IsPut s u v → IsFailed t v w → IsFailed (s ++ t) u w
+failed_more : (s t : List ℕ) (u v w : Way) → IsPut s u v → IsFailed t v w → IsFailed (s ++ t) u w
 failed_more s t u v w p f = record {
   prefix = front_more u.written v.written w.written u.held v.held s t p.moved f.prefix;
   rose = subst (λ n. Rose n w.faults) p.calm f.rose;
 }
 
 -- a prefix of a text is one of a longer text
-pub failed_wider : (s t : List ℕ) (u w : Way) → IsFailed s u w → IsFailed (s ++ t) u w
+failed_wider : (s t : List ℕ) (u w : Way) → IsFailed s u w → IsFailed (s ++ t) u w
 failed_wider s t u w f = record {
   prefix = subst (λ l. AppendsProperPrefix u.written w.written l) (append_assoc u.held s t) (front_wider u.written w.written (u.held ++ s) t f.prefix);
   rose = f.rose;
@@ -42,15 +44,24 @@ pub cut_none : (t : List ℕ) (w : Way) → IsCut t w w
 cut_none t w = record { part = part_none w.written w.held t; calm = refl }
 
 -- memory runs out at the text after one that is put, before one more
-pub cut_more : (s t r : List ℕ) (u v w : Way) → IsPut s u v → IsCut t v w → IsCut (s ++ (t ++ r)) u w
+cut_more : (s t r : List ℕ) (u v w : Way) → IsPut s u v → IsCut t v w → IsCut (s ++ (t ++ r)) u w
 cut_more s t r u v w p c = record { part = part_more u.written v.written w.written u.held v.held w.held s t r p.moved c.part; calm = c.calm ∙ p.calm }
 
 -- of two texts, memory runs out at the first, or at the second
-pub cut_first : (s t : List ℕ) (u w : Way) → IsCut s u w → IsCut (s ++ t) u w
+cut_first : (s t : List ℕ) (u w : Way) → IsCut s u w → IsCut (s ++ t) u w
 cut_first s t u w c = cut_more [] s t u u w (put_none u) c
 
-pub cut_last : (s t : List ℕ) (u v w : Way) → IsPut s u v → IsCut t v w → IsCut (s ++ t) u w
+cut_last : (s t : List ℕ) (u v w : Way) → IsPut s u v → IsCut t v w → IsCut (s ++ t) u w
 cut_last s t u v w p c = subst (λ l. IsCut (s ++ l) u w) (append-nil t) (cut_more s t [] u v w p c)
+
+-- of two texts, the first isn't put whole, or the second
+pub first_short : (e : PrintError) (s t : List ℕ) (u w : Way) → HasPut s u w (Err e) → HasPut (s ++ t) u w (Err e)
+first_short WriteFault s t u w h = failed_wider s t u w h
+first_short NoMemory s t u w h = cut_first s t u w h
+
+pub second_short : (e : PrintError) (s t : List ℕ) (u v w : Way) → IsPut s u v → HasPut t v w (Err e) → HasPut (s ++ t) u w (Err e)
+second_short WriteFault s t u v w p h = failed_more s t u v w p h
+second_short NoMemory s t u v w p h = cut_last s t u v w p h
 
 -- ---- a trace, item by item
 
@@ -84,11 +95,9 @@ module _ (plan : Tree) (thread : ℕ) (trace left items rest : List TraceItem) (
     pub next_put : IsPut own v w → IsPut (done ++ own) u w
     next_put p = put_more done own u v w before p
 
-    pub next_failed : IsFailed own v w → IsFailed (trace_text plan thread trace) u w
-    next_failed f = subst (λ l. IsFailed l u w) lines_split (failed_more done (own ++ more) u v w before (failed_wider own more v w f))
-
-    pub next_cut : IsCut own v w → IsCut (trace_text plan thread trace) u w
-    next_cut c = subst (λ l. IsCut l u w) lines_split (cut_more done own more u v w before c)
+    pub next_short : (e : PrintError) → HasPut own v w (Err e) → HasPut (trace_text plan thread trace) u w (Err e)
+    next_short WriteFault f = subst (λ l. IsFailed l u w) lines_split (failed_more done (own ++ more) u v w before (failed_wider own more v w f))
+    next_short NoMemory c = subst (λ l. IsCut l u w) lines_split (cut_more done own more u v w before c)
 
 -- a list that is cut at a place is its first part and the rest
 pub cut_parts : {X : Type 0} (n : ℕ) (xs first rest : List X) → first ≡ take n xs → rest ≡ drop n xs → xs ≡ first ++ rest
@@ -138,14 +147,12 @@ module _ {A : Type 0} (text : ℕ → A → List ℕ) where
           let own = subst (λ y. IsPut (text i y) v w) here p in
           subst (λ l. IsPut l u w) (sym each_more) (put_more (each_numbered text 0 (take i xs)) (text i (get_or xs i d)) u v w before own)
 
-      pub each_failed : IsFailed (text i x) v w → IsFailed (each_numbered text 0 xs) u w
-      each_failed f =
+      pub each_short : (e : PrintError) → HasPut (text i x) v w (Err e) → HasPut (each_numbered text 0 xs) u w (Err e)
+      each_short WriteFault f =
           let own = subst (λ y. IsFailed (text i y) v w) here f in
           let wide = failed_wider (text i (get_or xs i d)) later v w own in
           subst (λ l. IsFailed l u w) (sym each_split) (failed_more (each_numbered text 0 (take i xs)) (text i (get_or xs i d) ++ later) u v w before wide)
-
-      pub each_cut : IsCut (text i x) v w → IsCut (each_numbered text 0 xs) u w
-      each_cut c =
+      each_short NoMemory c =
           let own = subst (λ y. IsCut (text i y) v w) here c in
           subst (λ l. IsCut l u w) (sym each_split) (cut_more (each_numbered text 0 (take i xs)) (text i (get_or xs i d)) later u v w before own)
 
@@ -158,11 +165,9 @@ module _ (s t : List ℕ) (a : Option (List ℕ)) (f : ℕ) (held : List ℕ) (n
   begins : (P : Way → Type 0) → P (way a f held) → P start
   begins P = subst (λ (l : List ℕ). P (way a f l)) none
 
-  pub first_failed : (v : Way) → IsFailed s (way a f held) v → TextFailed (s ++ t) a v.written f v.faults
-  first_failed v h = let wide = failed_wider s t start v (begins (λ u. IsFailed s u v) h) in record { prefix = wide.prefix; rose = wide.rose }
-
-  pub first_cut : (v : Way) → IsCut s (way a f held) v → TextCut (s ++ t) a v.written f v.faults
-  first_cut v h =
+  pub first_printed : (e : PrintError) (v : Way) → HasPut s (way a f held) v (Err e) → HasPrinted (s ++ t) a v.written f v.faults (Err e)
+  first_printed WriteFault v h = let wide = failed_wider s t start v (begins (λ u. IsFailed s u v) h) in record { prefix = wide.prefix; rose = wide.rose }
+  first_printed NoMemory v h =
       let all = cut_more [] s t start start v (put_none start) (begins (λ u. IsCut s u v) h) in
       record { part = part_sent a v.written v.held (s ++ t) all.part; calm = all.calm }
 
@@ -170,19 +175,22 @@ module _ (s t : List ℕ) (a : Option (List ℕ)) (f : ℕ) (held : List ℕ) (n
     begun : IsPut s start v
     begun = begins (λ u. IsPut s u v) first
 
-    pub second_failed : (w : Way) → IsFailed t v w → TextFailed (s ++ t) a w.written f w.faults
-    second_failed w h = let both = failed_more s t start v w begun h in record { prefix = both.prefix; rose = both.rose }
-
-    pub second_cut : (w : Way) → IsCut t v w → TextCut (s ++ t) a w.written f w.faults
-    second_cut w h =
+    pub second_printed : (e : PrintError) (w : Way) → HasPut t v w (Err e) → HasPrinted (s ++ t) a w.written f w.faults (Err e)
+    second_printed WriteFault w h = let both = failed_more s t start v w begun h in record { prefix = both.prefix; rose = both.rose }
+    second_printed NoMemory w h =
         let both = cut_more s t [] start v w begun h in
         let part = part_sent a w.written w.held (s ++ (t ++ [])) both.part in
         record { part = subst (λ l. AppendsPart a w.written (s ++ l)) (append-nil t) part; calm = both.calm }
 
-    pub last_failed : (w : Way) → IsPut t v w → (b : Option (List ℕ)) (g : ℕ) → AppendsProperPrefix w.written b w.held → Rose w.faults g → TextFailed (s ++ t) a b f g
-    last_failed w second b g prefix rose =
+    -- what is held back at the end is sent, which takes no memory
+    pub last_printed : (w : Way) → IsPut t v w → (b : Option (List ℕ)) (g : ℕ) (r : Result (Unit {0}) PrintError) → r ≢ Err NoMemory → HasPrinted w.held w.written b w.faults g r → HasPrinted (s ++ t) a b f g r
+    last_printed w second b g (Ok u) never h =
+        let both = put_more s t start v w begun second in
+        record { out = all_sent a w.written b w.held (s ++ t) both.moved h.out; calm = h.calm ∙ both.calm }
+    last_printed w second b g (Err WriteFault) never h =
         let both = put_more s t start v w begun second in
         record {
-          prefix = front_sent a w.written b w.held (s ++ t) both.moved prefix;
-          rose = subst (λ n. Rose n g) both.calm rose;
+          prefix = front_sent a w.written b w.held (s ++ t) both.moved h.prefix;
+          rose = subst (λ n. Rose n g) both.calm h.rose;
         }
+    last_printed w second b g (Err NoMemory) never h = absurd (never refl)

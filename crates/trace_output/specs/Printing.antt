@@ -1,9 +1,11 @@
 -- What printing a text comes to.
-use Rattle.std.specs.Prelude.{◌≡◌, ℕ, ◌++◌, List, Option}
+use Rattle.std.specs.Prelude.{◌≡◌, ℕ, ◌++◌, List, Option, Result, Ok, Err}
 use Rattle.std.specs.Io.KnownBytes.{Appends}
 use Rattle.jm_base.specs.FaultCounts.{Rose}
 use Rattle.edge_io.specs.Edges.{AppendsProperPrefix}
 use Rattle.line_output.specs.OutputPieces.{Moves, MovesPart, AppendsPart}
+use Rattle.trace_output.specs.declared.error.PrintError.{PrintError}
+use Rattle.trace_output.specs.declared.error.PrintError.TheVariants.{WriteFault, NoMemory}
 
 -- what a sink holds, where it is told, its count of faults, and what is held back from it
 pub record Way : Type 0 where
@@ -30,6 +32,12 @@ pub record IsCut (text : List ℕ) (old new : Way) : Type 0 where
   pub part : MovesPart old.written new.written old.held new.held text
   pub calm : new.faults ≡ old.faults
 
+-- what became of a text that was to be put, by the answer
+abbrev pub HasPut : List ℕ → Way → Way → Result (Unit {0}) PrintError → Type 0
+HasPut text old new (Ok u) = IsPut text old new
+HasPut text old new (Err WriteFault) = IsFailed text old new
+HasPut text old new (Err NoMemory) = IsCut text old new
+
 -- ---- a text is printed: it is out, or a prefix of it
 
 pub record TextOut (text : List ℕ) (old new : Option (List ℕ)) (faults now : ℕ) : Type 0 where
@@ -45,3 +53,9 @@ pub record TextFailed (text : List ℕ) (old new : Option (List ℕ)) (faults no
 pub record TextCut (text : List ℕ) (old new : Option (List ℕ)) (faults now : ℕ) : Type 0 where
   pub part : AppendsPart old new text
   pub calm : now ≡ faults
+
+-- what became of a text that was to be printed, by the answer
+abbrev pub HasPrinted : List ℕ → Option (List ℕ) → Option (List ℕ) → ℕ → ℕ → Result (Unit {0}) PrintError → Type 0
+HasPrinted text old new faults now (Ok u) = TextOut text old new faults now
+HasPrinted text old new faults now (Err WriteFault) = TextFailed text old new faults now
+HasPrinted text old new faults now (Err NoMemory) = TextCut text old new faults now

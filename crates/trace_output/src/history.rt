@@ -1,12 +1,12 @@
 // The reports of all intervals, with the summary and the end lines after them.
 
-ghost use Rattle.std.specs.Prelude.{◌≡◌, ◌++◌, All, length, OnOk, IsErrOf};
+ghost use Rattle.std.specs.Prelude.{◌≡◌, ◌++◌, All, length};
 ghost use Rattle.element_tree.specs.Tree.{threads_of};
 ghost use Rattle.element_tree.specs.Names.{labels_of};
 ghost use Rattle.interval_tables.specs.Rows.{IsInBounds};
 ghost use Rattle.output_lines.specs.Reports.{report_text, summary_text};
 ghost use Rattle.trace_output.specs.Texts.{reports_text, ends_text, CanPrint};
-ghost use Rattle.trace_output.specs.Printing.{way, IsPut, IsFailed, IsCut, TextOut, TextFailed, TextCut};
+ghost use Rattle.trace_output.specs.Printing.{way, HasPut, HasPrinted};
 
 use crate::error::PrintError;
 use crate::line::{finish, put_lines};
@@ -35,12 +35,8 @@ pub fn print_history<K: Sink>(
     requires rows { length total.now.rows ≡ length (labels_of plan.now.elements) }
     requires bounds { IsInBounds total.now.rows }
     requires threads { length traces.now ≡ length (threads_of plan.now) }
-    ensures out { OnOk result (TextOut (reports_text plan.now closed.now ++ (summary_text plan.now total.now ++ ends_text plan.now traces.now))
-        (K.written reports.old) (K.written reports.new) (K.faults reports.old) (K.faults reports.new)) }
-    ensures failed { IsErrOf result PrintError.WriteFault → TextFailed (reports_text plan.now closed.now ++ (summary_text plan.now total.now ++ ends_text plan.now traces.now))
-        (K.written reports.old) (K.written reports.new) (K.faults reports.old) (K.faults reports.new) }
-    ensures cut { IsErrOf result PrintError.NoMemory → TextCut (reports_text plan.now closed.now ++ (summary_text plan.now total.now ++ ends_text plan.now traces.now))
-        (K.written reports.old) (K.written reports.new) (K.faults reports.old) (K.faults reports.new) }
+    ensures { HasPrinted (reports_text plan.now closed.now ++ (summary_text plan.now total.now ++ ends_text plan.now traces.now))
+        (K.written reports.old) (K.written reports.new) (K.faults reports.old) (K.faults reports.new) result }
 {
     let Ok(mut pending) = Pending::new(alloc) else {
         return Err(PrintError::NoMemory);
@@ -59,15 +55,9 @@ fn put_reports<K: Sink>(
     closed: &[Report],
 ) -> Result<(), PrintError>
     requires { All (CanPrint plan.now) closed.now }
-    ensures put { OnOk result (IsPut (reports_text plan.now closed.now)
+    ensures { HasPut (reports_text plan.now closed.now)
         (way (K.written sink.old) (K.faults sink.old) pending.old)
-        (way (K.written sink.new) (K.faults sink.new) pending.new)) }
-    ensures failed { IsErrOf result PrintError.WriteFault → IsFailed (reports_text plan.now closed.now)
-        (way (K.written sink.old) (K.faults sink.old) pending.old)
-        (way (K.written sink.new) (K.faults sink.new) pending.new) }
-    ensures cut { IsErrOf result PrintError.NoMemory → IsCut (reports_text plan.now closed.now)
-        (way (K.written sink.old) (K.faults sink.old) pending.old)
-        (way (K.written sink.new) (K.faults sink.new) pending.new) }
+        (way (K.written sink.new) (K.faults sink.new) pending.new) result }
 {
     for report in closed {
         put_report(alloc, pending, sink, plan, report)?;
@@ -84,15 +74,9 @@ fn put_report<K: Sink>(
     report: &Report,
 ) -> Result<(), PrintError>
     requires { CanPrint plan.now report.now }
-    ensures put { OnOk result (IsPut (report_text plan.now report.now)
+    ensures { HasPut (report_text plan.now report.now)
         (way (K.written sink.old) (K.faults sink.old) pending.old)
-        (way (K.written sink.new) (K.faults sink.new) pending.new)) }
-    ensures failed { IsErrOf result PrintError.WriteFault → IsFailed (report_text plan.now report.now)
-        (way (K.written sink.old) (K.faults sink.old) pending.old)
-        (way (K.written sink.new) (K.faults sink.new) pending.new) }
-    ensures cut { IsErrOf result PrintError.NoMemory → IsCut (report_text plan.now report.now)
-        (way (K.written sink.old) (K.faults sink.old) pending.old)
-        (way (K.written sink.new) (K.faults sink.new) pending.new) }
+        (way (K.written sink.new) (K.faults sink.new) pending.new) result }
 {
     let mut lines = Vec::new(alloc);
     if report_lines(alloc, &mut lines, plan, report).is_err() {
@@ -113,15 +97,9 @@ fn put_tail<K: Sink>(
     requires rows { length total.now.rows ≡ length (labels_of plan.now.elements) }
     requires bounds { IsInBounds total.now.rows }
     requires threads { length traces.now ≡ length (threads_of plan.now) }
-    ensures put { OnOk result (IsPut (summary_text plan.now total.now ++ ends_text plan.now traces.now)
+    ensures { HasPut (summary_text plan.now total.now ++ ends_text plan.now traces.now)
         (way (K.written sink.old) (K.faults sink.old) pending.old)
-        (way (K.written sink.new) (K.faults sink.new) pending.new)) }
-    ensures failed { IsErrOf result PrintError.WriteFault → IsFailed (summary_text plan.now total.now ++ ends_text plan.now traces.now)
-        (way (K.written sink.old) (K.faults sink.old) pending.old)
-        (way (K.written sink.new) (K.faults sink.new) pending.new) }
-    ensures cut { IsErrOf result PrintError.NoMemory → IsCut (summary_text plan.now total.now ++ ends_text plan.now traces.now)
-        (way (K.written sink.old) (K.faults sink.old) pending.old)
-        (way (K.written sink.new) (K.faults sink.new) pending.new) }
+        (way (K.written sink.new) (K.faults sink.new) pending.new) result }
 {
     put_summary(alloc, pending, sink, plan, total)?;
     put_ends(alloc, pending, sink, plan, traces)?;

@@ -1,10 +1,7 @@
 // Lines that are formed, and what is held back at the end.
 
-ghost use Rattle.std.specs.Prelude.{◌≡◌, ◌≢◌, OnOk, IsErrOf};
-ghost use Rattle.std.specs.Io.KnownBytes.{Appends};
-ghost use Rattle.jm_base.specs.FaultCounts.{Rose};
-ghost use Rattle.edge_io.specs.Edges.{AppendsProperPrefix};
-ghost use Rattle.trace_output.specs.Printing.{way, IsPut, IsFailed};
+ghost use Rattle.std.specs.Prelude.{◌≢◌};
+ghost use Rattle.trace_output.specs.Printing.{way, HasPut, HasPrinted};
 
 use crate::error::PrintError;
 use edge_io::Sink;
@@ -16,12 +13,9 @@ pub(crate) fn put_lines<K: Sink>(
     sink: &mut K,
     lines: &[u8],
 ) -> Result<(), PrintError>
-    ensures put { OnOk result (IsPut lines.now
+    ensures put { HasPut lines.now
         (way (K.written sink.old) (K.faults sink.old) pending.old)
-        (way (K.written sink.new) (K.faults sink.new) pending.new)) }
-    ensures failed { IsErrOf result PrintError.WriteFault → IsFailed lines.now
-        (way (K.written sink.old) (K.faults sink.old) pending.old)
-        (way (K.written sink.new) (K.faults sink.new) pending.new) }
+        (way (K.written sink.new) (K.faults sink.new) pending.new) result }
     ensures never { result ≢ Err PrintError.NoMemory }
 {
     match pending.put(sink, lines) {
@@ -32,11 +26,7 @@ pub(crate) fn put_lines<K: Sink>(
 
 /// Sends what is held back. It takes no memory.
 pub(crate) fn finish<K: Sink>(pending: &mut Pending, sink: &mut K) -> Result<(), PrintError>
-    ensures whole { OnOk result (Appends (K.written sink.old) (K.written sink.new) pending.old) }
-    ensures ok { OnOk result (K.faults sink.new ≡ K.faults sink.old) }
-
-    ensures prefix { IsErrOf result PrintError.WriteFault → AppendsProperPrefix (K.written sink.old) (K.written sink.new) pending.old }
-    ensures cause { IsErrOf result PrintError.WriteFault → Rose (K.faults sink.old) (K.faults sink.new) }
+    ensures printed { HasPrinted pending.old (K.written sink.old) (K.written sink.new) (K.faults sink.old) (K.faults sink.new) result }
     ensures never { result ≢ Err PrintError.NoMemory }
 {
     match pending.hand_over(sink) {

@@ -1,13 +1,13 @@
 // Result lines.
 
-ghost use Rattle.std.specs.Prelude.{◌≡◌, ◌<◌, ◌≤◌, ◌++◌, All, length, OnOk, OnErr, IsErrOf};
+ghost use Rattle.std.specs.Prelude.{◌≡◌, ◌<◌, ◌≤◌, ◌++◌, All, length, OnOk, OnErr};
 ghost use Rattle.element_tree.specs.Tree.{threads_of};
 ghost use Rattle.element_tree.specs.Names.{labels_of};
 ghost use Rattle.output_lines.specs.Lines.{header_text};
 ghost use Rattle.output_lines.specs.Bulk.{BeginsWith};
 ghost use Rattle.thread_machine.specs.Bare.{IsLabelled};
 ghost use Rattle.trace_output.specs.Texts.{line_of, trace_text, traces_text};
-ghost use Rattle.trace_output.specs.Printing.{way, IsPut, IsFailed, IsCut, TextOut, TextFailed, TextCut};
+ghost use Rattle.trace_output.specs.Printing.{way, HasPut, HasPrinted};
 
 use crate::error::PrintError;
 use crate::line::{finish, put_lines};
@@ -38,12 +38,8 @@ pub fn print_results<K: Sink>(
 ) -> Result<(), PrintError>
     requires thread { thread < length (threads_of plan.now) }
     requires labels { All (IsLabelled (length (labels_of plan.now.elements))) trace.now }
-    ensures out { OnOk result (TextOut (header_text ++ trace_text plan.now thread trace.now)
-        (K.written results.old) (K.written results.new) (K.faults results.old) (K.faults results.new)) }
-    ensures failed { IsErrOf result PrintError.WriteFault → TextFailed (header_text ++ trace_text plan.now thread trace.now)
-        (K.written results.old) (K.written results.new) (K.faults results.old) (K.faults results.new) }
-    ensures cut { IsErrOf result PrintError.NoMemory → TextCut (header_text ++ trace_text plan.now thread trace.now)
-        (K.written results.old) (K.written results.new) (K.faults results.old) (K.faults results.new) }
+    ensures { HasPrinted (header_text ++ trace_text plan.now thread trace.now)
+        (K.written results.old) (K.written results.new) (K.faults results.old) (K.faults results.new) result }
 {
     let Ok(mut pending) = Pending::new(alloc) else {
         return Err(PrintError::NoMemory);
@@ -62,12 +58,8 @@ pub fn print_all_results<K: Sink>(
 ) -> Result<(), PrintError>
     requires threads { length traces.now ≡ length (threads_of plan.now) }
     requires labels { All (All (IsLabelled (length (labels_of plan.now.elements)))) traces.now }
-    ensures out { OnOk result (TextOut (header_text ++ traces_text plan.now traces.now)
-        (K.written results.old) (K.written results.new) (K.faults results.old) (K.faults results.new)) }
-    ensures failed { IsErrOf result PrintError.WriteFault → TextFailed (header_text ++ traces_text plan.now traces.now)
-        (K.written results.old) (K.written results.new) (K.faults results.old) (K.faults results.new) }
-    ensures cut { IsErrOf result PrintError.NoMemory → TextCut (header_text ++ traces_text plan.now traces.now)
-        (K.written results.old) (K.written results.new) (K.faults results.old) (K.faults results.new) }
+    ensures { HasPrinted (header_text ++ traces_text plan.now traces.now)
+        (K.written results.old) (K.written results.new) (K.faults results.old) (K.faults results.new) result }
 {
     let Ok(mut pending) = Pending::new(alloc) else {
         return Err(PrintError::NoMemory);
@@ -79,15 +71,9 @@ pub fn print_all_results<K: Sink>(
 
 // Puts the header of the result lines.
 fn put_header<K: Sink>(alloc: Global, pending: &mut Pending, sink: &mut K) -> Result<(), PrintError>
-    ensures put { OnOk result (IsPut header_text
+    ensures { HasPut header_text
         (way (K.written sink.old) (K.faults sink.old) pending.old)
-        (way (K.written sink.new) (K.faults sink.new) pending.new)) }
-    ensures failed { IsErrOf result PrintError.WriteFault → IsFailed header_text
-        (way (K.written sink.old) (K.faults sink.old) pending.old)
-        (way (K.written sink.new) (K.faults sink.new) pending.new) }
-    ensures cut { IsErrOf result PrintError.NoMemory → IsCut header_text
-        (way (K.written sink.old) (K.faults sink.old) pending.old)
-        (way (K.written sink.new) (K.faults sink.new) pending.new) }
+        (way (K.written sink.new) (K.faults sink.new) pending.new) result }
 {
     let mut line = Vec::new(alloc);
     if header_line(alloc, &mut line).is_err() {
@@ -106,15 +92,9 @@ fn put_traces<K: Sink>(
 ) -> Result<(), PrintError>
     requires threads { length traces.now ≡ length (threads_of plan.now) }
     requires labels { All (All (IsLabelled (length (labels_of plan.now.elements)))) traces.now }
-    ensures put { OnOk result (IsPut (traces_text plan.now traces.now)
+    ensures { HasPut (traces_text plan.now traces.now)
         (way (K.written sink.old) (K.faults sink.old) pending.old)
-        (way (K.written sink.new) (K.faults sink.new) pending.new)) }
-    ensures failed { IsErrOf result PrintError.WriteFault → IsFailed (traces_text plan.now traces.now)
-        (way (K.written sink.old) (K.faults sink.old) pending.old)
-        (way (K.written sink.new) (K.faults sink.new) pending.new) }
-    ensures cut { IsErrOf result PrintError.NoMemory → IsCut (traces_text plan.now traces.now)
-        (way (K.written sink.old) (K.faults sink.old) pending.old)
-        (way (K.written sink.new) (K.faults sink.new) pending.new) }
+        (way (K.written sink.new) (K.faults sink.new) pending.new) result }
 {
     for thread in 0..plan.threads() {
         let trace = traces[usize::from(thread)].as_slice();
@@ -134,15 +114,9 @@ fn put_trace<K: Sink>(
 ) -> Result<(), PrintError>
     requires thread { thread < length (threads_of plan.now) }
     requires labels { All (IsLabelled (length (labels_of plan.now.elements))) trace.now }
-    ensures put { OnOk result (IsPut (trace_text plan.now thread trace.now)
+    ensures { HasPut (trace_text plan.now thread trace.now)
         (way (K.written sink.old) (K.faults sink.old) pending.old)
-        (way (K.written sink.new) (K.faults sink.new) pending.new)) }
-    ensures failed { IsErrOf result PrintError.WriteFault → IsFailed (trace_text plan.now thread trace.now)
-        (way (K.written sink.old) (K.faults sink.old) pending.old)
-        (way (K.written sink.new) (K.faults sink.new) pending.new) }
-    ensures cut { IsErrOf result PrintError.NoMemory → IsCut (trace_text plan.now thread trace.now)
-        (way (K.written sink.old) (K.faults sink.old) pending.old)
-        (way (K.written sink.new) (K.faults sink.new) pending.new) }
+        (way (K.written sink.new) (K.faults sink.new) pending.new) result }
 {
     let Ok(name) = plan.thread_name(alloc, thread) else {
         return Err(PrintError::NoMemory);
@@ -211,15 +185,9 @@ fn put_items<K: Sink>(
 ) -> Result<(), PrintError>
     requires thread { thread < length (threads_of plan.now) }
     requires labels { All (IsLabelled (length (labels_of plan.now.elements))) items.now }
-    ensures put { OnOk result (IsPut (trace_text plan.now thread items.now)
+    ensures { HasPut (trace_text plan.now thread items.now)
         (way (K.written sink.old) (K.faults sink.old) pending.old)
-        (way (K.written sink.new) (K.faults sink.new) pending.new)) }
-    ensures failed { IsErrOf result PrintError.WriteFault → IsFailed (trace_text plan.now thread items.now)
-        (way (K.written sink.old) (K.faults sink.old) pending.old)
-        (way (K.written sink.new) (K.faults sink.new) pending.new) }
-    ensures cut { IsErrOf result PrintError.NoMemory → IsCut (trace_text plan.now thread items.now)
-        (way (K.written sink.old) (K.faults sink.old) pending.old)
-        (way (K.written sink.new) (K.faults sink.new) pending.new) }
+        (way (K.written sink.new) (K.faults sink.new) pending.new) result }
 {
     let mut lines = Vec::new(alloc);
     if result_lines(alloc, &mut lines, plan, thread, items).is_err() {

@@ -1,13 +1,13 @@
 // The summary, and how a thread ended.
 
-ghost use Rattle.std.specs.Prelude.{◌≡◌, ◌<◌, ◌++◌, length, OnOk, IsErrOf};
+ghost use Rattle.std.specs.Prelude.{◌≡◌, ◌<◌, ◌++◌, length};
 ghost use Rattle.element_tree.specs.Tree.{threads_of};
 ghost use Rattle.element_tree.specs.Names.{labels_of};
 ghost use Rattle.interval_tables.specs.Rows.{IsInBounds};
 ghost use Rattle.output_lines.specs.Lines.{end_text};
 ghost use Rattle.output_lines.specs.Reports.{summary_text};
 ghost use Rattle.trace_output.specs.Texts.{end_in, end_of, end_line_of, ends_text};
-ghost use Rattle.trace_output.specs.Printing.{way, IsPut, IsFailed, IsCut, TextOut, TextFailed, TextCut};
+ghost use Rattle.trace_output.specs.Printing.{way, HasPut, HasPrinted};
 
 use crate::error::PrintError;
 use crate::line::{finish, put_lines};
@@ -33,12 +33,8 @@ pub fn print_report<K: Sink>(
     requires rows { length total.now.rows ≡ length (labels_of plan.now.elements) }
     requires bounds { IsInBounds total.now.rows }
     requires thread { thread < length (threads_of plan.now) }
-    ensures out { OnOk result (TextOut (summary_text plan.now total.now ++ end_text plan.now thread end)
-        (K.written reports.old) (K.written reports.new) (K.faults reports.old) (K.faults reports.new)) }
-    ensures failed { IsErrOf result PrintError.WriteFault → TextFailed (summary_text plan.now total.now ++ end_text plan.now thread end)
-        (K.written reports.old) (K.written reports.new) (K.faults reports.old) (K.faults reports.new) }
-    ensures cut { IsErrOf result PrintError.NoMemory → TextCut (summary_text plan.now total.now ++ end_text plan.now thread end)
-        (K.written reports.old) (K.written reports.new) (K.faults reports.old) (K.faults reports.new) }
+    ensures { HasPrinted (summary_text plan.now total.now ++ end_text plan.now thread end)
+        (K.written reports.old) (K.written reports.new) (K.faults reports.old) (K.faults reports.new) result }
 {
     let Ok(mut pending) = Pending::new(alloc) else {
         return Err(PrintError::NoMemory);
@@ -60,12 +56,8 @@ pub fn print_all_report<K: Sink>(
     requires rows { length total.now.rows ≡ length (labels_of plan.now.elements) }
     requires bounds { IsInBounds total.now.rows }
     requires threads { length traces.now ≡ length (threads_of plan.now) }
-    ensures out { OnOk result (TextOut (summary_text plan.now total.now ++ ends_text plan.now traces.now)
-        (K.written reports.old) (K.written reports.new) (K.faults reports.old) (K.faults reports.new)) }
-    ensures failed { IsErrOf result PrintError.WriteFault → TextFailed (summary_text plan.now total.now ++ ends_text plan.now traces.now)
-        (K.written reports.old) (K.written reports.new) (K.faults reports.old) (K.faults reports.new) }
-    ensures cut { IsErrOf result PrintError.NoMemory → TextCut (summary_text plan.now total.now ++ ends_text plan.now traces.now)
-        (K.written reports.old) (K.written reports.new) (K.faults reports.old) (K.faults reports.new) }
+    ensures { HasPrinted (summary_text plan.now total.now ++ ends_text plan.now traces.now)
+        (K.written reports.old) (K.written reports.new) (K.faults reports.old) (K.faults reports.new) result }
 {
     let Ok(mut pending) = Pending::new(alloc) else {
         return Err(PrintError::NoMemory);
@@ -85,15 +77,9 @@ pub(crate) fn put_summary<K: Sink>(
 ) -> Result<(), PrintError>
     requires rows { length total.now.rows ≡ length (labels_of plan.now.elements) }
     requires bounds { IsInBounds total.now.rows }
-    ensures put { OnOk result (IsPut (summary_text plan.now total.now)
+    ensures { HasPut (summary_text plan.now total.now)
         (way (K.written sink.old) (K.faults sink.old) pending.old)
-        (way (K.written sink.new) (K.faults sink.new) pending.new)) }
-    ensures failed { IsErrOf result PrintError.WriteFault → IsFailed (summary_text plan.now total.now)
-        (way (K.written sink.old) (K.faults sink.old) pending.old)
-        (way (K.written sink.new) (K.faults sink.new) pending.new) }
-    ensures cut { IsErrOf result PrintError.NoMemory → IsCut (summary_text plan.now total.now)
-        (way (K.written sink.old) (K.faults sink.old) pending.old)
-        (way (K.written sink.new) (K.faults sink.new) pending.new) }
+        (way (K.written sink.new) (K.faults sink.new) pending.new) result }
 {
     let mut lines = Vec::new(alloc);
     if summary_lines(alloc, &mut lines, plan, total).is_err() {
@@ -112,15 +98,9 @@ fn put_end<K: Sink>(
     end: End,
 ) -> Result<(), PrintError>
     requires { thread < length (threads_of plan.now) }
-    ensures put { OnOk result (IsPut (end_text plan.now thread end)
+    ensures { HasPut (end_text plan.now thread end)
         (way (K.written sink.old) (K.faults sink.old) pending.old)
-        (way (K.written sink.new) (K.faults sink.new) pending.new)) }
-    ensures failed { IsErrOf result PrintError.WriteFault → IsFailed (end_text plan.now thread end)
-        (way (K.written sink.old) (K.faults sink.old) pending.old)
-        (way (K.written sink.new) (K.faults sink.new) pending.new) }
-    ensures cut { IsErrOf result PrintError.NoMemory → IsCut (end_text plan.now thread end)
-        (way (K.written sink.old) (K.faults sink.old) pending.old)
-        (way (K.written sink.new) (K.faults sink.new) pending.new) }
+        (way (K.written sink.new) (K.faults sink.new) pending.new) result }
 {
     let mut line = Vec::new(alloc);
     if end_line(alloc, &mut line, plan, thread, end).is_err() {
@@ -138,15 +118,9 @@ pub(crate) fn put_ends<K: Sink>(
     traces: &[Items<TraceItem>],
 ) -> Result<(), PrintError>
     requires { length traces.now ≡ length (threads_of plan.now) }
-    ensures put { OnOk result (IsPut (ends_text plan.now traces.now)
+    ensures { HasPut (ends_text plan.now traces.now)
         (way (K.written sink.old) (K.faults sink.old) pending.old)
-        (way (K.written sink.new) (K.faults sink.new) pending.new)) }
-    ensures failed { IsErrOf result PrintError.WriteFault → IsFailed (ends_text plan.now traces.now)
-        (way (K.written sink.old) (K.faults sink.old) pending.old)
-        (way (K.written sink.new) (K.faults sink.new) pending.new) }
-    ensures cut { IsErrOf result PrintError.NoMemory → IsCut (ends_text plan.now traces.now)
-        (way (K.written sink.old) (K.faults sink.old) pending.old)
-        (way (K.written sink.new) (K.faults sink.new) pending.new) }
+        (way (K.written sink.new) (K.faults sink.new) pending.new) result }
 {
     for thread in 0..plan.threads() {
         let trace = traces[usize::from(thread)].as_slice();
@@ -165,15 +139,9 @@ fn put_end_of<K: Sink>(
     trace: &[TraceItem],
 ) -> Result<(), PrintError>
     requires { thread < length (threads_of plan.now) }
-    ensures put { OnOk result (IsPut (end_line_of plan.now thread trace.now)
+    ensures { HasPut (end_line_of plan.now thread trace.now)
         (way (K.written sink.old) (K.faults sink.old) pending.old)
-        (way (K.written sink.new) (K.faults sink.new) pending.new)) }
-    ensures failed { IsErrOf result PrintError.WriteFault → IsFailed (end_line_of plan.now thread trace.now)
-        (way (K.written sink.old) (K.faults sink.old) pending.old)
-        (way (K.written sink.new) (K.faults sink.new) pending.new) }
-    ensures cut { IsErrOf result PrintError.NoMemory → IsCut (end_line_of plan.now thread trace.now)
-        (way (K.written sink.old) (K.faults sink.old) pending.old)
-        (way (K.written sink.new) (K.faults sink.new) pending.new) }
+        (way (K.written sink.new) (K.faults sink.new) pending.new) result }
 {
     match end_of(trace) {
         Some(end) => put_end(alloc, pending, sink, plan, thread, end),

@@ -1,5 +1,9 @@
-use Rattle.std.proofs.Common.{◌*◌, ◌≤◌, length, ap, sym, subst, ◌∙◌, rules}
+use Rattle.std.proofs.Common.{◌*◌, ◌≤◌, ◌++◌, Err, length, ap, sym, subst, ◌∙◌, rules}
+use Rattle.trace_output.specs.declared.error.PrintError.TheVariants.{WriteFault, NoMemory}
+use Rattle.output_lines.specs.Lines.{header_text}
+use Rattle.trace_output.specs.Texts.{traces_text}
 use Rattle.interval_tables.proofs.Sums.{length-sum_of}
+use Rattle.jm_command.proofs.TextLaws.{printed_as}
 use Rattle.jm_command.proofs.WeaveLaws.{can_print, weave_failed, weave_cut, weave_says}
 use Rattle.jm_command.proofs.weaving.print_weave.Goals as goal
 
@@ -23,7 +27,7 @@ returns-in-Ok-print_all_results g c =
       parted = c.in-Ok.ensures.partition;
       total_is = c.in-Ok-total_of.ensures.rows;
     })
-    _ _ _ _ (rw c.as_slice.ensures at c.in-Ok-print_all_results.ensures.out) _ _ _ _ c.print_reports.result c.print_reports.ensures
+    _ _ _ _ (rw c.as_slice.ensures at c.in-Ok-print_all_results.ensures) _ _ _ _ c.print_reports.result c.print_reports.ensures
 
 pub returns-in-Err-WriteFault : goal.returns-in-Err-WriteFault
 returns-in-Err-WriteFault g c =
@@ -34,7 +38,8 @@ returns-in-Err-WriteFault g c =
       parted = c.in-Ok.ensures.partition;
       total_is = c.in-Ok-total_of.ensures.rows;
     })
-    _ _ _ _ (rw c.as_slice.ensures at (c.in-Err-WriteFault.ensures.failed (search rules))) _ _
+    _ _ _ _ (printed_as (λ traces. header_text ++ traces_text c.args.plan.now traces) _ _ (g.O.Sink.written c.args.results.now) (g.O.Sink.written c.print_all_results.new.results) (g.O.Sink.faults c.args.results.now) (g.O.Sink.faults c.print_all_results.new.results) (Err c.in-Err-WriteFault.field-0) (Err WriteFault)
+    c.as_slice.ensures c.in-Err-WriteFault.ensures (search rules)) _ _
 
 pub returns : goal.returns
 returns g c =
@@ -45,4 +50,5 @@ returns g c =
       parted = c.in-Ok.ensures.partition;
       total_is = c.in-Ok-total_of.ensures.rows;
     })
-    _ _ _ _ (rw c.as_slice.ensures at (c.in-Err-NoMemory.ensures.cut (search rules))) _ _
+    _ _ _ _ (printed_as (λ traces. header_text ++ traces_text c.args.plan.now traces) _ _ (g.O.Sink.written c.args.results.now) (g.O.Sink.written c.print_all_results.new.results) (g.O.Sink.faults c.args.results.now) (g.O.Sink.faults c.print_all_results.new.results) (Err c.in-Err-NoMemory.field-0) (Err NoMemory)
+    c.as_slice.ensures c.in-Err-NoMemory.ensures (search rules)) _ _

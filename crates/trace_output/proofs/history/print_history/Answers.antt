@@ -1,29 +1,16 @@
-use Rattle.std.proofs.Common.{rules}
-use Rattle.std.specs.Prelude.{IsErrOf}
-use Rattle.trace_output.specs.declared.error.PrintError.TheVariants.{WriteFault, NoMemory}
-use Rattle.trace_output.proofs.PrintingLaws.{first_failed, first_cut, second_failed, second_cut, last_failed}
+use Rattle.std.proofs.lemmas.Result.{err_from_is_err_and}
+use Rattle.trace_output.proofs.PrintingLaws.{first_printed, second_printed, last_printed}
 use Rattle.trace_output.proofs.history.print_history.Goals as goal
 
-pub returns-in_err-put_reports-clause-failed : goal.returns-in_err-put_reports-clause-failed
-returns-in_err-put_reports-clause-failed g c = λ is.
-    let failed : IsErrOf c.put_reports.result WriteFault = search rules in
-    first_failed _ _ _ _ c.in-Ok.pending c.in-Ok.ensures _ (c.put_reports.ensures.failed failed)
+pub returns-in_err-put_reports : goal.returns-in_err-put_reports
+returns-in_err-put_reports g c =
+    let p = err_from_is_err_and c.from_residual.result c.from_residual.ensures.1 in
+    rw (p.1, p.2) (first_printed _ _ _ _ c.in-Ok.pending c.in-Ok.ensures _ _ c.in_err-put_reports.ensures)
 
-pub returns-in_err-put_reports-clause-cut : goal.returns-in_err-put_reports-clause-cut
-returns-in_err-put_reports-clause-cut g c = λ is.
-    let failed : IsErrOf c.put_reports.result NoMemory = search rules in
-    first_cut _ _ _ _ c.in-Ok.pending c.in-Ok.ensures _ (c.put_reports.ensures.cut failed)
+pub returns-in_err-put_tail : goal.returns-in_err-put_tail
+returns-in_err-put_tail g c =
+    let p = err_from_is_err_and c.from_residual-in_err-put_tail.result c.from_residual-in_err-put_tail.ensures.1 in
+    rw (p.1, p.2) (second_printed _ _ _ _ c.in-Ok.pending c.in-Ok.ensures _ c.in_ok-put_reports.ensures _ _ c.in_err-put_tail.ensures)
 
-pub returns-in_err-put_tail-clause-failed : goal.returns-in_err-put_tail-clause-failed
-returns-in_err-put_tail-clause-failed g c = λ is.
-    let failed : IsErrOf c.put_tail.result WriteFault = search rules in
-    second_failed _ _ _ _ c.in-Ok.pending c.in-Ok.ensures _ c.in_ok-put_reports.ensures.put _ (c.put_tail.ensures.failed failed)
-
-pub returns-in_err-put_tail-clause-cut : goal.returns-in_err-put_tail-clause-cut
-returns-in_err-put_tail-clause-cut g c = λ is.
-    let failed : IsErrOf c.put_tail.result NoMemory = search rules in
-    second_cut _ _ _ _ c.in-Ok.pending c.in-Ok.ensures _ c.in_ok-put_reports.ensures.put _ (c.put_tail.ensures.cut failed)
-
-pub returns-clause-failed : goal.returns-clause-failed
-returns-clause-failed g c = λ is.
-    last_failed _ _ _ _ c.in-Ok.pending c.in-Ok.ensures _ c.in_ok-put_reports.ensures.put _ c.in_ok-put_tail.ensures.put _ _ (c.finish.ensures.prefix is) (c.finish.ensures.cause is)
+pub returns : goal.returns
+returns g c = last_printed _ _ _ _ c.in-Ok.pending c.in-Ok.ensures _ c.in_ok-put_reports.ensures _ c.in_ok-put_tail.ensures _ _ c.finish.result c.finish.ensures.never c.finish.ensures.printed
