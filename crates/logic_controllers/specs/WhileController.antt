@@ -6,7 +6,7 @@ use lib.Pointwise.{pointwise}
 use Rattle.jm_base.specs.Run.{Run}
 use Rattle.template_text.specs.Pieces.{Pieces}
 use Rattle.var_functions.specs.declared.state.UserState.{UserState}
-use Rattle.var_functions.specs.Vars.{Variables, value_of}
+use Rattle.var_functions.specs.Vars.{Variables, value_of, last_sample_ok}
 use Rattle.element_tree.specs.declared.kinds.Kind.{Kind}
 use Rattle.element_tree.specs.declared.kinds.Kind.TheVariants as kinds
 use Rattle.element_tree.specs.declared.package.Turn.{Turn}
@@ -26,7 +26,7 @@ is_word_true (Some value) = pointwise nat_eq value (codes "true")
 
 -- the last sample succeeded where the variable `JMeterThread.last_sample_ok` has the value `true`
 abbrev pub last_ok : Variables → Bool
-last_ok vars = is_word_true (value_of (codes "JMeterThread.last_sample_ok") vars)
+last_ok vars = is_word_true (value_of last_sample_ok vars)
 
 -- Whether a round of this index begins, from 0. Where the condition's text is blank, the first one does, and a later one
 -- where the last sample succeeded; where it is `LAST`, each where the last sample succeeded; otherwise each unless the

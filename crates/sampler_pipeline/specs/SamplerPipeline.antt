@@ -1,4 +1,5 @@
 -- The sampler pipeline: what one sampler does, in the order of the manual's "Execution order".
+pub use Rattle.var_functions.specs.Vars.{last_sample_ok, truth_text}
 use Rattle.std.specs.Prelude.{ℕ, zero, suc, ℤ, pos, min, Bool, true, false, List, [], ◌∷◌, ◌++◌, length, Option, Some, None, slice_get, unwrap_or, if◌then◌else◌, codes, ◌==◌}
 use Rattle.std.specs.Option.{option_map}
 use Rattle.jm_base.specs.declared.types.Sample.{Sample}
@@ -133,13 +134,7 @@ abbrev pub assert_all : List Element → Scope → ℕ → ℕ → Answer → Sa
 assert_all elements scope number stamp answer =
     sample_of (label_at elements number) stamp answer (judged elements answer scope.assertions (at_first answer)) (listeners_of scope)
 
--- whether the last sample succeeded
-abbrev pub truth_text : Bool → List ℕ
-truth_text ok = if ok then codes "true" else codes "false"
-
-abbrev pub last_sample_ok : List ℕ
-last_sample_ok = codes "JMeterThread.last_sample_ok"
-
+-- whether the last sample succeeded is a variable
 abbrev pub noting : Sample → Try (Unit {0})
 noting sample = changing (λ vars. Sets last_sample_ok (truth_text sample.ok) ∷ [])
 

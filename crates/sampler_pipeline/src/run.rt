@@ -7,7 +7,7 @@ ghost use Rattle.var_functions.specs.Came.{CameTo};
 ghost use Rattle.var_functions.specs.FunctionState.{IsLater};
 ghost use Rattle.trials.specs.Tried.{fine, past_limit};
 ghost use Rattle.sampler_pipeline.specs.Exchanges.{sample_of};
-ghost use Rattle.sampler_pipeline.specs.SamplerPipeline.{label_at, listeners_of, assert_all, noting, truth_text, exchanging, answering, sampling_of, following, asking, pipeline, order_of};
+ghost use Rattle.sampler_pipeline.specs.SamplerPipeline.{label_at, listeners_of, assert_all, noting, exchanging, answering, sampling_of, following, asking, pipeline, order_of};
 ghost use Rattle.sampler_pipeline.specs.PipelineCut.{cut_answering, cut_sampling, cut_following, cut_asking, cut_pipeline, cut_sampler};
 
 use crate::exchange::{Exchange, exchange_if};
@@ -21,7 +21,6 @@ use element_tree::{Package, Plan};
 use jm_base::{M, Outside, Reply, Request, Sample, Text};
 use reply_search::Searches;
 use std::alloc::Global;
-use var_changes::put_copy;
 use var_functions::{UserState, VarError};
 
 /// What one sampler came to.
@@ -42,12 +41,6 @@ fn message_of(alloc: Global, message: Text) -> M<Text>
     } else {
         Ok(message)
     }
-}
-
-fn truth_text(ok: bool) -> &'static [u8]
-    ensures { result.now ≡ truth_text ok }
-{
-    if ok { b"true" } else { b"false" }
 }
 
 // The label of the element of this number; 0 where it isn't there.
@@ -126,12 +119,7 @@ fn note(alloc: Global, ok: bool, state: &mut UserState) -> Result<(), VarError>
     ensures later { IsLater state.old.fns state.new.fns }
     ensures kept { OnErr result (state.new ≡ state.old) }
 {
-    put_copy(
-        alloc,
-        b"JMeterThread.last_sample_ok",
-        truth_text(ok),
-        &mut state.vars,
-    )
+    state.vars.put_last_ok(alloc, ok)
 }
 
 // Post-processors, assertions and listeners after an answer.

@@ -16,12 +16,10 @@ use Rattle.std.proofs.lemmas.Map.Entries.{none_below_head}
 use Rattle.std.proofs.lemmas.Map.Keys.{sorted_tail}
 use Rattle.var_functions.specs.declared.error.VarError.{VarError}
 use Rattle.var_functions.specs.declared.error.VarError.TheVariants.{ValueLimit, NoMemory}
-use Rattle.var_functions.specs.Vars.{Variables, by_bytes, value_of, with_var, without_var, bytes_of, bytes_found, is_same, most_text, most_bytes, put_var, Puts, IsKept}
+use Rattle.var_functions.specs.Vars.{Variables, by_bytes, value_of, with_var, without_var, bytes_of, bytes_found, is_same, IsInOrder, most_text, most_bytes, put_var, index_name, last_sample_ok, Puts, IsKept}
 use Rattle.var_functions.specs.Beside.{with_beside, IsBeside}
-use Rattle.var_functions.proofs.VarLaws.{same_from_is, is_same-refl, value_of-with_var, value_of-without_var, bytes_of-with_var, with_var-same, within, room}
-
-abbrev IsInOrder : Variables → Type 0
-IsInOrder vars = IsStrictlySortedBy by_bytes (keys_of vars)
+use Rattle.name_map.proofs.NameLaws.{same_from_is, is_same-refl, value_of-with_var, value_of-without_var, with_var-same}
+use Rattle.var_functions.proofs.VarLaws.{bytes_of-with_var, within, room}
 
 symmetric : (a b : List ℕ) → is_same a b ≡ is_same b a
 symmetric a b = (eq_by_cmp_equiv nat_list_cmp_total).symm a b
@@ -167,6 +165,10 @@ value-apart name value vars other apart = value_of-with_var other name value var
 value-at : (name value : List ℕ) (vars : Variables) → value_of name (with_var name value vars) ≡ Some value
 value-at name value vars = value_of-with_var name name value vars ∙ ap (λ b. if b then Some value else value_of name vars) (is_same-refl name)
 
+-- a variable that was set has its value
+pub put-told : (name value : List ℕ) (vars new : Variables) → put_var name value vars ≡ Some new → value_of name new ≡ Some value
+put-told name value vars new h = ap (value_of name) (put_is name value vars new h) ∙ value-at name value vars
+
 -- of the variable beside the table, and of the others
 pub value-own : (beside : Bool) (name value : List ℕ) (vars : Variables) (asked : List ℕ) → beside ≡ true → asked ≡ name → value_of asked (with_beside beside name value vars) ≡ Some value
 value-own true name value vars asked b same = ap (λ n. value_of n (with_var name value vars)) same ∙ value-at name value vars
@@ -231,7 +233,7 @@ module _ (name value : List ℕ) (vars : Variables) (kept : IsKept (bytes_of var
 abbrev refusal : VarError → Result (Unit {0}) VarError
 refusal error = Err error
 
--- over a value of as many bytes no call is refused for want of memory
+-- over a value of as many bytes no call runs out of memory
 abbrev pub refuses : List ℕ → VarError → List ℕ → Type 0
 refuses new error old = length old ≡ length new → refusal error ≢ refusal NoMemory
 
@@ -345,7 +347,7 @@ module _ (name value : List ℕ) (vars : Variables) (kept : IsKept (bytes_of var
 pub set_beside : (name value : List ℕ) (vars next : Variables) → put_var name value vars ≡ Some next → IsBeside false name value next
 set_beside name value vars next h = record {
   before = value;
-  defined = ap (value_of name) (put_is name value vars next h) ∙ value-at name value vars;
+  defined = put-told name value vars next h;
   alike = refl;
   short = put_short name value vars next h;
   same = λ _. refl;
@@ -353,4 +355,8 @@ set_beside name value vars next h = record {
 
 pub set_seen : (name value : List ℕ) (vars next : Variables) → IsKept (bytes_of next) next → put_var name value vars ≡ Some next → put_var name value vars ≡ Some (with_beside true name value next)
 set_seen name value vars next kept h =
-    h ∙ ap Some (sym (with_var-same name value next kept.ordered (ap (value_of name) (put_is name value vars next h) ∙ value-at name value vars)))
+    h ∙ ap Some (sym (with_var-same name value next kept.ordered (put-told name value vars next h)))
+
+-- no element has an index variable with the name of the last sample's
+pub not_index : (name element : List ℕ) → name ≡ index_name element → is_same last_sample_ok name ≡ false
+not_index name element is = ap (is_same last_sample_ok) is

@@ -1,33 +1,8 @@
--- The variables of a thread: a map from names to values, as the list of its pairs in the order of the names' bytes.
+-- The variables of a thread: names with their values, and how many bytes they may have.
+pub use Rattle.name_map.specs.Names.{Variables, by_bytes, value_of, with_var, without_var, is_same, IsInOrder}
 use Rattle.std.specs.Prelude.{◌≡◌, ℕ, ◌+◌, ◌≤◌, Bool, ◌&&◌, nat_le, List, [], ◌∷◌, ◌++◌, codes, length, Option, Some, None, Result, Ok, Err, if◌then◌else◌}
-use Rattle.std.specs.declared.cmp.Ordering.{Ordering}
-use Rattle.std.specs.Ordering.{nat_cmp, is_eq}
-use Rattle.std.specs.Cmp.Lexicographic.{slice_cmp}
-use Rattle.std.specs.List.Sorted.{IsStrictlySortedBy}
-use Rattle.std.specs.Map.{lookup, remove_entry, keys_of}
-use Rattle.std.specs.BTreeMap.{is_at, insert_entry}
 use Rattle.var_functions.specs.declared.error.VarError.{VarError}
 use Rattle.var_functions.specs.declared.error.VarError.TheVariants.{ValueLimit, NoMemory}
-
--- names with their values
-abbrev pub Variables : Type 0
-Variables = List (List ℕ × List ℕ)
-
--- the order of names
-abbrev pub by_bytes : List ℕ → List ℕ → Ordering
-by_bytes = slice_cmp nat_cmp
-
--- the value of a name, where it is defined
-abbrev pub value_of : List ℕ → Variables → Option (List ℕ)
-value_of name vars = lookup (is_at (by_bytes name)) vars
-
--- with this value at the name, in place of an old one
-abbrev pub with_var : List ℕ → List ℕ → Variables → Variables
-with_var name value vars = insert_entry by_bytes vars name value
-
--- without the name
-abbrev pub without_var : List ℕ → Variables → Variables
-without_var name vars = remove_entry (is_at (by_bytes name)) vars
 
 -- the bytes of all names and values
 abbrev pub bytes_of : Variables → ℕ
@@ -47,13 +22,16 @@ abbrev pub put_var : List ℕ → List ℕ → Variables → Option Variables
 put_var name value vars =
     if nat_le (length value) most_text && nat_le (bytes_of (with_var name value vars)) most_bytes then Some (with_var name value vars) else None
 
--- the same name
-abbrev pub is_same : List ℕ → List ℕ → Bool
-is_same name other = is_eq (by_bytes name other)
-
 -- the index variable of a looping element of this name
 abbrev pub index_name : List ℕ → List ℕ
 index_name name = codes "__jm__" ++ name ++ codes "__idx"
+
+-- the variable that says whether the last sample succeeded, and how it says so
+abbrev pub last_sample_ok : List ℕ
+last_sample_ok = codes "JMeterThread.last_sample_ok"
+
+abbrev pub truth_text : Bool → List ℕ
+truth_text ok = if ok then codes "true" else codes "false"
 
 -- the variables after one was to be set: as they are to be, or as they were
 abbrev pub Puts : Option Variables → Variables → Variables → Result (Unit {0}) VarError → Type 0
@@ -73,4 +51,4 @@ bytes_at name vars = bytes_found name (value_of name vars)
 pub record IsKept (bytes : ℕ) (vars : Variables) : Type 0 where
   pub sum : bytes ≡ bytes_of vars
   pub limit : bytes ≤ most_bytes
-  pub ordered : IsStrictlySortedBy by_bytes (keys_of vars)
+  pub ordered : IsInOrder vars

@@ -1,15 +1,14 @@
-// Variables in an ordered map, and how many bytes they have.
+// Variables in a map, how many bytes they have, and what is known of the last sample.
 
-ghost use Rattle.std.specs.Prelude.{◌≡◌, ◌≢◌, ◌≤◌, ◌<◌, ◌^◌, ◌-◌, ◌+◌, length, IfSome, MatchBool, [], None, Some, ℕ, List, OnOk, OnErr, IsOk, if◌then◌else◌};
+ghost use Rattle.std.specs.Prelude.{◌≡◌, ◌≢◌, ◌≤◌, ◌<◌, ◌^◌, ◌-◌, ◌+◌, length, true, false, IfSome, MatchBool, [], None, Some, ℕ, List, OnOk, if◌then◌else◌};
 ghost use Rattle.std.specs.Option.{option_copied};
-ghost use Rattle.var_functions.specs.Vars.{IsKept, value_of, put_var, without_var, is_same, Puts, bytes_at, bytes_of, bytes_found, most_bytes};
+ghost use Rattle.var_functions.specs.Vars.{IsKept, value_of, put_var, without_var, is_same, Puts, bytes_at, bytes_of, bytes_found, most_bytes, last_sample_ok, truth_text};
 
 use crate::error::VarError;
-use jm_base::{M, Text};
+use jm_base::Text;
+use name_map::NameMap;
 use std::alloc::Global;
-use std::collections::BTreeMap;
 use std::marker::Model;
-use std::mem::replace;
 
 /// How many bytes a value may have, and so an argument of a function and a whole expansion.
 pub const MOST_TEXT: usize = 65536;
@@ -17,22 +16,27 @@ pub const MOST_TEXT: usize = 65536;
 /// How many bytes all names and values of a thread may have.
 const MOST_BYTES: usize = 4194304;
 
+/// The variable that says whether the last sample succeeded.
+const LAST_SAMPLE_OK: &[u8] = b"JMeterThread.last_sample_ok";
+
 /// A map from names to values.
 #[derive(Drop)]
 pub struct Table {
-    pairs: BTreeMap<Vec<u8>, Text>,
+    pairs: NameMap,
     bytes: usize,
+    // What the variable of the last sample says, where that is known without a search.
+    last_ok: Option<bool>,
 }
 
 impl Model for Table {
-    ghost use Rattle.std.specs.Prelude.{map};
     ghost use Rattle.var_functions.specs.Vars.{Variables, IsKept};
+    ghost use Rattle.var_functions.specs.Beside.{IsKnown};
 
     ghost Value = { Variables };
 
-    ghost view = { λ v. map (λ e. (e.0.items, e.1)) v.pairs.entries };
+    ghost view = { λ v. v.pairs };
 
-    ghost invariant = { λ v. IsKept v.bytes (map (λ e. (e.0.items, e.1)) v.pairs.entries) };
+    ghost invariant = { λ v. IsKept v.bytes v.pairs × IsKnown v.last_ok v.pairs };
 }
 
 /// How many bytes a name of that many and its value have, where it is defined.
@@ -46,20 +50,27 @@ fn bytes_found(named: usize, value: &Option<Text>) -> usize
     }
 }
 
-/// Writes a value over another one, in its memory where it has as many bytes. A call that refuses changes nothing.
-pub fn write_over(alloc: Global, text: &mut Text, value: &[u8]) -> M<()>
-    ensures ok { OnOk result (text.new ≡ value.now) }
-    ensures err { OnErr result (text.new ≡ text.old) }
-    ensures memory { length text.old ≡ length value.now → IsOk result }
+/// What stays known of the last sample when a variable of this name changes.
+fn known_after(known: Option<bool>, name: &[u8]) -> Option<bool>
+    ensures { IfSome result (λ ok. (known ≡ Some ok) × (is_same last_sample_ok name.now ≡ false)) }
 {
-    if text.bytes().len() != value.len() {
-        *text = Text::new(alloc, value)?;
-        return Ok(());
+    if name == LAST_SAMPLE_OK { None } else { known }
+}
+
+/// Whether the last sample is known to have succeeded, or not to have.
+fn is_known(known: Option<bool>, ok: bool) -> bool
+    ensures { result ≡ true → known ≡ Some ok }
+{
+    match known {
+        Some(known) => known == ok,
+        None => false,
     }
-    let mut bytes = replace(text, Text::of(Vec::new(alloc))).into_vec();
-    bytes.copy_from_slice(value);
-    *text = Text::of(bytes);
-    Ok(())
+}
+
+fn truth_text(ok: bool) -> &'static [u8]
+    ensures { result.now ≡ truth_text ok }
+{
+    if ok { b"true" } else { b"false" }
 }
 
 impl Table {
@@ -68,8 +79,9 @@ impl Table {
         ensures { result ≡ [] }
     {
         Table {
-            pairs: BTreeMap::new(alloc),
+            pairs: NameMap::new(alloc),
             bytes: 0,
+            last_ok: None,
         }
     }
 
@@ -80,7 +92,7 @@ impl Table {
         let _bytes = self.bytes;
     }
 
-    /// The value of a name, where it is defined. The time is that of a search in an ordered map.
+    /// The value of a name, where it is defined. The time is that of a search by a hash.
     pub fn get(&self, name: &[u8]) -> Option<&Text>
         ensures { option_copied result ≡ value_of name.now self.now }
     {
@@ -107,7 +119,7 @@ impl Table {
         most <= MOST_BYTES || most - self.bytes_at(name) <= MOST_BYTES
     }
 
-    /// Sets a variable, in place of the value that it had. The time is that of a search in an ordered map. A variable
+    /// Sets a variable, in place of the value that it had. The time is that of a search by a hash. A variable
     /// that is defined already takes no memory.
     ///
     /// `ValueLimit` comes where the value would have more than 65,536 bytes, or all names and values together more than
@@ -126,17 +138,15 @@ impl Table {
         if !self.has_room(name.bytes(), named + length) {
             return Err(VarError::ValueLimit);
         }
-        match self.pairs.insert(name.into_vec(), value) {
-            Ok(old) => {
-                self.bytes = self.bytes - bytes_found(named, &old) + (named + length);
-                Ok(())
-            }
-            Err(_) => Err(VarError::NoMemory),
-        }
+        let known = known_after(self.last_ok, name.bytes());
+        let old = self.pairs.insert(name, value)?;
+        self.bytes = self.bytes - bytes_found(named, &old) + (named + length);
+        self.last_ok = known;
+        Ok(())
     }
 
     /// Sets a variable to a copy of a value, in place of the value that it had, and in its memory where that has as many
-    /// bytes: then it takes none. The time is that of a search in an ordered map. A call that refuses changes nothing.
+    /// bytes: then it takes none. The time is that of a search by a hash. A call that refuses changes nothing.
     ///
     /// `ValueLimit` comes where the value would have more than 65,536 bytes, or all names and values together more than
     /// 4,194,304, without the old value of this name.
@@ -151,15 +161,26 @@ impl Table {
         if !self.has_room(name, name.len() + length) {
             return Err(VarError::ValueLimit);
         }
-        match self.pairs.get_mut(name) {
-            Some(old) => {
-                let before = old.bytes().len();
-                write_over(alloc, old, value)?;
-                self.bytes = self.bytes - before + length;
-                Ok(())
-            }
-            None => self.put(Text::new(alloc, name)?, Text::new(alloc, value)?),
+        let known = known_after(self.last_ok, name);
+        let Some(before) = self.pairs.write(alloc, name, value)? else {
+            return self.put(Text::new(alloc, name)?, Text::new(alloc, value)?);
+        };
+        self.bytes = self.bytes - before + length;
+        self.last_ok = known;
+        Ok(())
+    }
+
+    /// Sets whether the last sample succeeded, as `put_copy` sets a variable to `true` or `false`, but without a search where
+    /// the last call of this kind said the same.
+    pub fn put_last_ok(&mut self, alloc: Global, ok: bool) -> Result<(), VarError>
+        ensures { Puts (put_var last_sample_ok (truth_text ok) self.old) self.old self.new result }
+    {
+        if is_known(self.last_ok, ok) {
+            return Ok(());
         }
+        self.put_copy(alloc, LAST_SAMPLE_OK, truth_text(ok))?;
+        self.last_ok = Some(ok);
+        Ok(())
     }
 
     /// Takes a variable out, where it is defined. It takes no memory.
@@ -170,5 +191,6 @@ impl Table {
     {
         let old = self.pairs.remove(name);
         self.bytes -= bytes_found(name.len(), &old);
+        self.last_ok = known_after(self.last_ok, name);
     }
 }

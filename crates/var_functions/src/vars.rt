@@ -2,13 +2,14 @@
 
 ghost use Rattle.std.specs.Prelude.{◌≡◌, ◌≢◌, ◌↔◌, ◌++◌, length, decimal, false, IfSome, MatchBool, true, [], None, Some, ℕ, List, OnOk, OnErr, if◌then◌else◌};
 ghost use Rattle.std.specs.Option.{option_copied};
-ghost use Rattle.var_functions.specs.Vars.{value_of, put_var, without_var, is_same, index_name, Puts};
+ghost use Rattle.var_functions.specs.Vars.{value_of, put_var, without_var, is_same, index_name, last_sample_ok, truth_text, Puts};
 ghost use Rattle.var_functions.specs.Beside.{with_beside, IsBeside};
 
 use crate::error::VarError;
-use crate::table::{MOST_TEXT, Table, write_over};
+use crate::table::{MOST_TEXT, Table};
 use itoa::Buffer;
 use jm_base::{M, NoMemory, Text};
+use name_map::write_over;
 use std::alloc::Global;
 use std::marker::Model;
 
@@ -64,7 +65,8 @@ fn name_index(own: &mut Vec<u8>, name: &mut Vec<u8>, element: &[u8]) -> M<()>
     Ok(())
 }
 
-/// Writes a value that stands beside the table into it, if the table has an older one. A call that refuses changes nothing.
+/// Writes a value that stands beside the table into it, if the table has an older one. The table doesn't refuse that, as it
+/// has a value of as many bytes; no clause says so. A call that refuses changes nothing.
 fn settle(
     alloc: Global,
     beside: bool,
@@ -102,7 +104,7 @@ impl Vars {
         }
     }
 
-    /// The value of a name, where it is defined. The time is that of a search in an ordered map.
+    /// The value of a name, where it is defined. The time is that of a search by a hash.
     pub fn get(&self, name: &[u8]) -> Option<&Text>
         ensures { option_copied result ≡ value_of name.now self.now }
     {
@@ -112,7 +114,7 @@ impl Vars {
         self.table.get(name)
     }
 
-    /// Sets a variable, in place of the value that it had. The time is that of a search in an ordered map. A variable
+    /// Sets a variable, in place of the value that it had. The time is that of a search by a hash. A variable
     /// that is defined already takes no memory.
     ///
     /// `ValueLimit` comes where the value would have more than 65,536 bytes, or all names and values together more than
@@ -141,7 +143,7 @@ impl Vars {
     }
 
     /// Sets a variable to a copy of a value, in place of the value that it had, and in its memory where that has as many
-    /// bytes: then it takes none. The time is that of a search in an ordered map. A call that refuses changes nothing.
+    /// bytes: then it takes none. The time is that of a search by a hash. A call that refuses changes nothing.
     ///
     /// `ValueLimit` comes where the value would have more than 65,536 bytes, or all names and values together more than
     /// 4,194,304, without the old value of this name.
@@ -204,8 +206,22 @@ impl Vars {
         Ok(())
     }
 
-    /// Whether a name is defined with this value, so that setting it again changes nothing. The time is that of a search in
-    /// an ordered map. A value of more than 65,536 bytes is none that can be set.
+    /// Sets the variable `JMeterThread.last_sample_ok` to `true` or `false`, as `put_copy` sets it, but without a search where
+    /// the last call of this kind said the same.
+    ///
+    /// `ValueLimit` comes where all names and values together would have more than 4,194,304 bytes, without the old value of
+    /// this name. A call that refuses changes nothing.
+    pub fn put_last_ok(&mut self, alloc: Global, ok: bool) -> Result<(), VarError>
+        ensures { Puts (put_var last_sample_ok (truth_text ok) self.old) self.old self.new result }
+    {
+        self.table.kept();
+        self.table.put_last_ok(alloc, ok)?;
+        self.table.kept();
+        Ok(())
+    }
+
+    /// Whether a name is defined with this value, so that setting it again changes nothing. The time is that of a
+    /// search by a hash. A value of more than 65,536 bytes is none that can be set.
     pub fn is_set(&self, name: &[u8], value: &[u8]) -> bool
         ensures { (result ≡ true) ↔ (put_var name.now value.now self.now ≡ Some self.now) }
     {

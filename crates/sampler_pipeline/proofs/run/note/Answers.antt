@@ -12,8 +12,8 @@ use Rattle.sampler_pipeline.proofs.run.note.Goals as goal
 
 pub returns-clause-came : goal.returns-clause-came
 returns-clause-came c = λ a sample is.
-    change-came a (λ vars. Sets last_sample_ok (truth_text sample.ok) ∷ []) c.args.state.now c.put_copy.new.vars c.put_copy.result
-    (puts-changes last_sample_ok (truth_text sample.ok) c.args.state.now.vars c.put_copy.new.vars c.put_copy.result (rw (is, ← c.truth_text.ensures) c.put_copy.ensures.exact))
+    change-came a (λ vars. Sets last_sample_ok (truth_text sample.ok) ∷ []) c.args.state.now c.put_last_ok.new.self c.put_last_ok.result
+    (puts-changes last_sample_ok (truth_text sample.ok) c.args.state.now.vars c.put_last_ok.new.self c.put_last_ok.result (rw is c.put_last_ok.ensures))
 
 pub returns-clause-later : goal.returns-clause-later
 returns-clause-later c = later_same _
@@ -21,4 +21,4 @@ returns-clause-later c = later_same _
 pub returns-clause-kept : goal.returns-clause-kept
 returns-clause-kept c =
     let with : Variables → UserState = λ vars. record { vars = vars; fns = c.args.state.now.fns } in
-    puts_refused _ c.args.state.now.vars c.put_copy.new.vars c.put_copy.result c.put_copy.ensures.exact (λ same. ap with same)
+    puts_refused _ c.args.state.now.vars c.put_last_ok.new.self c.put_last_ok.result c.put_last_ok.ensures (λ same. ap with same)

@@ -4,7 +4,7 @@ use Rattle.std.specs.Bool.{Decides}
 use Rattle.std.proofs.lemmas.Bool.Decides.{Decides-eqb}
 use Rattle.std.proofs.lemmas.Slice.Eq.{slice_eq-Decides}
 use Rattle.var_functions.specs.Vars.{is_same}
-use Rattle.var_functions.proofs.VarLaws.{same_from_is}
+use Rattle.name_map.proofs.NameLaws.{same_from_is}
 use Rattle.var_functions.proofs.vars.is_beside.Goals as goal
 
 decided : (r beside : Bool) (asked name : List ℕ) → beside ≡ true → Decides r (asked ≡ name) → MatchBool r ((beside ≡ true) × (asked ≡ name)) (beside ≡ true → is_same asked name ≡ false)

@@ -6,17 +6,17 @@ use Rattle.var_functions.proofs.table.Table.has_room.Goals as goal
 
 pub overflow_sub-result : goal.overflow_sub-result
 overflow_sub-result c =
-    let kept : IsKept c.self.inside.bytes c.args.self.now = subst (IsKept c.self.inside.bytes) c.self.view_is c.self.invariant in
+    let kept : IsKept c.self.inside.bytes c.args.self.now = subst (IsKept c.self.inside.bytes) c.self.view_is c.self.invariant.0 in
     omega (arith, kept.sum, c.bytes_at.ensures, bytes_at-le c.args.name.now c.args.self.now)
 
 pub returns-then-most-le-MOST_BYTES : goal.returns-then-most-le-MOST_BYTES
 returns-then-most-le-MOST_BYTES c =
-    let kept : IsKept c.self.inside.bytes c.args.self.now = subst (IsKept c.self.inside.bytes) c.self.view_is c.self.invariant in
+    let kept : IsKept c.self.inside.bytes c.args.self.now = subst (IsKept c.self.inside.bytes) c.self.view_is c.self.invariant.0 in
     at_once (c.self.inside.bytes + c.args.added) 4194304 _ _ c.if-most-le-MOST_BYTES.true (omega (arith, kept.sum, c.if-most-le-MOST_BYTES.true))
 
 pub returns-else-most-le-MOST_BYTES : goal.returns-else-most-le-MOST_BYTES
 returns-else-most-le-MOST_BYTES c =
-    let kept : IsKept c.self.inside.bytes c.args.self.now = subst (IsKept c.self.inside.bytes) c.self.view_is c.self.invariant in
+    let kept : IsKept c.self.inside.bytes c.args.self.now = subst (IsKept c.self.inside.bytes) c.self.view_is c.self.invariant.0 in
     let same : c.self.inside.bytes + c.args.added - c.bytes_at.result ≡ bytes_of c.args.self.now - bytes_at c.args.name.now c.args.self.now + c.args.added =
     omega (arith, kept.sum, c.bytes_at.ensures, bytes_at-le c.args.name.now c.args.self.now) in
     subst (λ n. MatchBool (nat_le (c.self.inside.bytes + c.args.added - c.bytes_at.result) most_bytes) (n ≤ most_bytes) (most_bytes < n)) same (within (c.self.inside.bytes + c.args.added - c.bytes_at.result) most_bytes)

@@ -1,7 +1,7 @@
-use Rattle.std.proofs.Common.{refl, sym, subst, arith, map, []}
+use Rattle.std.proofs.Common.{refl, sym, subst, arith, None, []}
 use Rattle.std.specs.List.Sorted.{IsStrictlySortedBy}
 use Rattle.var_functions.specs.Vars.{IsKept}
-use Rattle.var_functions.proofs.VarLaws.{seen}
+use Rattle.var_functions.specs.Beside.{IsKnown}
 use Rattle.var_functions.proofs.table.Table.new.Goals as goal
 
 nothing : IsKept 0 []
@@ -9,4 +9,4 @@ unfolding IsStrictlySortedBy
 nothing = record { sum = refl; limit = omega arith; ordered = tt }
 
 pub invariant_of-result : goal.invariant_of-result
-invariant_of-result c = subst (λ es. IsKept 0 (map seen es)) (sym c.new.ensures.empty) nothing
+invariant_of-result c = subst (λ vars. IsKept 0 vars × IsKnown None vars) (sym c.new.ensures) (nothing, tt)

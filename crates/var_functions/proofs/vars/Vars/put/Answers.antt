@@ -2,7 +2,7 @@ use Rattle.std.proofs.Common.{◌≡◌, ◌∙◌, true, false, Some, Err, ap, 
 use Rattle.std.specs.Prelude.{MatchBool}
 use Rattle.var_functions.specs.Vars.{value_of, put_var, is_same, Puts}
 use Rattle.var_functions.specs.Beside.{with_beside}
-use Rattle.var_functions.proofs.VarLaws.{value_of-with_var}
+use Rattle.name_map.proofs.NameLaws.{value_of-with_var}
 use Rattle.var_functions.proofs.BesideLaws.{at_true, at_false, put-own, put-other, stands-other, refused-puts, put_is, none-too}
 use Rattle.var_functions.proofs.vars.Vars.put.Goals as goal
 

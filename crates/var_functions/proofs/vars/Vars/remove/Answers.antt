@@ -4,7 +4,7 @@ use Rattle.std.specs.List.Sorted.{IsStrictlySortedBy}
 use Rattle.std.specs.Map.{keys_of}
 use Rattle.var_functions.specs.Vars.{value_of, without_var, is_same, by_bytes}
 use Rattle.var_functions.specs.Beside.{with_beside}
-use Rattle.var_functions.proofs.VarLaws.{value_of-without_var}
+use Rattle.name_map.proofs.NameLaws.{value_of-without_var}
 use Rattle.var_functions.proofs.BesideLaws.{at_true, at_false, all-kept, without-own, without-other, without-stands}
 use Rattle.var_functions.specs.Beside.{IsBeside}
 use Rattle.var_functions.proofs.vars.Vars.remove.Goals as goal
