@@ -28,10 +28,13 @@ pub record SaysTheSame (a b : Sample) : Type 0 where
   pub message : a.message ≡ b.message
   pub failure : a.failure ≡ b.failure
 
--- a line with this text between the elapsed time and the bytes
+-- a line after its stamp and the comma, with this text between the elapsed time and the bytes
+abbrev pub after_stamp : Sample → ℕ → List ℕ → List ℕ
+after_stamp s interval middle = decimal s.elapsed ++ comma ∷ (middle ++ comma ∷ (decimal s.bytes ++ comma ∷ (decimal interval ++ line_feed ∷ [])))
+
+-- the whole line
 abbrev pub between : Sample → ℕ → List ℕ → List ℕ
-between s interval middle =
-    decimal s.stamp ++ comma ∷ (decimal s.elapsed ++ comma ∷ (middle ++ comma ∷ (decimal s.bytes ++ comma ∷ (decimal interval ++ line_feed ∷ []))))
+between s interval middle = decimal s.stamp ++ comma ∷ after_stamp s interval middle
 
 -- the numbers around that text are those of machine words
 pub record AreWords (s : Sample) (interval : ℕ) : Type 0 where
@@ -39,6 +42,26 @@ pub record AreWords (s : Sample) (interval : ℕ) : Type 0 where
   pub elapsed : s.elapsed < 2 ^ 64
   pub bytes : s.bytes < 2 ^ 64
   pub number : interval < 2 ^ 64
+
+-- a text has the middle of a sample's line after it
+abbrev pub AppendsMiddle : Tree → ℕ → Sample → List ℕ → List ℕ → Type 0
+AppendsMiddle plan thread s old new = (middle : List ℕ) × IsMiddle plan thread s middle × (new ≡ old ++ middle)
+
+-- this text is a sample's line after its stamp and the comma
+pub record IsTail (plan : Tree) (thread : ℕ) (s : Sample) (interval : ℕ) (tail : List ℕ) : Type 0 where
+  pub middle : List ℕ
+  pub is : IsMiddle plan thread s middle
+  pub text : tail ≡ after_stamp s interval middle
+  pub elapsed : s.elapsed < 2 ^ 64
+  pub bytes : s.bytes < 2 ^ 64
+  pub number : interval < 2 ^ 64
+
+-- the lines of two samples, counted in these intervals, are alike after their stamps
+pub record EndsTheSame (a b : Sample) (i j : ℕ) : Type 0 where
+  pub says : SaysTheSame a b
+  pub elapsed : a.elapsed ≡ b.elapsed
+  pub bytes : a.bytes ≡ b.bytes
+  pub interval : i ≡ j
 
 -- a text is another one with something after it
 abbrev pub BeginsWith : List ℕ → List ℕ → Type 0

@@ -3,6 +3,7 @@
 
 mod bulk;
 mod lines;
+mod middle_rows;
 mod reports;
 mod rows;
 mod texts;

@@ -1,8 +1,7 @@
 -- Texts that are put one after the other.
 use Rattle.std.proofs.Common.{◌≡◌, ℕ, ◌+◌, ◌<◌, List, [], ◌∷◌, ◌++◌, length, get_or, take, drop, Option, refl, sym, ap, ◌∙◌, append_assoc, subst, add-one, suc, arith}
-use Rattle.std.specs.Prelude.{◌≢◌, All, Result, Ok, Err}
-use Rattle.std.proofs.Math.Seq.{take-suc, take-append_seam, drop-append_seam}
-use Rattle.std.proofs.lemmas.List.Elements.{All-take, All-drop}
+use Rattle.std.specs.Prelude.{◌≢◌, Result, Ok, Err}
+use Rattle.std.proofs.Math.Seq.{take-suc}
 use Rattle.std.proofs.lemmas.List.{append-nil, take-append-drop, length-take-le}
 use Rattle.std.proofs.lemmas.Grind.{flat_map-append}
 use Rattle.jm_base.specs.FaultCounts.{Rose}
@@ -75,41 +74,23 @@ lines_more plan thread trace i item within =
 
 -- ---- a trace, a few items at a time
 
-module _ (plan : Tree) (thread : ℕ) (trace left items rest : List TraceItem) (parts : left ≡ items ++ rest) (done : List ℕ)
-    (so_far : done ++ trace_text plan thread left ≡ trace_text plan thread trace) where
-  abbrev own : List ℕ
-  own = trace_text plan thread items
-
+module _ (plan : Tree) (thread : ℕ) (trace left : List TraceItem) (count : ℕ) (text : List ℕ) (own : text ≡ trace_text plan thread (take count left))
+    (done : List ℕ) (so_far : done ++ trace_text plan thread left ≡ trace_text plan thread trace) where
   abbrev more : List ℕ
-  more = trace_text plan thread rest
+  more = trace_text plan thread (drop count left)
 
   -- the lines up to these items, their own, and those after them
-  lines_split : done ++ (own ++ more) ≡ trace_text plan thread trace
-  lines_split = ap (λ l. done ++ l) (sym (ap (trace_text plan thread) parts ∙ flat_map-append (line_of plan thread) items rest)) ∙ so_far
+  lines_split : done ++ (text ++ more) ≡ trace_text plan thread trace
+  lines_split =
+      let whole = flat_map-append (line_of plan thread) (take count left) (drop count left) in
+      ap (λ l. done ++ l) (ap (λ t. t ++ more) own ∙ sym whole ∙ ap (trace_text plan thread) (take-append-drop count left)) ∙ so_far
 
-  pub next_left : (done ++ own) ++ more ≡ trace_text plan thread trace
-  next_left = append_assoc done own more ∙ lines_split
+  pub next_left : (done ++ text) ++ more ≡ trace_text plan thread trace
+  next_left = append_assoc done text more ∙ lines_split
 
-  module _ (u v w : Way) (before : IsPut done u v) where
-    -- their own lines are put, too
-    pub next_put : IsPut own v w → IsPut (done ++ own) u w
-    next_put p = put_more done own u v w before p
-
-    pub next_short : (e : PrintError) → HasPut own v w (Err e) → HasPut (trace_text plan thread trace) u w (Err e)
-    next_short WriteFault f = subst (λ l. IsFailed l u w) lines_split (failed_more done (own ++ more) u v w before (failed_wider own more v w f))
-    next_short NoMemory c = subst (λ l. IsCut l u w) lines_split (cut_more done own more u v w before c)
-
--- a list that is cut at a place is its first part and the rest
-pub cut_parts : {X : Type 0} (n : ℕ) (xs first rest : List X) → first ≡ take n xs → rest ≡ drop n xs → xs ≡ first ++ rest
-cut_parts n xs first rest is after =
-    subst (λ l. xs ≡ l ++ rest) (sym is) (subst (λ l. xs ≡ take n xs ++ l) (sym after) (sym (take-append-drop n xs)))
-
--- what holds of all items holds of the first of them and of the rest
-pub all_parts : {X : Type 0} (P : X → Type 0) → (xs ys : List X) → All P (xs ++ ys) → All P xs × All P ys
-all_parts P xs ys all = (
-  subst (All P) (take-append_seam xs ys) (All-take P (length xs) (xs ++ ys) all),
-  subst (All P) (drop-append_seam xs ys) (All-drop P (length xs) (xs ++ ys) all),
-)
+  pub next_short : (u v w : Way) → IsPut done u v → (e : PrintError) → HasPut text v w (Err e) → HasPut (trace_text plan thread trace) u w (Err e)
+  next_short u v w before WriteFault f = subst (λ l. IsFailed l u w) lines_split (failed_more done (text ++ more) u v w before (failed_wider text more v w f))
+  next_short u v w before NoMemory c = subst (λ l. IsCut l u w) lines_split (cut_more done text more u v w before c)
 
 -- ---- the elements of a list, each by its number
 

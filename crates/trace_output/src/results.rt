@@ -1,6 +1,6 @@
 // Result lines.
 
-ghost use Rattle.std.specs.Prelude.{◌≡◌, ◌<◌, ◌≤◌, ◌++◌, All, length, OnOk, OnErr};
+ghost use Rattle.std.specs.Prelude.{ℕ, ◌≡◌, ◌<◌, ◌≤◌, ◌++◌, All, length, take, IfOk, OnOk, OnErr};
 ghost use Rattle.element_tree.specs.Tree.{threads_of};
 ghost use Rattle.element_tree.specs.Names.{labels_of};
 ghost use Rattle.output_lines.specs.Lines.{header_text};
@@ -13,19 +13,18 @@ use crate::error::PrintError;
 use crate::line::{finish, put_lines};
 use edge_io::Sink;
 use element_tree::Plan;
-use jm_base::{Items, M, NoMemory, Text};
+use jm_base::{Items, M, NoMemory};
 use line_output::Pending;
 use output_lines::{ResultLines, header_line};
 use std::alloc::Global;
 use thread_machine::TraceItem;
 
-// How many bytes the lines have at most that are formed in one text, where one line alone has no more: with what is held
-// back on the way to the sink these are less than 64 KiB.
-const TEXT_ROOM: usize = 16_384;
+// A text ends with the line that brings it to this many bytes.
+const TEXT_ROOM: usize = 16_000;
 
-// How many bytes a line has at most beside its label, its message, its failure and the thread's name: numbers of up to 20, 10,
-// 5, 10 and 20 digits, `false`, nine commas, the quotes around four fields and the end of the line.
-const LINE_ROOM: usize = 88;
+// A text has memory for this many bytes from the start, and lines of up to 384 bytes ask for no more. Where no line has more
+// than 16 KiB, the text and what is held back on the way to the sink are less than 64 KiB.
+const TEXT_MEMORY: usize = 16_384;
 
 /// Prints the header and a line for each sample of a thread's trace, in its order, with the interval in which the sample
 /// was counted. Where memory runs out a prefix of this is out; where the sink fails, too.
@@ -104,13 +103,13 @@ fn put_traces<K: Sink>(
 }
 
 // Puts the line of each sample.
-fn put_trace<K: Sink>(
+fn put_trace<'a, K: Sink>(
     alloc: Global,
     pending: &mut Pending,
     sink: &mut K,
-    plan: &Plan,
+    plan: &'a Plan,
     thread: u16,
-    trace: &[TraceItem],
+    trace: &'a [TraceItem],
 ) -> Result<(), PrintError>
     requires thread { thread < length (threads_of plan.now) }
     requires labels { All (IsLabelled (length (labels_of plan.now.elements))) trace.now }
@@ -118,117 +117,75 @@ fn put_trace<K: Sink>(
         (way (K.written sink.old) (K.faults sink.old) pending.old)
         (way (K.written sink.new) (K.faults sink.new) pending.new) result }
 {
-    let Ok(name) = plan.thread_name(alloc, thread) else {
+    let Ok(mut lines) = ResultLines::new(alloc, plan, thread) else {
+        return Err(PrintError::NoMemory);
+    };
+    let Ok(mut text) = Vec::with_capacity(alloc, TEXT_MEMORY) else {
         return Err(PrintError::NoMemory);
     };
     let mut rest = trace;
     'texts: while !rest.is_empty() {
-        let (items, after) = rest.split_at(fitting(plan, &name, rest));
-        put_items(alloc, pending, sink, plan, thread, items)?;
+        text.clear();
+        let Ok(count) = result_lines(&mut lines, &mut text, rest, TEXT_ROOM) else {
+            return Err(PrintError::NoMemory);
+        };
+        put_lines(pending, sink, &text)?;
+        let (_, after) = rest.split_at(count);
         rest = after;
     }
     Ok(())
 }
 
-// How many of the first items are printed together: as many as have room, and at least one.
-fn fitting(plan: &Plan, name: &Text, items: &[TraceItem]) -> usize
-    requires some { 0 < length items.now }
-    requires labels { All (IsLabelled (length (labels_of plan.now.elements))) items.now }
-    ensures some { 1 ≤ result }
-    ensures within { result ≤ length items.now }
-{
-    let mut room = TEXT_ROOM;
-    let mut count: usize = 0;
-    for item in items {
-        let line = line_room(plan, name, item);
-        if line > room {
-            return count.max(1);
-        }
-        room -= line;
-        count += 1;
-    }
-    count
-}
-
-// How many bytes the line of an item has at most: none, if it is no sample.
-fn line_room(plan: &Plan, name: &Text, item: &TraceItem) -> usize
-    requires label { IsLabelled (length (labels_of plan.now.elements)) item.now }
-{
-    match item {
-        TraceItem::Sampled { sample, .. } => {
-            let label = plan.label_text(sample.label).bytes().len();
-            let message = sample.message.bytes().len();
-            let failure = sample.failure.bytes().len();
-            let texts = label
-                .saturating_add(message)
-                .saturating_add(failure)
-                .saturating_add(name.bytes().len());
-            // each quote in a text is written twice
-            texts.saturating_mul(2).saturating_add(LINE_ROOM)
-        }
-        TraceItem::Paused(_)
-        | TraceItem::Null { .. }
-        | TraceItem::Entered { .. }
-        | TraceItem::Left { .. }
-        | TraceItem::Ended(_) => 0,
-    }
-}
-
-// Puts the line of each sample of a few items of a trace.
-fn put_items<K: Sink>(
-    alloc: Global,
-    pending: &mut Pending,
-    sink: &mut K,
-    plan: &Plan,
-    thread: u16,
-    items: &[TraceItem],
-) -> Result<(), PrintError>
-    requires thread { thread < length (threads_of plan.now) }
-    requires labels { All (IsLabelled (length (labels_of plan.now.elements))) items.now }
-    ensures { HasPut (trace_text plan.now thread items.now)
-        (way (K.written sink.old) (K.faults sink.old) pending.old)
-        (way (K.written sink.new) (K.faults sink.new) pending.new) result }
-{
-    let mut lines = Vec::new(alloc);
-    if result_lines(alloc, &mut lines, plan, thread, items).is_err() {
-        return Err(PrintError::NoMemory);
-    }
-    put_lines(pending, sink, &lines)
-}
-
-/// Appends a line for each sample of a thread's trace, or of some items of it, as `output_lines::result_line` does for each
-/// of them, but faster. Out of memory appends nothing.
+/// Appends the line of each sample of these items of a trace, one after another, until the text has `most` bytes or more,
+/// and answers of how many items. So a long trace is printed in texts of about that size, each with the lines of the items
+/// that the one before it left; where `most` is `usize::MAX` the lines of a whole trace are appended. Where memory runs out
+/// at one of the lines, that is the error, and nothing is appended.
 pub fn result_lines<'a>(
-    alloc: Global,
+    lines: &mut ResultLines<'a>,
     out: &mut Vec<u8>,
-    plan: &'a Plan,
-    thread: u16,
     items: &'a [TraceItem],
-) -> M<()>
-    requires thread { thread < length (threads_of plan.now) }
-    requires labels { All (IsLabelled (length (labels_of plan.now.elements))) items.now }
-    ensures ok { OnOk result (out.new.items ≡ out.old.items ++ trace_text plan.now thread items.now) }
+    most: usize,
+) -> M<usize>
+    requires { All (IsLabelled (length (labels_of lines.old.plan.elements))) items.now }
+    ensures ok { IfOk result (λ count. out.new.items ≡ out.old.items ++ trace_text lines.old.plan lines.old.thread (take count items.now)) }
+    ensures within { IfOk result (λ count. count ≤ length items.now) }
+    ensures full { IfOk result (λ count. count < length items.now → most ≤ length out.new.items) }
+    ensures room { IfOk result (λ count. (k : ℕ) → k < count
+        → length (out.old.items ++ trace_text lines.old.plan lines.old.thread (take k items.now)) < most) }
     ensures err { OnErr result (out.new.items ≡ out.old.items) }
+    ensures same { lines.new ≡ lines.old }
 {
-    let mut lines = ResultLines::new(alloc, plan, thread)?;
     let length = out.len();
-    if add_lines(&mut lines, out, items).is_err() {
+    let Ok(count) = add_lines(lines, out, items, most) else {
         out.truncate(length);
         return Err(NoMemory);
-    }
-    Ok(())
+    };
+    Ok(count)
 }
 
-// Appends the line of each sample of these items. Out of memory a prefix of them is there.
-fn add_lines<'a>(lines: &mut ResultLines<'a>, out: &mut Vec<u8>, items: &'a [TraceItem]) -> M<()>
+// The same, but out of memory a part of the lines is there.
+fn add_lines<'a>(
+    lines: &mut ResultLines<'a>,
+    out: &mut Vec<u8>,
+    items: &'a [TraceItem],
+    most: usize,
+) -> M<usize>
     requires { All (IsLabelled (length (labels_of lines.old.plan.elements))) items.now }
-    ensures ok { OnOk result (out.new.items ≡ out.old.items ++ trace_text lines.old.plan lines.old.thread items.now) }
+    ensures ok { IfOk result (λ count. out.new.items ≡ out.old.items ++ trace_text lines.old.plan lines.old.thread (take count items.now)) }
+    ensures within { IfOk result (λ count. count ≤ length items.now) }
+    ensures full { IfOk result (λ count. count < length items.now → most ≤ length out.new.items) }
+    ensures room { IfOk result (λ count. (k : ℕ) → k < count
+        → length (out.old.items ++ trace_text lines.old.plan lines.old.thread (take k items.now)) < most) }
     ensures err { OnErr result (BeginsWith out.old.items out.new.items) }
+    ensures same { lines.new ≡ lines.old }
 {
-    for item in items {
+    'items: for (count, item) in items.iter().enumerate() {
+        if out.len() >= most {
+            return Ok(count);
+        }
         add_line(lines, out, item)?;
     }
-    Ok(())
+    Ok(items.len())
 }
 
 // Appends the line of an item, if it is a sample.

@@ -1,21 +1,21 @@
 use Rattle.std.proofs.Common.{◌≡◌, ◌++◌, ap, ◌∙◌, sym, subst, rules}
-use Rattle.output_lines.specs.Bulk.{LinesOf, IsMiddle}
-use Rattle.output_lines.proofs.Middles.{line_of_middle, told_middle}
-use Rattle.output_lines.proofs.bulk.ResultLines.add.Goals.{then-not-tells_of+in_ok-write_middle, else-not-tells_of}
+use Rattle.output_lines.specs.Bulk.{LinesOf, IsTail}
+use Rattle.output_lines.proofs.Middles.{line_of_tail, last_tail}
+use Rattle.output_lines.proofs.bulk.ResultLines.add.Goals.{then-not-ends_the_same+in_ok-write_tail, else-not-ends_the_same}
 use Rattle.output_lines.proofs.bulk.ResultLines.add.Goals as goal
 
 pub returns-clause-ok : goal.returns-clause-ok
 returns-clause-ok c =
     let lines = c.args.self.now in
     let s = c.args.sample.now in
-    let is : IsMiddle lines.plan lines.thread s c.deref.result.now =
-    elim c.if-not-tells_of.branch [
-      | then-not-tells_of+in_ok-write_middle w ↦ search rules
-      | else-not-tells_of w ↦
-          let kept : c.deref.result.now ≡ c.self.inside.middle.items = search rules in
-          subst (λ m. IsMiddle lines.plan lines.thread s m) (sym kept)
-          (subst (λ (l : LinesOf). IsMiddle l.plan l.thread s c.self.inside.middle.items) c.self.view_is
-          (told_middle c.self.inside.plan.now c.self.inside.thread s c.self.inside.middle.items c.self.inside.told c.self.invariant.2
-          (c.tells_of.ensures.same w.if-not-tells_of.false) (c.tells_of.ensures.some w.if-not-tells_of.false)))
+    let is : IsTail lines.plan lines.thread s c.args.interval c.deref.result.now =
+    elim c.if-not-ends_the_same.branch [
+      | then-not-ends_the_same+in_ok-write_tail w ↦ search rules
+      | else-not-ends_the_same w ↦
+          let kept : c.deref.result.now ≡ c.self.inside.tail.items = search rules in
+          subst (λ t. IsTail lines.plan lines.thread s c.args.interval t) (sym kept)
+          (subst (λ (l : LinesOf). IsTail l.plan l.thread s c.args.interval c.self.inside.tail.items) c.self.view_is
+          (last_tail c.self.inside.middles.plan c.self.inside.middles.thread s c.args.interval c.self.inside.tail.items c.self.inside.last c.self.invariant
+          (c.ends_the_same.ensures.same w.if-not-ends_the_same.false) (c.ends_the_same.ensures.some w.if-not-ends_the_same.false)))
     ] in
-    c.in_ok-append_line.ensures.ok ∙ ap (λ l. c.args.out.now.items ++ l) (line_of_middle lines.plan lines.thread c.args.interval s c.deref.result.now is c.in_ok-append_line.ensures.numbers)
+    c.in_ok-append_line.ensures.ok ∙ ap (λ l. c.args.out.now.items ++ l) (line_of_tail lines.plan lines.thread c.args.interval s c.deref.result.now is c.in_ok-append_line.ensures.number)

@@ -1,7 +1,7 @@
 use Rattle.std.proofs.Common.{rules, map, [], ◌∷◌, decimal}
 use Rattle.output_lines.specs.Lines.{truth}
 use Rattle.output_lines.proofs.NumberRows.{last_row}
-use Rattle.output_lines.proofs.bulk.write_middle.Goals as goal
+use Rattle.output_lines.proofs.middle_rows.write_middle.Goals as goal
 
 pub returns-clause-row : goal.returns-clause-row
 returns-clause-row c =
