@@ -1,5 +1,6 @@
 #!/bin/sh
-# How long one core takes to write the line of a sample into memory, 64 lines in one text; a run prints them in texts of up to 16 KiB. At most 130 ns is the aim.
+# How long one core takes to write the line of a sample into memory, 64 lines in one text. Each is in another interval than the one
+# before it, so what it says after its stamp is formed anew. A run prints lines in texts of some 16 KiB. At most 130 ns is the aim.
 # Usage: bench/lines.sh [ROUNDS]
 set -eu
 cd "$(dirname "$0")/.."

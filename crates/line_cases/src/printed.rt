@@ -106,15 +106,15 @@ pub fn result_case(
     Ok(())
 }
 
-// The same line 64 times in one text.
+// The same line 64 times in one text, in two intervals in turn, so that each is formed anew after its stamp.
 fn many_lines<'a>(alloc: Global, plan: &'a Plan, line: &'a Line) -> M<Vec<u8>>
     requires thread { line.now.thread < length (threads_of plan.now) }
     requires label { line.now.sample.label < length (labels_of plan.now.elements) }
 {
     let mut lines = ResultLines::new(alloc, plan, line.thread)?;
     let mut text = Vec::new(alloc);
-    for _ in 0..64 {
-        lines.add(&mut text, &line.sample, line.interval)?;
+    for number in 0..64u64 {
+        lines.add(&mut text, &line.sample, line.interval ^ (number & 1))?;
     }
     Ok(text)
 }
