@@ -1,4 +1,4 @@
-//! A map from names to texts. The time of a call does not depend on how many names there are.
+//! A map from names to texts, each found by its hash.
 #![tactic(auto)]
 
 mod map;

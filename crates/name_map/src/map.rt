@@ -63,6 +63,7 @@ impl NameMap {
     pub fn write(&mut self, alloc: Global, name: &[u8], value: &[u8]) -> M<Option<usize>>
         ensures old { IfOk result (λ old. old ≡ option_map length (value_of name.now self.old)) }
         ensures ok { IfOk result (λ old. self.new ≡ (if is_some old then with_var name.now value.now self.old else self.old)) }
+        ensures undefined { value_of name.now self.old ≡ None → IsOk result }
         ensures err { OnErr result (self.new ≡ self.old) }
         ensures memory { IfSome (value_of name.now self.old) (λ old. length old ≡ length value.now → IsOk result) }
         ensures ordered { IsInOrder self.new }

@@ -1,4 +1,4 @@
-use Rattle.std.proofs.Common.{◌≡◌, ◌∙◌, length, Some, true, false, refl, sym, ap, subst}
+use Rattle.std.proofs.Common.{◌≡◌, ◌∙◌, length, Some, None, true, false, refl, sym, ap, subst}
 use Rattle.std.specs.Prelude.{IfSome, IsSome, IsOk}
 use Rattle.std.specs.Option.{option_map}
 use Rattle.std.proofs.lemmas.Result.{err_from_is_err_and}
@@ -49,3 +49,9 @@ returns-clause-ok c =
 
 pub returns-clause-ordered : goal.returns-clause-ordered
 returns-clause-ordered c = listed-ordered (c.get_mut.follows.lender c.write_over.new.text).entries
+
+pub returns-in_err-write_over-clause-undefined : goal.returns-in_err-write_over-clause-undefined
+returns-in_err-write_over-clause-undefined c = λ none.
+    let found : Some c.in-Some.old.now ≡ value_of c.args.name.now c.args.self.now = c.in-Some.ensures.value ∙ lookup-listed c.args.name.now c.self.inside.pairs.entries ∙ ap (value_of c.args.name.now) c.self.view_is in
+    let refuted : Some c.in-Some.old.now ≡ None = found ∙ none in
+    cc
