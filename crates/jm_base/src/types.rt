@@ -30,14 +30,14 @@ pub struct Sample {
     pub code: u16,
     /// The response message, at most 256 bytes.
     pub message: Text,
-    /// Whether the sample succeeded.
-    pub ok: bool,
     /// The failure message of the first assertion that failed, empty where none did.
     pub failure: Text,
     /// The length of the reply's body.
     pub bytes: u32,
     /// How many listeners were handed the sample.
     pub listeners: u16,
+    /// Whether the sample succeeded.
+    pub ok: bool,
 }
 
 impl Sample {
