@@ -7,7 +7,7 @@ use Rattle.jm_base.specs.Outside.{Account, Goes}
 use Rattle.template_text.specs.Pieces.{Pieces}
 use Rattle.element_tree.specs.declared.package.Turn.{Turn}
 use Rattle.element_tree.specs.declared.package.Turn.TheVariants.{Child, Over}
-use Rattle.var_functions.specs.declared.error.VarError.{VarError}
+use Rattle.thread_vars.specs.declared.error.VarError.{VarError}
 use Rattle.var_functions.specs.declared.state.UserState.{UserState}
 use Rattle.var_functions.specs.FunctionState.{Functions}
 use Rattle.var_functions.specs.Expansion.{expanded, expansion}

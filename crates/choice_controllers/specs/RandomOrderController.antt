@@ -2,8 +2,8 @@
 use Rattle.std.specs.Prelude.{◌≡◌, ℕ, zero, suc, ◌+◌, ◌-◌, ◌%◌, ◌<◌, List, [], Option, Some, None, Result, All, OnOk, OnErr, IsOkAnd, IsOkUnless, IsPermutation, slice_get, unwrap_or, swap}
 use Rattle.std.specs.List.{range_with_len}
 use Rattle.jm_base.specs.Run.{Run}
-use Rattle.var_functions.specs.declared.error.VarError.{VarError}
-use Rattle.var_functions.specs.declared.error.VarError.TheVariants.{NoMemory}
+use Rattle.thread_vars.specs.declared.error.VarError.{VarError}
+use Rattle.thread_vars.specs.declared.error.VarError.TheVariants.{NoMemory}
 use Rattle.var_functions.specs.declared.state.UserState.{UserState}
 use Rattle.var_functions.specs.FunctionState.{Functions, drawn, draw}
 use Rattle.element_tree.specs.declared.package.Turn.{Turn}

@@ -14,8 +14,8 @@ use Rattle.var_functions.specs.declared.state.UserState.{UserState}
 use Rattle.var_changes.specs.declared.put.Variable.{Variable}
 use Rattle.var_changes.specs.Changes.{Changed, changed, setting}
 use Rattle.cursor_steps.specs.CursorStep.{Step, answers, past_limit}
-use Rattle.var_functions.specs.declared.error.VarError.{VarError}
-use Rattle.var_functions.specs.declared.error.VarError.TheVariants.{ValueLimit, NoMemory}
+use Rattle.thread_vars.specs.declared.error.VarError.{VarError}
+use Rattle.thread_vars.specs.declared.error.VarError.TheVariants.{ValueLimit, NoMemory}
 use Rattle.config_elements.specs.declared.rounds.Advance.{Advance}
 use Rattle.config_elements.specs.declared.state.Feed.{Feed}
 use Rattle.config_elements.specs.declared.state.Sort.{Sort}

@@ -22,8 +22,8 @@ use Rattle.control_machine.specs.declared.position.Position.{Position}
 use Rattle.control_machine.specs.declared.position.Went.{Went}
 use Rattle.control_machine.specs.declared.position.Went.TheVariants.{On, To}
 use Rattle.control_machine.specs.declared.moves.Move.TheVariants.{EnterSection}
-use Rattle.var_functions.specs.declared.error.VarError.{VarError}
-use Rattle.var_functions.specs.declared.error.VarError.TheVariants.{NoMemory}
+use Rattle.thread_vars.specs.declared.error.VarError.{VarError}
+use Rattle.thread_vars.specs.declared.error.VarError.TheVariants.{NoMemory}
 use Rattle.cursor_steps.specs.RunningChildren.{is_run_at, runs_of}
 use Rattle.control_machine.specs.Load.{children_count}
 use Rattle.control_machine.specs.Left.{open_lock, IsAlone, IsApart, AreApart, IsOpen, AreOpen, depth_in, DepthsFall, GroupIsOpen, IsOut, StandsIn}

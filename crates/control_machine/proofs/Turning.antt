@@ -6,8 +6,8 @@ use Rattle.jm_base.specs.Run.{Run, over, give, Entered}
 use Rattle.jm_base.specs.Outside.{Account, Goes}
 use Rattle.element_tree.specs.declared.kinds.Element.{Element}
 use Rattle.element_tree.specs.Tree.{Tree}
-use Rattle.var_functions.specs.declared.error.VarError.{VarError}
-use Rattle.var_functions.specs.declared.error.VarError.TheVariants.{NoMemory}
+use Rattle.thread_vars.specs.declared.error.VarError.{VarError}
+use Rattle.thread_vars.specs.declared.error.VarError.TheVariants.{NoMemory}
 use Rattle.var_functions.specs.declared.state.UserState.{UserState}
 use Rattle.var_functions.specs.Came.{CameTo, Refused, by_memory}
 use Rattle.jm_meaning.specs.declared.signal.Signal.TheVariants.{Normal}

@@ -7,7 +7,7 @@ use Rattle.element_tree.specs.declared.types.Class.TheVariants.{Controller, Samp
 use Rattle.element_tree.specs.declared.package.Turn.{Turn}
 use Rattle.element_tree.specs.declared.package.Turn.TheVariants.{Child, Round, Over}
 use Rattle.element_tree.specs.Types.{class_of}
-use Rattle.var_functions.specs.declared.error.VarError.{VarError}
+use Rattle.thread_vars.specs.declared.error.VarError.{VarError}
 use Rattle.cursor_steps.specs.declared.pass.Pass.{Pass}
 
 -- controllers and samplers are run; elements of the other classes apply to samplers

@@ -5,7 +5,7 @@ ghost use Rattle.jm_base.specs.Run.{Run};
 ghost use Rattle.element_tree.specs.declared.kinds.Element.{Element};
 ghost use Rattle.element_tree.specs.declared.kinds.Kind.{Kind};
 ghost use Rattle.element_tree.specs.declared.package.Turn.{Turn};
-ghost use Rattle.var_functions.specs.declared.error.VarError.{VarError};
+ghost use Rattle.thread_vars.specs.declared.error.VarError.{VarError};
 ghost use Rattle.var_functions.specs.declared.state.UserState.{UserState};
 ghost use Rattle.var_functions.specs.FunctionState.{IsLater};
 ghost use Rattle.cursor_steps.specs.CursorStep.{Step, StepsTo};

@@ -1,7 +1,7 @@
 -- Variables from before that are removed, one after another.
 use Rattle.std.proofs.Common.{◌≡◌, ℕ, suc, ◌+◌, ◌-◌, ◌<◌, ◌≤◌, List, [], ◌∷◌, ◌++◌, map, Option, Some, sym, ap, ◌∙◌, subst, arith}
 use Rattle.std.specs.List.{flat_map, range_with_len}
-use Rattle.var_functions.specs.Vars.{Variables, without_var}
+use Rattle.thread_vars.specs.Vars.{Variables, without_var}
 use Rattle.var_changes.specs.Changes.{Change, Removes, changed}
 use Rattle.var_changes.proofs.ChangeLaws.{Standing, all_made, standing-first, standing-removed, standing-over}
 use Rattle.extractors.specs.Extraction.{match_name, groups_name, group_name, removes_group, removes_groups, removes_match, removes_matches}

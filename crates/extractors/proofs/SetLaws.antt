@@ -5,7 +5,7 @@ use Rattle.std.proofs.lemmas.Bool.{false≢true}
 use Rattle.std.proofs.Math.ListN.{get_or}
 use Rattle.std.proofs.Math.Seq.{drop-cons}
 use Rattle.std.proofs.lemmas.List.{drop_all, length-map}
-use Rattle.var_functions.specs.Vars.{Variables, put_var}
+use Rattle.thread_vars.specs.Vars.{Variables, put_var}
 use Rattle.var_changes.specs.Changes.{Change, Sets, changed}
 use Rattle.var_changes.proofs.ChangeLaws.{Standing, all_made, standing-first, standing-put, standing-over}
 use Rattle.extractors.specs.Extraction.{Match, match_name, groups_name, group_name, sets_groups, sets_all_groups, sets_match, sets_matches}

@@ -4,9 +4,9 @@ use Rattle.std.specs.Prelude.{slice_get}
 use Rattle.std.specs.Option.{option_map}
 use Rattle.std.proofs.lemmas.List.{length-map}
 use Rattle.std.proofs.lemmas.Option.{slice_get-map}
-use Rattle.var_functions.specs.Vars.{Variables}
+use Rattle.thread_vars.specs.Vars.{Variables}
 use Rattle.std.specs.Prelude.{Result, Err}
-use Rattle.var_functions.specs.declared.error.VarError.{VarError}
+use Rattle.thread_vars.specs.declared.error.VarError.{VarError}
 use Rattle.var_changes.specs.Changes.{Sets, changed, Changes}
 use Rattle.var_changes.proofs.ChangeLaws.{Standing, all_made, standing-first, standing-more, standing-stopped, standing-last}
 use Rattle.extractors.specs.declared.which.Which.{Which}

@@ -1,7 +1,7 @@
 -- What an extractor makes of the variables: changes that are a function of the list of all its matches.
 use Rattle.std.specs.Prelude.{ℕ, zero, suc, ◌+◌, ◌%◌, ℤ, pos, negsuc, nat_le, List, [], ◌∷◌, ◌++◌, length, map, Option, Some, None, slice_get, unwrap_or, option_and_then, codes, decimal, if◌then◌else◌}
 use Rattle.std.specs.List.{flat_map, range_with_len}
-use Rattle.var_functions.specs.Vars.{Variables, value_of}
+use Rattle.thread_vars.specs.Vars.{Variables, value_of}
 use Rattle.cursor_steps.specs.Numeral.{decimal_number}
 use Rattle.var_changes.specs.Changes.{Change, Removes, Sets}
 use Rattle.extractors.specs.declared.which.Which.{Which}

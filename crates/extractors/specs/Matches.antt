@@ -9,7 +9,7 @@ use Rattle.json_path.specs.Selection.{selected}
 use Rattle.element_tree.specs.declared.kinds.RegexExtractor.{RegexExtractor}
 use Rattle.element_tree.specs.declared.kinds.JsonExtractor.{JsonExtractor}
 use Rattle.element_tree.specs.declared.kinds.BoundaryExtractor.{BoundaryExtractor}
-use Rattle.var_functions.specs.Vars.{Variables}
+use Rattle.thread_vars.specs.Vars.{Variables}
 use Rattle.var_changes.specs.Changes.{Change}
 use Rattle.reply_search.specs.Found.{matches_of, groups_of, place_in}
 use Rattle.reply_search.specs.Seen.{text_in}

@@ -1,7 +1,7 @@
 // One match, or the default, that is set.
 
 ghost use Rattle.std.specs.Prelude.{◌≡◌, decimal, map};
-ghost use Rattle.var_functions.specs.Vars.{put_var, Puts};
+ghost use Rattle.thread_vars.specs.Vars.{put_var, Puts};
 ghost use Rattle.var_changes.specs.Changes.{Changes};
 ghost use Rattle.extractors.specs.Matches.{text_at, match_by};
 ghost use Rattle.extractors.specs.Extraction.{sets_groups, sets_all_groups, sets_match, sets_default};

@@ -1,7 +1,7 @@
 // Templates of a regular expression's values.
 
 ghost use Rattle.std.specs.Prelude.{◌≡◌, ◌<◌, ◌≤◌, Err, IfOk, IfSome, length, map};
-ghost use Rattle.var_functions.specs.Vars.{most_text};
+ghost use Rattle.thread_vars.specs.Vars.{most_text};
 ghost use Rattle.extractors.specs.Matches.{text_at};
 ghost use Rattle.extractors.specs.Templates.{digit_count, reference_in, group_at, filled};
 

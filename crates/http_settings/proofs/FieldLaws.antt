@@ -10,7 +10,7 @@ use Rattle.std.specs.Str.{str_to_ascii_lowercase}
 use Rattle.std.proofs.Math.ListN.{get_or}
 use Rattle.std.proofs.Math.Seq.{drop-cons}
 use Rattle.element_props.specs.declared.prop.Pair.{Pair}
-use Rattle.var_functions.specs.Vars.{by_bytes}
+use Rattle.thread_vars.specs.Vars.{by_bytes}
 use Rattle.http_settings.specs.RequestSettings.{Fields, set_field, set_fields, pairs_seen, fields_seen}
 
 -- ---- names as the map keeps them

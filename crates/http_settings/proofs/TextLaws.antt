@@ -8,7 +8,7 @@ use Rattle.jm_base.specs.Outside.{Account, Goes}
 use Rattle.jm_base.proofs.RunLaws.{goes-append}
 use Rattle.element_props.specs.declared.prop.Pair.{Pair}
 use Rattle.http_text.specs.declared.request.NamedText.{NamedText}
-use Rattle.var_functions.specs.declared.error.VarError.{VarError}
+use Rattle.thread_vars.specs.declared.error.VarError.{VarError}
 use Rattle.var_functions.specs.declared.state.UserState.{UserState}
 use Rattle.var_functions.specs.Came.{Refused}
 use Rattle.var_functions.proofs.CameLaws.{refused-first}

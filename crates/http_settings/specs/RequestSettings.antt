@@ -15,7 +15,7 @@ use Rattle.element_tree.specs.declared.kinds.Kind.{Kind}
 use Rattle.element_tree.specs.declared.kinds.Kind.TheVariants.{Http, HttpDefaults, HeaderManager}
 use Rattle.http_text.specs.declared.request.NamedText.{NamedText}
 use Rattle.http_text.specs.declared.request.HttpSettings.{HttpSettings}
-use Rattle.var_functions.specs.Vars.{by_bytes}
+use Rattle.thread_vars.specs.Vars.{by_bytes}
 use Rattle.trials.specs.Tried.{Try, giving, ◌>=>◌, text}
 use Rattle.http_settings.specs.declared.defaults.Property.{Property}
 use Rattle.http_settings.specs.declared.defaults.Property.TheVariants.{Host, Port, Path, Body}

@@ -8,9 +8,9 @@ use Rattle.jm_base.specs.Run.{Run, over, ◌>>=◌}
 use Rattle.jm_base.specs.Outside.{Account, Goes}
 use Rattle.jm_base.proofs.RunLaws.{bind-assoc, goes-append, goes-bind}
 use Rattle.std.proofs.lemmas.List.{drop_all}
-use Rattle.var_functions.specs.declared.error.VarError.{VarError}
+use Rattle.thread_vars.specs.declared.error.VarError.{VarError}
 use Rattle.var_functions.specs.declared.state.UserState.{UserState}
-use Rattle.var_functions.specs.Vars.{Variables, put_var}
+use Rattle.thread_vars.specs.Vars.{Variables, put_var}
 use Rattle.var_functions.specs.Came.{Refused}
 use Rattle.var_functions.proofs.CameLaws.{refused-bind, refused-first}
 use Rattle.var_changes.specs.Changes.{Sets, go_on, changed}

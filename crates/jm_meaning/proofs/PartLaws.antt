@@ -7,10 +7,10 @@ use Rattle.jm_base.specs.Run.{Run, over, ◌>>=◌}
 use Rattle.jm_base.specs.Outside.{Account, Goes}
 use Rattle.jm_base.proofs.RunLaws.{bind-assoc, goes-nothing}
 use Rattle.template_text.specs.Pieces.{Pieces}
-use Rattle.var_functions.specs.declared.error.VarError.{VarError}
-use Rattle.var_functions.specs.declared.error.VarError.TheVariants.{ValueLimit, NoMemory}
+use Rattle.thread_vars.specs.declared.error.VarError.{VarError}
+use Rattle.thread_vars.specs.declared.error.VarError.TheVariants.{ValueLimit, NoMemory}
 use Rattle.var_functions.specs.declared.state.UserState.{UserState}
-use Rattle.var_functions.specs.Vars.{Variables, Puts}
+use Rattle.thread_vars.specs.Vars.{Variables, Puts}
 use Rattle.var_functions.specs.Expansion.{expansion}
 use Rattle.var_functions.specs.Came.{CameTo, by_limit, by_memory}
 use Rattle.jm_meaning.specs.declared.signal.Signal.{Signal}

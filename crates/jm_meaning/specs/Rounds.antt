@@ -4,7 +4,7 @@ use Rattle.std.specs.Option.{option_map}
 use Rattle.jm_base.specs.declared.types.End.TheVariants.{RoundLimit, StopThread, ValueLimit}
 use Rattle.jm_base.specs.Run.{Run, over, ◌>>=◌}
 use Rattle.template_text.specs.Pieces.{Pieces}
-use Rattle.var_functions.specs.Vars.{index_name}
+use Rattle.thread_vars.specs.Vars.{index_name}
 use Rattle.element_tree.specs.declared.kinds.Element.{Element}
 use Rattle.element_tree.specs.declared.kinds.Loops.{Loops}
 use Rattle.cursor_steps.specs.CursorStep.{Step}

@@ -5,7 +5,7 @@ use Rattle.jm_base.specs.declared.types.End.TheVariants.{SampleLimit, RoundLimit
 use Rattle.jm_base.specs.Run.{Run, over, ◌>>=◌}
 use Rattle.var_functions.specs.declared.state.UserState.{UserState}
 use Rattle.var_functions.specs.FunctionState.{Functions}
-use Rattle.var_functions.specs.Vars.{Variables, put_var}
+use Rattle.thread_vars.specs.Vars.{Variables, put_var}
 pub use Rattle.trials.specs.Tried.{Tried, Try, fine, past_limit, on_tried, text, text_of}
 use Rattle.jm_meaning.specs.declared.signal.Signal.{Signal}
 use Rattle.jm_meaning.specs.declared.signal.Signal.TheVariants.{Normal, NextLoop, Stop}

@@ -3,9 +3,9 @@ use Rattle.std.proofs.Common.{◌≡◌, ℕ, ◌<◌, ◌≤◌, true, false, L
 use Rattle.std.specs.Prelude.{Result, Err}
 use Rattle.jm_base.specs.Run.{Run}
 use Rattle.jm_base.specs.Outside.{Account}
-use Rattle.var_functions.specs.declared.error.VarError.{VarError}
+use Rattle.thread_vars.specs.declared.error.VarError.{VarError}
 use Rattle.var_functions.specs.declared.state.UserState.{UserState}
-use Rattle.var_functions.specs.Vars.{Variables, Puts}
+use Rattle.thread_vars.specs.Vars.{Variables, Puts}
 use Rattle.var_functions.specs.Came.{CameTo, Refused}
 use Rattle.element_tree.specs.declared.package.Turn.{Turn}
 use Rattle.element_tree.specs.declared.package.Turn.TheVariants.{Child, Round, Over}

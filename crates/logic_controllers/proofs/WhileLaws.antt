@@ -4,9 +4,9 @@ use Rattle.std.specs.Prelude.{Err, if◌then◌else◌}
 use Rattle.jm_base.specs.Run.{Run, over}
 use Rattle.jm_base.specs.Outside.{Account, Goes}
 use Rattle.template_text.specs.Pieces.{Pieces}
-use Rattle.var_functions.specs.declared.error.VarError.{VarError}
+use Rattle.thread_vars.specs.declared.error.VarError.{VarError}
 use Rattle.var_functions.specs.declared.state.UserState.{UserState}
-use Rattle.var_functions.specs.Vars.{Variables, Puts}
+use Rattle.thread_vars.specs.Vars.{Variables, Puts}
 use Rattle.var_functions.specs.Expansion.{expanded, expansion}
 use Rattle.var_functions.specs.Came.{Refused}
 use Rattle.element_tree.specs.declared.package.Turn.{Turn}

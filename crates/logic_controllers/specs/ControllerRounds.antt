@@ -1,8 +1,8 @@
 -- The rounds of the Loop, While and ForEach Controllers.
 use Rattle.std.specs.Prelude.{◌≡◌, ℕ, ◌+◌, ◌-◌, true, false, List, Option, Some, Result, IfOk, decimal, if◌then◌else◌}
 use Rattle.element_tree.specs.declared.package.Turn.{Turn}
-use Rattle.var_functions.specs.declared.error.VarError.{VarError}
-use Rattle.var_functions.specs.Vars.{Variables, put_var, index_name}
+use Rattle.thread_vars.specs.declared.error.VarError.{VarError}
+use Rattle.thread_vars.specs.Vars.{Variables, put_var, index_name}
 use Rattle.logic_controllers.specs.declared.rounds.Rounds.{Rounds}
 use Rattle.cursor_steps.specs.RunningChildren.{none_left, pass_over, IsAmong, Passes, begun_after}
 

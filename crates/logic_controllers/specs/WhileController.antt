@@ -6,7 +6,7 @@ use lib.Pointwise.{pointwise}
 use Rattle.jm_base.specs.Run.{Run}
 use Rattle.template_text.specs.Pieces.{Pieces}
 use Rattle.var_functions.specs.declared.state.UserState.{UserState}
-use Rattle.var_functions.specs.Vars.{Variables, value_of, last_sample_ok}
+use Rattle.thread_vars.specs.Vars.{Variables, value_of, last_sample_ok}
 use Rattle.element_tree.specs.declared.kinds.Kind.{Kind}
 use Rattle.element_tree.specs.declared.kinds.Kind.TheVariants as kinds
 use Rattle.element_tree.specs.declared.package.Turn.{Turn}

@@ -3,7 +3,7 @@
 ghost use Rattle.std.specs.Prelude.{◌≡◌, ◌+◌, ◌<◌, ◌≤◌, IfOk, IfSome, OnOk, OnErr, None};
 ghost use Rattle.jm_base.specs.Run.{Run};
 ghost use Rattle.jm_base.specs.Outside.{Account};
-ghost use Rattle.var_functions.specs.Vars.{Puts, value_of};
+ghost use Rattle.thread_vars.specs.Vars.{Puts, value_of};
 ghost use Rattle.var_functions.specs.FunctionState.{Functions};
 ghost use Rattle.var_functions.specs.Came.{CameTo};
 ghost use Rattle.cursor_steps.specs.CursorStep.{Step, past_limit, StepsTo};
@@ -15,6 +15,7 @@ use cursor_steps::Controller;
 use element_tree::{Kind, Plan, Turn};
 use itoa::Buffer;
 use jm_base::{M, Outside, Text};
+use smallvec::SmallVec;
 use std::alloc::Global;
 use var_functions::{UserState, VarError, Vars};
 
@@ -30,27 +31,31 @@ pub struct EachCursor {
     pub value: Option<Text>,
 }
 
+// Names of no more bytes take no memory.
+const USUAL_NAME: usize = 32;
+
 /// The name of the variable of this number.
-fn input_name(alloc: Global, input: &[u8], separator: bool, number: u64) -> M<Text>
-    ensures { IfOk result (λ t. t ≡ input_name input.now separator number) }
+fn input_name(
+    alloc: Global,
+    input: &[u8],
+    separator: bool,
+    number: u64,
+) -> M<SmallVec<u8, USUAL_NAME>>
+    ensures { IfOk result (λ name. name.items ≡ input_name input.now separator number) }
 {
-    let mut buffer = Buffer::new();
-    let digits = buffer.format(number).as_bytes();
-    let mut text = Vec::new(alloc);
-    text.reserve(input.len() + 1 + digits.len())?;
-    text.extend_from_slice(input)?;
+    let mut name = SmallVec::from_slice(alloc, input)?;
     if separator {
-        text.extend_from_slice(b"_")?;
+        name.push(b'_')?;
     }
-    text.extend_from_slice(digits)?;
-    Ok(Text::of(text))
+    name.extend_from_slice(Buffer::new().format(number).as_bytes())?;
+    Ok(name)
 }
 
 /// A copy of the value of a variable, where it is defined.
-fn copied_value(alloc: Global, vars: &Vars, name: &Text) -> M<Option<Text>>
+fn copied_value(alloc: Global, vars: &Vars, name: &[u8]) -> M<Option<Text>>
     ensures { IfOk result (λ v. v ≡ value_of name.now vars.now) }
 {
-    match vars.get(name.bytes()) {
+    match vars.get(name) {
         Some(value) => {
             let copy = value.copy(alloc)?;
             Ok(Some(copy))
@@ -80,7 +85,7 @@ pub fn value_at(alloc: Global, vars: &Vars, input: &Text, span: Span, index: u32
         return Ok(None);
     }
     let name = input_name(alloc, input.bytes(), span.separator, number)?;
-    let value = copied_value(alloc, vars, &name)?;
+    let value = copied_value(alloc, vars, name.as_slice())?;
     Ok(value)
 }
 

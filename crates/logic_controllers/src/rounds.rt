@@ -1,7 +1,7 @@
 // The rounds of a looping controller: how many have begun, and the children of the last one.
 
 ghost use Rattle.std.specs.Prelude.{◌≡◌, ◌+◌, ◌-◌, ◌^◌, ◌<◌, OnOk, OnErr, decimal};
-ghost use Rattle.var_functions.specs.Vars.{put_var, index_name, Puts};
+ghost use Rattle.thread_vars.specs.Vars.{put_var, index_name, Puts};
 ghost use Rattle.logic_controllers.specs.ControllerRounds.{before_rounds, round_begun, opened_vars, opened};
 
 use cursor_steps::Pass;

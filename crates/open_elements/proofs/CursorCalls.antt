@@ -5,7 +5,7 @@ use Rattle.jm_base.specs.Run.{Run, ◌>>=◌}
 use Rattle.jm_base.specs.Outside.{Account}
 use Rattle.element_tree.specs.declared.kinds.Element.{Element}
 use Rattle.element_tree.specs.declared.package.Turn.{Turn}
-use Rattle.var_functions.specs.declared.error.VarError.{VarError}
+use Rattle.thread_vars.specs.declared.error.VarError.{VarError}
 use Rattle.var_functions.specs.declared.state.UserState.{UserState}
 use Rattle.var_functions.specs.Came.{CameTo}
 use Rattle.var_functions.proofs.CameLaws.{came-bind}

@@ -6,7 +6,7 @@ use Rattle.element_tree.specs.declared.kinds.Element.{Element}
 use Rattle.element_tree.specs.declared.kinds.Kind.{Kind}
 use Rattle.element_tree.specs.declared.kinds.Kind.TheVariants as kinds
 use Rattle.var_functions.specs.declared.state.UserState.{UserState}
-use Rattle.var_functions.specs.Vars.{Variables}
+use Rattle.thread_vars.specs.Vars.{Variables}
 use Rattle.var_functions.specs.FunctionState.{Functions, IsLater}
 use Rattle.var_functions.proofs.LaterLaws.{later_same}
 use Rattle.logic_controllers.specs.declared.while_cursor.WhileCursor.{WhileCursor}

@@ -10,7 +10,7 @@ use Rattle.element_props.specs.declared.prop.Pair.{Pair}
 use Rattle.element_tree.specs.declared.kinds.Element.{Element}
 use Rattle.element_tree.specs.declared.kinds.Kind.{Kind}
 use Rattle.element_tree.specs.declared.kinds.Kind.TheVariants as kinds
-use Rattle.var_functions.specs.declared.error.VarError.{VarError}
+use Rattle.thread_vars.specs.declared.error.VarError.{VarError}
 use Rattle.var_functions.specs.Came.{CameTo}
 use Rattle.jm_meaning.specs.State.{State, Ending, normal}
 use Rattle.jm_meaning.specs.Children.{Below}

@@ -5,7 +5,7 @@ use Rattle.jm_base.specs.Run.{Run, ◌>>=◌}
 use Rattle.jm_base.proofs.RunLaws.{bind-assoc}
 use Rattle.template_text.specs.Pieces.{Pieces}
 use Rattle.var_functions.specs.declared.state.UserState.{UserState}
-use Rattle.var_functions.specs.Vars.{Variables}
+use Rattle.thread_vars.specs.Vars.{Variables}
 use Rattle.var_functions.specs.Expansion.{Expanded, expansion}
 use Rattle.cursor_steps.specs.CursorStep.{Step, expanding, with_text, with_vars as step_vars}
 use Rattle.jm_meaning.specs.State.{State, Own, Ending, Part, state_of, and_then, on_came, tried, text, text_of, with_vars}

@@ -3,7 +3,7 @@
 ghost use Rattle.std.specs.Prelude.{◌≡◌, ◌≤◌, ◌+◌, ℕ, List, Some, Err, length, slice_get};
 ghost use Rattle.element_tree.specs.declared.kinds.Element.{Element};
 ghost use Rattle.element_tree.specs.Tree.{Tree};
-ghost use Rattle.var_functions.specs.declared.error.VarError.{VarError};
+ghost use Rattle.thread_vars.specs.declared.error.VarError.{VarError};
 ghost use Rattle.var_functions.specs.declared.state.UserState.{UserState};
 ghost use Rattle.var_functions.specs.FunctionState.{IsLater};
 ghost use Rattle.cursor_steps.specs.RunningChildren.{run_count};

@@ -8,10 +8,10 @@ use Rattle.jm_base.specs.Run.{Run, over, give, Waited, Sampled, Nothing, Sampler
 use Rattle.jm_base.specs.Outside.{Account, Goes}
 use Rattle.jm_base.proofs.RunLaws.{goes-bind}
 use Rattle.template_text.specs.Pieces.{Pieces}
-use Rattle.var_functions.specs.declared.error.VarError.{VarError}
-use Rattle.var_functions.specs.declared.error.VarError.TheVariants.{ValueLimit, NoMemory as NoMemoryLeft}
+use Rattle.thread_vars.specs.declared.error.VarError.{VarError}
+use Rattle.thread_vars.specs.declared.error.VarError.TheVariants.{ValueLimit, NoMemory as NoMemoryLeft}
 use Rattle.var_functions.specs.declared.state.UserState.{UserState}
-use Rattle.var_functions.specs.Vars.{Variables, Puts, put_var}
+use Rattle.thread_vars.specs.Vars.{Variables, Puts, put_var}
 use Rattle.var_functions.specs.Expansion.{expanded, expansion}
 use Rattle.var_functions.specs.Came.{Refused, by_limit, by_memory}
 use Rattle.jm_meaning.specs.declared.item.Item.TheVariants.{Null, Sampled as SampledItem}

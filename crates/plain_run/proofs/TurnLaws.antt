@@ -6,7 +6,7 @@ use Rattle.jm_base.proofs.RunLaws.{goes-bind, goes-nothing}
 use Rattle.template_text.specs.Pieces.{Pieces}
 use Rattle.element_tree.specs.declared.kinds.Loops.{Loops}
 use Rattle.var_functions.specs.declared.state.UserState.{UserState}
-use Rattle.var_functions.specs.Vars.{Variables}
+use Rattle.thread_vars.specs.Vars.{Variables}
 use Rattle.logic_controllers.specs.LoopController.{round_begins}
 use Rattle.logic_controllers.specs.WhileController.{last_ok, goes_on}
 use Rattle.logic_controllers.specs.ForEachController.{Row, value_at}

@@ -6,8 +6,8 @@ use Rattle.jm_base.specs.Outside.{Account, Goes}
 use Rattle.jm_base.specs.declared.types.Sample.{Sample}
 use Rattle.jm_base.proofs.RunLaws.{goes-nothing}
 use Rattle.var_functions.specs.Came.{Refused}
-use Rattle.var_functions.specs.declared.error.VarError.{VarError}
-use Rattle.var_functions.specs.declared.error.VarError.TheVariants as errors
+use Rattle.thread_vars.specs.declared.error.VarError.{VarError}
+use Rattle.thread_vars.specs.declared.error.VarError.TheVariants as errors
 use Rattle.var_functions.specs.declared.state.UserState.{UserState}
 use Rattle.element_tree.specs.declared.kinds.Element.{Element}
 use Rattle.element_tree.specs.Scope.{Scope}

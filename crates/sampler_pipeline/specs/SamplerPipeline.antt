@@ -1,5 +1,5 @@
 -- The sampler pipeline: what one sampler does, in the order of the manual's "Execution order".
-pub use Rattle.var_functions.specs.Vars.{last_sample_ok, truth_text}
+pub use Rattle.thread_vars.specs.Vars.{last_sample_ok, truth_text}
 use Rattle.std.specs.Prelude.{ℕ, zero, suc, ℤ, pos, min, Bool, true, false, List, [], ◌∷◌, ◌++◌, length, Option, Some, None, slice_get, unwrap_or, if◌then◌else◌, codes, ◌==◌}
 use Rattle.std.specs.Option.{option_map}
 use Rattle.jm_base.specs.declared.types.Sample.{Sample}

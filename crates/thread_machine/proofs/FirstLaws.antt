@@ -5,7 +5,7 @@ use mathlib.Core.Path.{fun_ext}
 use Rattle.jm_base.specs.Run.{◌>>=◌}
 use Rattle.jm_base.proofs.RunLaws.{bind-assoc}
 use Rattle.var_functions.specs.declared.state.UserState.{UserState}
-use Rattle.var_functions.specs.Vars.{Variables, put_var}
+use Rattle.thread_vars.specs.Vars.{Variables, put_var}
 use Rattle.element_props.specs.declared.prop.Pair.{Pair}
 use Rattle.element_tree.specs.declared.kinds.Element.{Element}
 use Rattle.jm_meaning.specs.State.{Own, Part, state_of, on_normal, and_then, on_came, tried, text, with_vars, put}

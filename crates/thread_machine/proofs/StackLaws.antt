@@ -2,7 +2,7 @@
 use Rattle.std.specs.Prelude.{List, Result, Ok, Err}
 use Rattle.jm_base.specs.Run.{Run}
 use Rattle.jm_base.specs.Outside.{Account}
-use Rattle.var_functions.specs.declared.error.VarError.{VarError}
+use Rattle.thread_vars.specs.declared.error.VarError.{VarError}
 use Rattle.var_functions.specs.Came.{CameTo}
 use Rattle.jm_meaning.specs.State.{State, Ending}
 use Rattle.jm_meaning.specs.Meaning.{Here}

@@ -7,7 +7,7 @@ use Rattle.jm_base.specs.declared.types.Sample.{Sample}
 use Rattle.jm_base.specs.Run.{Run, over, give, Sampled, Transaction}
 use Rattle.jm_base.specs.Outside.{Account, Goes}
 use Rattle.jm_base.proofs.RunLaws.{goes-append, goes-give, goes-nothing}
-use Rattle.var_functions.specs.declared.error.VarError.TheVariants.{NoMemory}
+use Rattle.thread_vars.specs.declared.error.VarError.TheVariants.{NoMemory}
 use Rattle.var_functions.specs.Came.{by_memory}
 use Rattle.element_tree.specs.Names.{label_of}
 use Rattle.jm_meaning.specs.declared.transaction.Tally.{Tally}

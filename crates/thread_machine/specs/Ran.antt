@@ -3,7 +3,7 @@ use Rattle.std.specs.Prelude.{◌≡◌, ℕ, ◌≤◌, Bool, true, false, List
 use Rattle.jm_base.specs.declared.types.End.{End}
 use Rattle.jm_base.specs.Run.{Run}
 use Rattle.jm_base.specs.Outside.{Account, Goes}
-use Rattle.var_functions.specs.declared.error.VarError.{VarError}
+use Rattle.thread_vars.specs.declared.error.VarError.{VarError}
 use Rattle.var_functions.specs.Came.{Refused}
 use Rattle.element_tree.specs.declared.kinds.Element.{Element}
 use Rattle.jm_meaning.specs.State.{State, Ending}

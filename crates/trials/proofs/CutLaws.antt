@@ -8,10 +8,10 @@ use Rattle.std.proofs.lemmas.List.{take_more, take-append-drop}
 use Rattle.jm_base.specs.Run.{Run, over, ◌>>=◌}
 use Rattle.jm_base.specs.Outside.{Account, Goes}
 use Rattle.jm_base.proofs.RunLaws.{goes-append, goes-bind, bind-assoc}
-use Rattle.var_functions.specs.declared.error.VarError.{VarError}
-use Rattle.var_functions.specs.declared.error.VarError.TheVariants.{ValueLimit, NoMemory}
+use Rattle.thread_vars.specs.declared.error.VarError.{VarError}
+use Rattle.thread_vars.specs.declared.error.VarError.TheVariants.{ValueLimit, NoMemory}
 use Rattle.var_functions.specs.declared.state.UserState.{UserState}
-use Rattle.var_functions.specs.Vars.{Variables, Puts}
+use Rattle.thread_vars.specs.Vars.{Variables, Puts}
 use Rattle.var_functions.specs.FunctionState.{IsLater}
 use Rattle.var_functions.specs.Came.{LeftOf, Refused, by_limit, by_memory}
 use Rattle.var_functions.proofs.CameLaws.{refused-bind}

@@ -4,7 +4,7 @@ use Rattle.jm_base.specs.Run.{over}
 use Rattle.jm_base.specs.Outside.{Account, Goes}
 use Rattle.var_functions.specs.declared.state.UserState.{UserState}
 use Rattle.var_functions.specs.FunctionState.{IsLater}
-use Rattle.var_functions.specs.Vars.{Variables}
+use Rattle.thread_vars.specs.Vars.{Variables}
 use Rattle.var_functions.specs.Came.{LeftOf}
 use Rattle.var_changes.specs.Changes.{Change, ChangedInPart}
 use Rattle.trials.specs.Tried.{Try, fine, each_of}

@@ -3,7 +3,7 @@ use Rattle.std.specs.Prelude.{List, [], ◌∷◌, Some, None, if◌then◌else�
 use Rattle.jm_base.specs.Run.{over}
 use Rattle.element_props.specs.declared.prop.Pair.{Pair}
 use Rattle.var_functions.specs.declared.state.UserState.{UserState}
-use Rattle.var_functions.specs.Vars.{Variables}
+use Rattle.thread_vars.specs.Vars.{Variables}
 use Rattle.var_changes.specs.Changes.{Change, Sets, Changed, changed}
 use Rattle.trials.specs.Tried.{Tried, Try, ◌>=>◌, each_of, text}
 

@@ -3,9 +3,9 @@ use Rattle.std.proofs.Common.{◌≡◌, ℕ, List, [], ◌∷◌, ◌++◌, tru
 use Rattle.std.specs.Prelude.{Result, Ok, Err}
 use Rattle.std.proofs.lemmas.List.{append-nil}
 use Rattle.std.proofs.lemmas.Bool.{false≢true}
-use Rattle.var_functions.specs.declared.error.VarError.{VarError}
-use Rattle.var_functions.specs.declared.error.VarError.TheVariants.{ValueLimit, NoMemory}
-use Rattle.var_functions.specs.Vars.{Variables, put_var, without_var, Puts}
+use Rattle.thread_vars.specs.declared.error.VarError.{VarError}
+use Rattle.thread_vars.specs.declared.error.VarError.TheVariants.{ValueLimit, NoMemory}
+use Rattle.thread_vars.specs.Vars.{Variables, put_var, without_var, Puts}
 use Rattle.var_changes.specs.Changes.{Change, Removes, Sets, Changed, go_on, changed, Changes}
 
 abbrev pub all_made : Variables → Changed

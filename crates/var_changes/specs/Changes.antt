@@ -1,8 +1,8 @@
 -- Changes of variables, one after another.
 use Rattle.std.specs.Prelude.{◌≡◌, ℕ, Bool, true, false, List, [], ◌∷◌, ◌++◌, Option, Some, None, Result, Ok, Err}
-use Rattle.var_functions.specs.declared.error.VarError.{VarError}
-use Rattle.var_functions.specs.declared.error.VarError.TheVariants.{ValueLimit, NoMemory}
-use Rattle.var_functions.specs.Vars.{Variables, put_var, without_var}
+use Rattle.thread_vars.specs.declared.error.VarError.{VarError}
+use Rattle.thread_vars.specs.declared.error.VarError.TheVariants.{ValueLimit, NoMemory}
+use Rattle.thread_vars.specs.Vars.{Variables, put_var, without_var}
 use Rattle.var_changes.specs.declared.put.Variable.{Variable}
 
 -- one change: the variable of a name is removed, or a variable is set

@@ -1,7 +1,7 @@
 // Variables that are set.
 
 ghost use Rattle.std.specs.Prelude.{◌≡◌, Some, Ok, map};
-ghost use Rattle.var_functions.specs.Vars.{put_var, Puts};
+ghost use Rattle.thread_vars.specs.Vars.{put_var, Puts};
 ghost use Rattle.var_changes.specs.Changes.{Changes, setting};
 
 use jm_base::Text;

@@ -4,7 +4,7 @@ use Rattle.std.specs.Prelude.{Result, Ok, Err}
 use Rattle.jm_base.specs.Run.{Run, ◌>>=◌}
 use Rattle.jm_base.specs.Outside.{Account, Goes}
 use Rattle.jm_base.proofs.RunLaws.{goes-append, goes-bind}
-use Rattle.var_functions.specs.declared.error.VarError.{VarError}
+use Rattle.thread_vars.specs.declared.error.VarError.{VarError}
 use Rattle.var_functions.specs.Came.{CameTo, Refused, by_limit, by_memory}
 
 -- a refusal after what was heard before, and with what comes after the run

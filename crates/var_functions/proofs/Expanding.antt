@@ -1,19 +1,20 @@
 -- One piece after another, and one argument after another.
-use Rattle.std.proofs.Common.{◌≡◌, ℕ, zero, suc, ◌+◌, ◌≤◌, ◌<◌, List, [], ◌∷◌, ◌++◌, length, drop, get_or, Option, Some, None, refl, sym, ap, ◌∙◌, subst, arith}
+use Rattle.std.proofs.Common.{◌≡◌, ℕ, zero, suc, ◌+◌, ◌≤◌, ◌<◌, List, [], ◌∷◌, ◌++◌, length, drop, get_or, slice_index_or, Option, Some, None, refl, sym, ap, ◌∙◌, subst, arith}
 use Rattle.std.specs.Fmt.{decimal}
-use Rattle.std.specs.Prelude.{Result, Ok, Err, IfOk, OnErr, is_some, true, false, unwrap_or, option_and_then}
+use Rattle.std.specs.Option.{option_map}
+use Rattle.std.specs.Prelude.{Result, Ok, Err, IfOk, IfSome, OnErr, is_some, true, false, unwrap_or, option_and_then}
 use Rattle.std.proofs.lemmas.List.{drop_more}
 use Rattle.jm_base.specs.Run.{Run, over, ◌>>=◌, reading}
 use Rattle.jm_base.specs.Outside.{Account, Goes, TellsNothing}
 use Rattle.jm_base.proofs.RunLaws.{goes-append, goes-bind, goes-nothing, goes-tells_nothing}
 use Rattle.template_text.specs.declared.template.Piece.{Piece}
 use Rattle.template_text.specs.declared.template.Piece.TheVariants.{Text, Var, Call}
-use Rattle.template_text.specs.Pieces.{Pieces, Arguments, variable, call, reference_spelling}
+use Rattle.template_text.specs.Pieces.{Pieces, no_more, Arguments, variable, call, reference_spelling}
 use Rattle.template_text.specs.View.{pieces_of, arguments_of, weight}
-use Rattle.var_functions.specs.declared.error.VarError.{VarError}
-use Rattle.var_functions.specs.declared.error.VarError.TheVariants.{ValueLimit, NoMemory}
+use Rattle.thread_vars.specs.declared.error.VarError.{VarError}
+use Rattle.thread_vars.specs.declared.error.VarError.TheVariants.{ValueLimit, NoMemory}
 use Rattle.var_functions.specs.declared.function.Function.{Function}
-use Rattle.var_functions.specs.Vars.{Variables, value_of}
+use Rattle.thread_vars.specs.Vars.{Variables, value_of}
 use Rattle.var_functions.specs.FunctionState.{Functions}
 use Rattle.var_functions.specs.Functions.{value, Answer, function_named}
 use Rattle.var_functions.specs.Came.{CameTo, LeftOf, Refused, by_limit, by_memory}
@@ -59,18 +60,18 @@ unfolding after_texts
 argument_then ps args vars before fns = refl
 
 -- one argument more
-pub one_argument : (a m b : Account) (run : Run (Expanded (List (List ℕ)))) (before : List (List ℕ)) (new : List ℕ) (vars : Variables) (args : List Pieces) (fns fns' : Functions) (i : ℕ) (ps : Pieces) (res : Result (Unit {0}) VarError)
+pub one_argument : (a m b : Account) (run : Run (Expanded (List (List ℕ)))) (before : List (List ℕ)) (vars : Variables) (args : List Pieces) (fns fns' : Functions) (i : ℕ) (ps : Pieces) (res : Result (List ℕ) VarError)
     → i < length args → ps ≡ get_or args i ps
     → Goes a run [] (after_texts (arguments_of (drop i args)) vars before fns) m
-    → CameTo m (after_pieces ps vars [] fns) b (λ _. over (expanded (Some new) fns')) (over (expanded None fns')) res
-    → CameTo a run b (λ _. after_texts (arguments_of (drop (i + 1) args)) vars (before ++ new ∷ []) fns') (over (expanded None fns')) res
-one_argument a m b run before new vars args fns fns' i ps res there is so_far came =
+    → CameTo m (after_pieces ps vars [] fns) b (λ t. over (expanded (Some t) fns')) (over (expanded None fns')) res
+    → CameTo a run b (λ t. after_texts (arguments_of (drop (i + 1) args)) vars (before ++ t ∷ []) fns') (over (expanded None fns')) res
+one_argument a m b run before vars args fns fns' i ps res there is so_far came =
     let rest : drop i args ≡ ps ∷ drop (i + 1) args = drop_more args i ps there ∙ ap (λ q. q ∷ drop (i + 1) args) (sym is) in
     let next = λ (t : List ℕ). after_texts (arguments_of (drop (i + 1) args)) vars (before ++ t ∷ []) in
     let begun : Goes a run [] (and_then (after_pieces ps vars [] fns) next) m =
     subst (λ r. Goes a run [] r m) (ap (λ l. after_texts (arguments_of l) vars before fns) rest ∙ argument_then ps (drop (i + 1) args) vars before fns) so_far in
-    came-first a m b run (and_then (after_pieces ps vars [] fns) next) (λ _. next new fns') (over (expanded None fns')) res begun
-    (came-bind m b (after_pieces ps vars [] fns) (λ _. over (expanded (Some new) fns')) (over (expanded None fns')) res (on_expanded next) came)
+    came-first a m b run (and_then (after_pieces ps vars [] fns) next) (λ t. next t fns') (over (expanded None fns')) res begun
+    (came-bind m b (after_pieces ps vars [] fns) (λ t. over (expanded (Some t) fns')) (over (expanded None fns')) res (on_expanded next) came)
 
 pub no_argument : (a b : Account) (run : Run (Expanded (List (List ℕ)))) (before : List (List ℕ)) (vars : Variables) (rest : List Pieces) (fns : Functions) → rest ≡ []
     → Goes a run [] (after_texts (arguments_of rest) vars before fns) b → Goes a run [] (over (expanded (Some before) fns)) b
@@ -154,9 +155,10 @@ module _ (r : Run (Expanded (List ℕ))) (args : Functions → Run (Expanded (Li
         by_memory (_, goes-append begun (goes-bind (on_expanded (appended prefix)) (goes-bind (value_or_spelling spelling) left.1)))
 
 -- a value that asks nothing of the outside
-pub known : {E : Type 0} (a : Account) (run : Run Answer) (fns : Functions) (res : Result (Option (List ℕ)) E) → IfOk res (λ v. run ≡ over (v, fns)) → IfOk res (λ v. Goes a run [] (over (v, fns)) a)
-known a run fns (Ok v) h = rw h (goes-nothing a _)
-known a run fns (Err e) h = tt
+pub known : {E V : Type 0} (text_of : V → Option (List ℕ)) (a : Account) (run : Run Answer) (fns : Functions) (res : Result V E) → IfOk res (λ v. run ≡ over (text_of v, fns))
+    → IfOk res (λ v. Goes a run [] (over (text_of v, fns)) a)
+known text_of a run fns (Ok v) h = rw h (goes-nothing a _)
+known text_of a run fns (Err e) h = tt
 
 pub here_left : {A E T : Type 0} (a : Account) (run : Run A) (res : Result T E) → OnErr res (LeftOf a run a)
 here_left a run (Ok x) = tt
@@ -167,14 +169,9 @@ nothing_told a b run (Ok x) h = tt
 nothing_told a b run (Err e) h = (run, goes-tells_nothing (goes-nothing a run) h)
 
 -- a reading of the clock
-pub read_value : (a b : Account) (run : Run Answer) (now : ℕ) (text : List ℕ) (fns : Functions) → run ≡ (reading >>= λ t. over (Some (decimal t), fns)) → Goes a reading [] (over now) b → text ≡ decimal now
-    → Goes a run [] (over (Some text, fns)) b
-read_value a b run now text fns is g same = rw (is, same) (goes-bind (λ t. over (Some (decimal t), fns)) g)
-
-pub read_left : {E T : Type 0} (a b : Account) (run : Run Answer) (now : ℕ) (fns : Functions) (res : Result T E) → run ≡ (reading >>= λ t. over (Some (decimal t), fns)) → Goes a reading [] (over now) b
-    → OnErr res (LeftOf a run b)
-read_left a b run now fns (Ok x) is g = tt
-read_left a b run now fns (Err e) is g = (over (Some (decimal now), fns), rw is (goes-bind (λ t. over (Some (decimal t), fns)) g))
+pub read_value : (a b : Account) (run : Run Answer) (now : ℕ) (fns : Functions) → run ≡ (reading >>= λ t. over (Some (decimal t), fns)) → Goes a reading [] (over now) b
+    → Goes a run [] (over (Some (decimal now), fns)) b
+read_value a b run now fns is g = rw is (goes-bind (λ t. over (Some (decimal t), fns)) g)
 
 pub weight-positive : (ps : List Piece) → 1 ≤ weight (pieces_of ps)
 weight-positive [] = omega arith
@@ -195,3 +192,32 @@ piece_weight (q ∷ ps) (suc i) p h e = omega (arith, piece_weight ps i p (omega
   more (Text t) = omega arith
   more (Var n) = omega arith
   more (Call n args) = omega arith
+
+-- a list of one piece
+pub one_of : (ps : List Piece) (p : Piece) → 1 ≤ length ps → length ps < 2 → p ≡ slice_index_or ps 0 p → ps ≡ p ∷ []
+one_of [] p some few is = absurd (omega (arith, some))
+one_of (q ∷ []) p some few is = ap (λ r. r ∷ []) (sym is)
+one_of (q ∷ r ∷ ps) p some few is = absurd (omega (arith, few))
+
+-- nothing comes after the last piece
+last : (o : Option (List ℕ)) (vars : Variables) (fns : Functions) → on_expanded (after_pieces no_more vars) (expanded o fns) ≡ over (expanded o fns)
+unfolding after_pieces
+last None vars fns = refl
+last (Some t) vars fns = refl
+
+pub one_text : (t : List ℕ) (vars : Variables) (fns : Functions) → after_pieces (pieces_of (Text t ∷ [])) vars [] fns ≡ over (expanded (limited t) fns)
+unfolding after_pieces
+one_text t vars fns = last (limited t) vars fns
+
+pub one_variable : (name t : List ℕ) (vars : Variables) (fns : Functions) → is_some (function_of_name name) ≡ false → value_of name vars ≡ Some t
+    → after_pieces (pieces_of (Var name ∷ [])) vars [] fns ≡ over (expanded (limited t) fns)
+unfolding after_pieces
+one_variable name t vars fns none is =
+    ap (λ r. and_then (and_then r (appended [])) (after_pieces no_more vars)) (referred_variable name vars fns none ∙ ap (λ o. over (expanded (Some (unwrap_or o (reference_spelling (variable name)))) fns)) is)
+    ∙ last (limited t) vars fns
+
+-- what is lent is what a run comes to
+pub lent : {B : Type 0} (text_of : B → List ℕ) (run : Functions → Run (Expanded (List ℕ))) (t : List ℕ) (res : Option B) → option_map text_of res ≡ limited t
+    → ((fns : Functions) → run fns ≡ over (expanded (limited t) fns)) → IfSome res (λ b. (fns : Functions) → run fns ≡ over (expanded (Some (text_of b)) fns))
+lent text_of run t None h is = tt
+lent text_of run t (Some b) h is = λ fns. is fns ∙ ap (λ o. over (expanded o fns)) (sym h)

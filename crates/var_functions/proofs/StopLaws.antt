@@ -9,10 +9,10 @@ use Rattle.template_text.specs.declared.template.Piece.{Piece}
 use Rattle.template_text.specs.declared.template.Piece.TheVariants.{Text, Var, Call}
 use Rattle.template_text.specs.Pieces.{Pieces, no_more, text, reference, Reference, variable, call, Arguments, no_arguments, argument}
 use Rattle.template_text.specs.View.{pieces_of, arguments_of}
-use Rattle.var_functions.specs.declared.error.VarError.{VarError}
-use Rattle.var_functions.specs.declared.error.VarError.TheVariants.{ValueLimit, NoMemory}
+use Rattle.thread_vars.specs.declared.error.VarError.{VarError}
+use Rattle.thread_vars.specs.declared.error.VarError.TheVariants.{ValueLimit, NoMemory}
 use Rattle.var_functions.specs.declared.function.Function.{Function}
-use Rattle.var_functions.specs.Vars.{Variables}
+use Rattle.thread_vars.specs.Vars.{Variables}
 use Rattle.var_functions.specs.Functions.{function_named}
 use Rattle.var_functions.specs.Expansion.{expanded, count, taking, function_of_name, after_piece, after_pieces, after_texts}
 use Rattle.var_functions.specs.Stops.{Moment, AtNoMemory, OutOfMemory, Passes, StopsInValue, StopsIn, StopsInReference, StopsInTexts, StopsInPiece}

@@ -2,8 +2,8 @@
 use Rattle.std.specs.Prelude.{[], Result, Ok, Err}
 use Rattle.jm_base.specs.Run.{Run}
 use Rattle.jm_base.specs.Outside.{Account, Goes}
-use Rattle.var_functions.specs.declared.error.VarError.{VarError}
-use Rattle.var_functions.specs.declared.error.VarError.TheVariants.{ValueLimit, NoMemory}
+use Rattle.thread_vars.specs.declared.error.VarError.{VarError}
+use Rattle.thread_vars.specs.declared.error.VarError.TheVariants.{ValueLimit, NoMemory}
 
 -- some rest of the run is left
 abbrev pub LeftOf : {A : Type 0} → Account → Run A → Account → Type 0

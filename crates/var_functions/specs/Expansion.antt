@@ -6,10 +6,10 @@ use Rattle.template_text.specs.declared.template.Piece.{Piece}
 use Rattle.template_text.specs.declared.template.Piece.TheVariants.{Text, Var, Call}
 use Rattle.template_text.specs.View.{arguments_of}
 use Rattle.template_text.specs.Pieces.{Reference, variable, call, Pieces, no_more, text, reference, Arguments, no_arguments, argument, reference_spelling}
-use Rattle.var_functions.specs.declared.error.VarError.{VarError}
-use Rattle.var_functions.specs.declared.error.VarError.TheVariants.{ValueLimit, NoMemory}
+use Rattle.thread_vars.specs.declared.error.VarError.{VarError}
+use Rattle.thread_vars.specs.declared.error.VarError.TheVariants.{ValueLimit, NoMemory}
 use Rattle.var_functions.specs.declared.function.Function.{Function}
-use Rattle.var_functions.specs.Vars.{Variables, value_of, most_text}
+use Rattle.thread_vars.specs.Vars.{Variables, value_of, most_text}
 use Rattle.var_functions.specs.FunctionState.{Functions}
 use Rattle.var_functions.specs.Functions.{function_named, takes, Answer, value}
 

@@ -1,5 +1,5 @@
 -- The functions: for each its name, how many arguments it takes, and its value where they have their form.
-use Rattle.std.specs.Prelude.{◌≡◌, ◌⊎◌, ℕ, ℤ, ◌==◌, ◌||◌, nat_le, nat_eq, int_le, Bool, true, false, is_some, List, [], ◌∷◌, Option, Some, None, Result, Ok, Err, unwrap_or, slice_get, codes, if◌then◌else◌}
+use Rattle.std.specs.Prelude.{ℕ, ℤ, ◌==◌, ◌||◌, nat_le, nat_eq, int_le, Bool, is_some, List, [], ◌∷◌, Option, Some, None, Result, Ok, Err, unwrap_or, slice_get, codes, if◌then◌else◌}
 use Rattle.std.specs.Option.{option_map}
 use Rattle.std.specs.Fmt.{decimal, signed_decimal}
 use lib.Pointwise.{pointwise}
@@ -9,7 +9,7 @@ use Rattle.cond_expr.specs.declared.value.CondValue.TheVariants.{Number, Text, T
 use Rattle.cond_expr.specs.ConditionMachine.{condition}
 use Rattle.var_functions.specs.declared.function.Function.{Function}
 use Rattle.var_functions.specs.declared.function.Function.TheVariants.{ThreadNum, Counter, Random, IntSum, Variable, Time, Property, IsVarDefined, Condition}
-use Rattle.var_functions.specs.Vars.{Variables, value_of}
+use Rattle.thread_vars.specs.Vars.{Variables, value_of, truth_text}
 use Rattle.var_functions.specs.RunProps.{property_of}
 use Rattle.var_functions.specs.Numbers.{number, picked, int_sum}
 use Rattle.var_functions.specs.FunctionState.{Functions, draw, drawn, count}
@@ -70,10 +70,6 @@ random_value (Some least) (Some most) fns =
 random_value (Some least) None fns = no_value fns
 random_value None most fns = no_value fns
 
-abbrev pub truth_text : Bool → List ℕ
-truth_text true = codes "true"
-truth_text false = codes "false"
-
 -- the text of a condition's value
 abbrev pub condition_value : CondValue → List ℕ
 condition_value (Number z) = signed_decimal z
@@ -96,7 +92,3 @@ value Time args vars fns = reading >>= λ t. over (Some (decimal t), fns)
 value Property args vars fns = over (Some (unwrap_or (property_of (argument 0 args) fns.props) (second_or (codes "1") args)), fns)
 value IsVarDefined args vars fns = over (Some (truth_text (is_some (value_of (argument 0 args) vars))), fns)
 value Condition args vars fns = over (Some (condition_text (condition (argument 0 args))), fns)
-
--- What functions keep where a value lacked memory for its text: as before it, or as it left them.
-abbrev pub LeftByValue : Functions → Run Answer → Functions → Type 0
-LeftByValue fns run fns' = (fns' ≡ fns) ⊎ ((v : Option (List ℕ)) × (run ≡ over (v, fns')))

@@ -1,5 +1,3 @@
-pub mod Vars
-pub mod Beside
 pub mod RunProps
 pub mod Numbers
 pub mod FunctionState
@@ -7,3 +5,4 @@ pub mod Functions
 pub mod Expansion
 pub mod Came
 pub mod Stops
+pub mod Texts

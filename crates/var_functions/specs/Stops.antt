@@ -6,12 +6,12 @@ use Rattle.template_text.specs.declared.template.Piece.{Piece}
 use Rattle.template_text.specs.declared.template.Piece.TheVariants.{Text, Var, Call}
 use Rattle.template_text.specs.View.{arguments_of}
 use Rattle.template_text.specs.Pieces.{Reference, variable, call, Pieces, no_more, text, reference, Arguments, no_arguments, argument}
-use Rattle.var_functions.specs.declared.error.VarError.{VarError}
-use Rattle.var_functions.specs.declared.error.VarError.TheVariants.{ValueLimit, NoMemory}
+use Rattle.thread_vars.specs.declared.error.VarError.{VarError}
+use Rattle.thread_vars.specs.declared.error.VarError.TheVariants.{ValueLimit, NoMemory}
 use Rattle.var_functions.specs.declared.function.Function.{Function}
-use Rattle.var_functions.specs.Vars.{Variables}
+use Rattle.thread_vars.specs.Vars.{Variables}
 use Rattle.var_functions.specs.FunctionState.{Functions}
-use Rattle.var_functions.specs.Functions.{function_named, value, LeftByValue}
+use Rattle.var_functions.specs.Functions.{function_named, value}
 use Rattle.var_functions.specs.Came.{LeftOf}
 use Rattle.var_functions.specs.Expansion.{Expanded, expanded, and_then, appended, count, taking, function_of_name, referred, after_pieces, after_texts}
 
@@ -30,7 +30,7 @@ Passes {A} from run Then = (x : A) × (at : Moment) × Goes from.outside run [] 
 -- at a function's value, whose arguments have these texts: before it came or after
 abbrev pub StopsInValue : Variables → Moment → Moment → Function → List (List ℕ) → Type 0
 StopsInValue vars from to f texts =
-    (LeftByValue from.fns (value f texts vars from.fns) to.fns × LeftOf from.outside (value f texts vars from.fns) to.outside)
+    ((to.fns ≡ from.fns) × LeftOf from.outside (value f texts vars from.fns) to.outside)
     ⊎ ((v : Option (List ℕ)) × Goes from.outside (value f texts vars from.fns) [] (over (v, to.fns)) to.outside)
 
 -- in a call: before it, in its arguments, or at its value

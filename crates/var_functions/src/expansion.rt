@@ -1,26 +1,28 @@
 // The expansion of a template.
 
-ghost use Rattle.std.specs.Prelude.{◌≡◌, ◌≤◌, ◌++◌, [], All, IfOk, OnOk, Some, None, length};
-ghost use Rattle.std.specs.Option.{option_and_then};
+ghost use Rattle.std.specs.Prelude.{◌≡◌, ◌≤◌, ◌++◌, [], All, IfOk, IfSome, OnOk, Some, None, length};
+ghost use Rattle.std.specs.Option.{option_and_then, option_map};
 ghost use Rattle.jm_base.specs.Run.{over};
 ghost use Rattle.template_text.specs.Pieces.{variable, call, reference_spelling};
 ghost use Rattle.template_text.specs.View.{arguments_of};
-ghost use Rattle.var_functions.specs.Vars.{most_text};
+ghost use Rattle.thread_vars.specs.Vars.{most_text};
 ghost use Rattle.var_functions.specs.Functions.{function_named};
+ghost use Rattle.var_functions.specs.Texts.{value_bytes};
 ghost use Rattle.var_functions.specs.Came.{CameTo};
-ghost use Rattle.var_functions.specs.FunctionState.{IsLater};
+ghost use Rattle.var_functions.specs.FunctionState.{Functions, IsLater};
 ghost use Rattle.var_functions.specs.Stops.{OutOfMemory, moment, StopsIn, StopsInReference, StopsInTexts, StopsInPiece};
 ghost use Rattle.var_functions.specs.Expansion.{expanded, and_then, appended, limited, taking, function_of_name, referred, after_piece, after_pieces, after_texts, expansion, Grows};
 
-use crate::error::VarError;
 use crate::function::{Function, function_named};
 use crate::state::{FnState, UserState};
-use crate::table::MOST_TEXT;
+use crate::texts::{Argument, Value};
 use crate::value::value;
-use crate::vars::Vars;
+use itoa::Buffer;
 use jm_base::{Outside, Text};
+use smallvec::SmallVec;
 use std::alloc::Global;
 use template_text::{Piece, Template, spell_call, spell_variable};
+use thread_vars::{MOST_TEXT, VarError, Vars};
 
 // Most expansions are no longer than this, and take memory once.
 const USUAL_LENGTH: usize = 64;
@@ -44,6 +46,18 @@ fn append(bytes: &[u8], out: &mut Vec<u8>) -> Result<(), VarError>
     match out.extend_from_slice(bytes) {
         Ok(()) => check_length(out),
         Err(_) => Err(VarError::NoMemory),
+    }
+}
+
+/// Writes the text of a value at the end, where that is within the limit.
+fn append_value(value: &Value, out: &mut Vec<u8>) -> Result<(), VarError>
+    ensures grown { Grows (out.old.items ++ value_bytes value.now) out.new.items result }
+    ensures short { OnOk result (length out.new.items ≤ most_text) }
+{
+    match value {
+        Value::Number(number) => append(Buffer::new().format(*number).as_bytes(), out),
+        Value::Lent(text) => append(text, out),
+        Value::Formed(text) => append(text.bytes(), out),
     }
 }
 
@@ -118,7 +132,7 @@ fn write_named<O: Outside>(
     }
     match taking(named, 0) {
         Some(function) => match value(alloc, function, &[], vars, fns, outside) {
-            Ok(Some(text)) => append(text.bytes(), out),
+            Ok(Some(value)) => append_value(&value, out),
             Ok(None) => append_variable(alloc, name, out),
             Err(_) => Err(VarError::NoMemory),
         },
@@ -147,8 +161,8 @@ fn write_called<O: Outside>(
         return append_call(alloc, name, args, out);
     };
     match argument_texts(alloc, args, vars, fns, outside) {
-        Ok(texts) => match value(alloc, function, &texts, vars, fns, outside) {
-            Ok(Some(text)) => append(text.bytes(), out),
+        Ok(texts) => match value(alloc, function, texts.as_slice(), vars, fns, outside) {
+            Ok(Some(value)) => append_value(&value, out),
             Ok(None) => append_call(alloc, name, args, out),
             Err(_) => Err(VarError::NoMemory),
         },
@@ -158,30 +172,83 @@ fn write_called<O: Outside>(
 
 /// The texts of arguments, from the left.
 #[cycle(expansion)]
-fn argument_texts<O: Outside>(
+fn argument_texts<'a, O: Outside>(
     alloc: Global,
-    args: &[Template],
-    vars: &Vars,
+    args: &'a [Template],
+    vars: &'a Vars,
     fns: &mut FnState,
     outside: &mut O,
-) -> Result<Vec<Text>, VarError>
-    ensures came { CameTo (O.account outside.old) (after_texts (arguments_of args.now) vars.now [] fns.old) (O.account outside.new)
+) -> Result<SmallVec<Argument<'a>, 2>, VarError>
+    ensures came { CameTo (O.account outside.old) (after_texts (arguments_of args.entry.now) vars.entry.now [] fns.old) (O.account outside.new)
         (λ v. over (expanded (Some v.items) fns.new)) (over (expanded None fns.new)) result }
-    ensures stops { OutOfMemory result (StopsInTexts (arguments_of args.now) vars.now (moment fns.old (O.account outside.old)) (moment fns.new (O.account outside.new))) }
+    ensures stops { OutOfMemory result (StopsInTexts (arguments_of args.entry.now) vars.entry.now (moment fns.old (O.account outside.old)) (moment fns.new (O.account outside.new))) }
     ensures later { IsLater fns.old fns.new }
     ensures short { IfOk result (λ v. All (λ t. length t ≤ most_text) v.items) }
 {
-    let mut texts = Vec::new(alloc);
+    let mut texts = SmallVec::new(alloc);
     for argument in args {
-        let mut text = text_for(alloc, argument);
-        if let Err(error) = write_pieces(alloc, argument, vars, fns, outside, &mut text) {
-            return Err(error);
+        match argument_text(alloc, argument, vars, fns, outside) {
+            Ok(text) => {
+                let Ok(()) = texts.push(text) else {
+                    return Err(VarError::NoMemory);
+                };
+            }
+            Err(error) => return Err(error),
         }
-        let Ok(()) = texts.push(Text::of(text)) else {
-            return Err(VarError::NoMemory);
-        };
     }
     Ok(texts)
+}
+
+/// The text of an argument. It takes memory where it has to be formed.
+#[cycle(expansion)]
+fn argument_text<'a, O: Outside>(
+    alloc: Global,
+    argument: &'a Template,
+    vars: &'a Vars,
+    fns: &mut FnState,
+    outside: &mut O,
+) -> Result<Argument<'a>, VarError>
+    ensures came { CameTo (O.account outside.old) (after_pieces argument.entry.now vars.entry.now [] fns.old) (O.account outside.new)
+        (λ t. over (expanded (Some t) fns.new)) (over (expanded None fns.new)) result }
+    ensures stops { OutOfMemory result (StopsIn argument.entry.now vars.entry.now [] (moment fns.old (O.account outside.old)) (moment fns.new (O.account outside.new))) }
+    ensures later { IsLater fns.old fns.new }
+    ensures short { IfOk result (λ t. length t ≤ most_text) }
+{
+    if let Some(text) = lent_text(argument, vars) {
+        return Ok(Argument::lent(text));
+    }
+    let mut text = text_for(alloc, argument);
+    match write_pieces(alloc, argument, vars, fns, outside, &mut text) {
+        Ok(()) => Ok(Argument::formed(text)),
+        Err(error) => Err(error),
+    }
+}
+
+/// What a template stands for that is one text or the name of one variable, where that is within the limit.
+fn lent_text<'a>(template: &'a Template, vars: &'a Vars) -> Option<&'a [u8]>
+    ensures text { IfSome result (λ t. (fns : Functions) → after_pieces template.entry.now vars.entry.now [] fns ≡ over (expanded (Some t.now) fns)) }
+    ensures short { IfSome result (λ t. length t.now ≤ most_text) }
+{
+    let [piece] = template.pieces.as_slice() else {
+        return None;
+    };
+    match piece {
+        Piece::Text(text) => limited(text.bytes()),
+        Piece::Var(name) if function_of_name(name.bytes()).is_none() => {
+            limited(vars.get(name.bytes())?.bytes())
+        }
+        _ => None,
+    }
+}
+
+/// The text, where it is within the limit.
+fn limited<'a>(text: &'a [u8]) -> Option<&'a [u8]>
+    ensures { option_map (λ t. t.now) result ≡ limited text.entry.now }
+{
+    if text.len() > MOST_TEXT {
+        return None;
+    }
+    Some(text)
 }
 
 // An empty text for what a template stands for, with room for one that is not long, where there is memory for it. A template

@@ -1,4 +1,4 @@
-//! Properties, variables and functions of a thread, and the expansion of templates.
+//! Properties and functions of a thread, and the expansion of templates.
 #![tactic(auto)]
 
 mod error;
@@ -7,12 +7,11 @@ mod function;
 mod number;
 mod props;
 mod state;
-mod table;
+mod texts;
 mod value;
-mod vars;
 
-pub use error::{PropsError, VarError};
+pub use error::PropsError;
 pub use expansion::expand;
 pub use props::Props;
 pub use state::{FnState, UserState};
-pub use vars::Vars;
+pub use thread_vars::{VarError, Vars};

@@ -1,12 +1,9 @@
 // Numbers as functions read and write them.
 
-ghost use Rattle.std.specs.Prelude.{◌≡◌, ◌≤◌, ◌^◌, ◌+ℤ◌, ◌≤ℤ◌, neg_ℤ, pos, IfOk, IfSome};
-ghost use Rattle.std.specs.Fmt.{decimal, signed_decimal};
+ghost use Rattle.std.specs.Prelude.{◌≡◌, ◌≤◌, ◌^◌, ◌+ℤ◌, ◌≤ℤ◌, neg_ℤ, pos, IfSome};
 ghost use Rattle.var_functions.specs.Numbers.{magnitude, signed, within, number_within, picked, int_sum};
 
-use itoa::Buffer;
-use jm_base::{M, Text};
-use std::alloc::Global;
+use crate::texts::Argument;
 
 /// Below this and from its negation on are the numbers of 32 signed bits.
 const SMALL_LIMIT: u64 = 1 << 31;
@@ -90,7 +87,7 @@ fn plus(sum: i128, number: i64) -> i128
 }
 
 /// The sum of numbers of 32 signed bits each, where it is within 32 signed bits.
-pub(crate) fn int_sum(texts: &[Text]) -> Option<i64>
+pub(crate) fn int_sum(texts: &[Argument]) -> Option<i64>
     ensures { result ≡ int_sum texts.now }
 {
     let mut sum: i128 = 0;
@@ -98,20 +95,4 @@ pub(crate) fn int_sum(texts: &[Text]) -> Option<i64>
         sum = plus(sum, number_within(SMALL_LIMIT, text.bytes())?);
     }
     within(SMALL_LIMIT, sum)
-}
-
-/// The decimal text of a number. `NoMemory` comes where there is no memory for it.
-pub(crate) fn decimal_text(alloc: Global, number: u64) -> M<Text>
-    ensures { IfOk result (λ t. t ≡ decimal number) }
-{
-    let mut buffer = Buffer::new();
-    Text::new(alloc, buffer.format(number).as_bytes())
-}
-
-/// The decimal text of a number that may be negative.
-pub(crate) fn signed_text(alloc: Global, number: i128) -> M<Text>
-    ensures { IfOk result (λ t. t ≡ signed_decimal number) }
-{
-    let mut buffer = Buffer::new();
-    Text::new(alloc, buffer.format(number).as_bytes())
 }

@@ -5,13 +5,13 @@ ghost use Rattle.var_functions.specs.RunProps.{property_of};
 ghost use Rattle.var_functions.specs.FunctionState.{first_functions, first_state, drawn, draw, count, IsLater};
 
 use crate::props::Props;
-use crate::vars::Vars;
 use jm_base::M;
 use rand_chacha::ChaCha8Rng;
 use rand_core::SeedableRng;
 use rand_core::utils::NextWord;
 use std::alloc::Global;
 use std::marker::Model;
+use thread_vars::Vars;
 
 /// What the functions of a thread keep: the properties of the run, the thread's number in its group, the count of
 /// `__counter`, and the generator of random words.

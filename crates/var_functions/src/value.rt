@@ -1,28 +1,30 @@
 // The values of functions.
 
 ghost use Rattle.std.specs.Prelude.{◌≡◌, ◌≢◌, ◌≤◌, [], All, IfOk, OnErr, length, codes, unwrap_or, option_map};
-ghost use Rattle.std.specs.Fmt.{signed_decimal};
+ghost use Rattle.std.specs.Fmt.{decimal, signed_decimal};
 ghost use Rattle.var_functions.specs.RunProps.{property_of};
 ghost use Rattle.jm_base.specs.Run.{over};
 ghost use Rattle.jm_base.specs.Outside.{Goes};
 ghost use Rattle.cond_expr.specs.ConditionMachine.{condition};
 ghost use Rattle.cond_expr.specs.ConditionGives.{Gives};
-ghost use Rattle.var_functions.specs.Vars.{most_text, value_of};
+ghost use Rattle.thread_vars.specs.Vars.{most_text, truth_text, value_of};
+ghost use Rattle.var_functions.specs.Texts.{value_bytes};
 ghost use Rattle.var_functions.specs.Came.{LeftOf};
 ghost use Rattle.var_functions.specs.FunctionState.{IsLater};
-ghost use Rattle.var_functions.specs.Functions.{argument, second_or, counts, counter_value, random_value, truth_text, condition_text, value, LeftByValue};
+ghost use Rattle.var_functions.specs.Functions.{argument, second_or, counts, counter_value, random_value, condition_text, value};
 
 use crate::function::Function;
-use crate::number::{LIMIT, decimal_text, int_sum, number_within, picked, signed_text};
+use crate::number::{LIMIT, int_sum, number_within, picked};
 use crate::state::FnState;
-use crate::vars::Vars;
+use crate::texts::{Argument, Value};
 use cond_expr::{CondError, CondValue, eval, parse_cond};
 use jm_base::{M, Outside, Text};
 use std::alloc::Global;
+use thread_vars::{Vars, truth_text};
 
 /// The argument at this place.
-fn argument(args: &[Text], place: usize) -> &[u8]
-    ensures { result.now ≡ argument place args.now }
+fn argument<'a>(args: &'a [Argument], place: usize) -> &'a [u8]
+    ensures { result.now ≡ argument place args.entry.now }
 {
     match args.get(place) {
         Some(text) => text.bytes(),
@@ -31,7 +33,7 @@ fn argument(args: &[Text], place: usize) -> &[u8]
 }
 
 /// The second argument, where there is one, and else another text.
-fn second_or<'a>(other: &'a [u8], args: &'a [Text]) -> &'a [u8]
+fn second_or<'a>(other: &'a [u8], args: &'a [Argument]) -> &'a [u8]
     ensures { result.now ≡ second_or other.entry.now args.entry.now }
 {
     match args.get(1) {
@@ -40,15 +42,18 @@ fn second_or<'a>(other: &'a [u8], args: &'a [Text]) -> &'a [u8]
     }
 }
 
-/// `true` or `false`.
-fn truth_text(alloc: Global, truth: bool) -> M<Text>
-    ensures { IfOk result (λ t. t ≡ truth_text truth) }
+/// A number that is not negative.
+fn count_value(number: u64) -> Value<'static>
+    ensures { value_bytes result ≡ decimal number }
 {
-    if truth {
-        Text::new(alloc, b"true")
-    } else {
-        Text::new(alloc, b"false")
-    }
+    Value::Number(i128::from(number))
+}
+
+/// `true` or `false`.
+fn truth_value(truth: bool) -> Value<'static>
+    ensures { value_bytes result ≡ truth_text truth }
+{
+    Value::Lent(truth_text(truth))
 }
 
 /// Whether the argument of `__counter` is one of those that count.
@@ -59,35 +64,26 @@ fn counts(flag: &[u8]) -> bool
 }
 
 /// The value of `__counter`.
-fn counter_value(alloc: Global, flag: &[u8], fns: &mut FnState) -> M<Option<Text>>
-    ensures value { IfOk result (λ v. (v, fns.new) ≡ counter_value flag.now fns.old) }
-    ensures left { OnErr result (LeftByValue fns.old (over (counter_value flag.now fns.old)) fns.new) }
+fn counter_value(flag: &[u8], fns: &mut FnState) -> Option<Value<'static>>
+    ensures value { (option_map value_bytes result, fns.new) ≡ counter_value flag.now fns.old }
     ensures later { IsLater fns.old fns.new }
 {
     if counts(flag) {
-        let text = decimal_text(alloc, fns.count())?;
-        return Ok(Some(text));
+        return Some(count_value(fns.count()));
     }
-    Ok(None)
+    None
 }
 
 /// The value of `__Random` between two numbers.
-fn random_value(
-    alloc: Global,
-    least: Option<i64>,
-    most: Option<i64>,
-    fns: &mut FnState,
-) -> M<Option<Text>>
-    ensures value { IfOk result (λ v. (v, fns.new) ≡ random_value least most fns.old) }
-    ensures left { OnErr result (LeftByValue fns.old (over (random_value least most fns.old)) fns.new) }
+fn random_value(least: Option<i64>, most: Option<i64>, fns: &mut FnState) -> Option<Value<'static>>
+    ensures value { (option_map value_bytes result, fns.new) ≡ random_value least most fns.old }
     ensures later { IsLater fns.old fns.new }
 {
     match (least, most) {
         (Some(least), Some(most)) if least <= most => {
-            let text = signed_text(alloc, picked(least, most, fns.draw()))?;
-            Ok(Some(text))
+            Some(Value::Number(picked(least, most, fns.draw())))
         }
-        _ => Ok(None),
+        _ => None,
     }
 }
 
@@ -103,104 +99,101 @@ fn condition(alloc: Global, text: &[u8]) -> Result<CondValue, CondError>
 }
 
 /// The text of a condition's value, or no text where it has none.
-fn condition_text(alloc: Global, text: &[u8]) -> M<Text>
+fn condition_value(alloc: Global, text: &[u8]) -> M<Value<'static>>
     requires { length text.now ≤ 65536 }
-    ensures { IfOk result (λ t. t ≡ condition_text (condition text.now)) }
+    ensures { IfOk result (λ v. value_bytes v ≡ condition_text (condition text.now)) }
 {
     match condition(alloc, text) {
-        Ok(CondValue::Number(number)) => signed_text(alloc, i128::from(number)),
-        Ok(CondValue::Text(text)) => Ok(text),
-        Ok(CondValue::Truth(truth)) => truth_text(alloc, truth),
-        Err(CondError::BadCond { at: _ }) => Text::new(alloc, b""),
+        Ok(CondValue::Number(number)) => Ok(Value::Number(i128::from(number))),
+        Ok(CondValue::Text(text)) => Ok(Value::Formed(text)),
+        Ok(CondValue::Truth(truth)) => Ok(truth_value(truth)),
+        Err(CondError::BadCond { at: _ }) => Ok(Value::Lent(b"")),
         Err(CondError::NoMemory) => Err(jm_base::NoMemory),
     }
 }
 
 /// The value of a sum, where there is one.
-fn sum_text(alloc: Global, sum: Option<i64>) -> M<Option<Text>>
-    ensures { IfOk result (λ v. v ≡ option_map signed_decimal sum) }
+fn sum_value(sum: Option<i64>) -> Option<Value<'static>>
+    ensures { option_map value_bytes result ≡ option_map signed_decimal sum }
 {
     match sum {
-        Some(sum) => {
-            let text = signed_text(alloc, i128::from(sum))?;
-            Ok(Some(text))
-        }
-        None => Ok(None),
+        Some(sum) => Some(Value::Number(i128::from(sum))),
+        None => None,
     }
 }
 
 /// The value of `__V`.
-fn variable_text(alloc: Global, args: &[Text], vars: &Vars) -> M<Text>
-    ensures { IfOk result (λ t. t ≡ unwrap_or (value_of (argument 0 args.now) vars.now) (second_or (argument 0 args.now) args.now)) }
+fn variable_value<'a>(args: &'a [Argument], vars: &'a Vars) -> Value<'a>
+    ensures { value_bytes result ≡ unwrap_or (value_of (argument 0 args.entry.now) vars.entry.now) (second_or (argument 0 args.entry.now) args.entry.now) }
 {
     match vars.get(argument(args, 0)) {
-        Some(value) => value.copy(alloc),
-        None => Text::new(alloc, second_or(argument(args, 0), args)),
+        Some(value) => Value::Lent(value.bytes()),
+        None => Value::Lent(second_or(argument(args, 0), args)),
     }
 }
 
 /// The value of `__P`.
-fn property_text(alloc: Global, args: &[Text], fns: &FnState) -> M<Text>
-    ensures { IfOk result (λ t. t ≡ unwrap_or (property_of (argument 0 args.now) fns.now.props) (second_or (codes "1") args.now)) }
+fn property_value(alloc: Global, args: &[Argument], fns: &FnState) -> M<Value<'static>>
+    ensures { IfOk result (λ v. value_bytes v ≡ unwrap_or (property_of (argument 0 args.now) fns.now.props) (second_or (codes "1") args.now)) }
 {
-    match fns.property(argument(args, 0)) {
-        Some(value) => Text::new(alloc, value),
-        None => Text::new(alloc, second_or(b"1", args)),
-    }
+    let text = match fns.property(argument(args, 0)) {
+        Some(value) => Text::new(alloc, value)?,
+        None => Text::new(alloc, second_or(b"1", args))?,
+    };
+    Ok(Value::Formed(text))
 }
 
 /// The value of a function that asks nothing of the outside.
-fn kept_value(
+fn kept_value<'a>(
     alloc: Global,
     function: Function,
-    args: &[Text],
-    vars: &Vars,
+    args: &'a [Argument],
+    vars: &'a Vars,
     fns: &mut FnState,
-) -> M<Option<Text>>
+) -> M<Option<Value<'a>>>
     requires time { function ≢ Function.Time }
     requires short { All (λ t. length t ≤ most_text) args.now }
-    ensures value { IfOk result (λ v. value function args.now vars.now fns.old ≡ over (v, fns.new)) }
-    ensures left { OnErr result (LeftByValue fns.old (value function args.now vars.now fns.old) fns.new) }
+    ensures value { IfOk result (λ v. value function args.entry.now vars.entry.now fns.old ≡ over (option_map value_bytes v, fns.new)) }
+    ensures left { OnErr result (fns.new ≡ fns.old) }
     ensures later { IsLater fns.old fns.new }
 {
-    let text = match function {
-        Function::ThreadNum => decimal_text(alloc, u64::from(fns.thread_num()))?,
-        Function::Variable => variable_text(alloc, args, vars)?,
-        Function::Property => property_text(alloc, args, fns)?,
-        Function::IsVarDefined => truth_text(alloc, vars.get(argument(args, 0)).is_some())?,
-        Function::Condition => condition_text(alloc, argument(args, 0))?,
-        Function::Counter => return counter_value(alloc, argument(args, 0), fns),
+    let value = match function {
+        Function::ThreadNum => count_value(u64::from(fns.thread_num())),
+        Function::Variable => variable_value(args, vars),
+        Function::Property => property_value(alloc, args, fns)?,
+        Function::IsVarDefined => truth_value(vars.get(argument(args, 0)).is_some()),
+        Function::Condition => condition_value(alloc, argument(args, 0))?,
+        Function::Counter => return Ok(counter_value(argument(args, 0), fns)),
         Function::Random => {
             let least = number_within(LIMIT, argument(args, 0));
             let most = number_within(LIMIT, argument(args, 1));
-            return random_value(alloc, least, most, fns);
+            return Ok(random_value(least, most, fns));
         }
-        Function::IntSum => return sum_text(alloc, int_sum(args)),
+        Function::IntSum => return Ok(sum_value(int_sum(args))),
         Function::Time => unreachable!(),
     };
-    Ok(Some(text))
+    Ok(Some(value))
 }
 
 /// The value of a function at its arguments, or none where they haven't its form. It changes what functions keep.
-pub(crate) fn value<O: Outside>(
+pub(crate) fn value<'a, O: Outside>(
     alloc: Global,
     function: Function,
-    args: &[Text],
-    vars: &Vars,
+    args: &'a [Argument],
+    vars: &'a Vars,
     fns: &mut FnState,
     outside: &mut O,
-) -> M<Option<Text>>
+) -> M<Option<Value<'a>>>
     requires { All (λ t. length t ≤ most_text) args.now }
-    ensures ok { IfOk result (λ v. Goes (O.account outside.old) (value function args.now vars.now fns.old) [] (over (v, fns.new)) (O.account outside.new)) }
-    ensures cut { OnErr result (LeftOf (O.account outside.old) (value function args.now vars.now fns.old) (O.account outside.new)) }
-    ensures left { OnErr result (LeftByValue fns.old (value function args.now vars.now fns.old) fns.new) }
+    ensures ok { IfOk result (λ v. Goes (O.account outside.old) (value function args.entry.now vars.entry.now fns.old) [] (over (option_map value_bytes v, fns.new)) (O.account outside.new)) }
+    ensures cut { OnErr result (LeftOf (O.account outside.old) (value function args.entry.now vars.entry.now fns.old) (O.account outside.new)) }
+    ensures left { OnErr result (fns.new ≡ fns.old) }
     ensures later { IsLater fns.old fns.new }
 {
     match function {
         Function::Time => {
             let now = outside.now()?;
-            let text = decimal_text(alloc, now)?;
-            Ok(Some(text))
+            Ok(Some(count_value(now)))
         }
         _ => kept_value(alloc, function, args, vars, fns),
     }

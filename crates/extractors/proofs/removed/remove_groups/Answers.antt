@@ -1,5 +1,5 @@
 use Rattle.std.proofs.Common.{◌∙◌, ap, arith}
-use Rattle.var_functions.specs.Vars.{without_var}
+use Rattle.thread_vars.specs.Vars.{without_var}
 use Rattle.extractors.specs.Extraction.{removes_groups}
 use Rattle.extractors.proofs.RemovedLaws.{groups-first, groups-more, groups-over}
 use Rattle.extractors.proofs.removed.remove_groups.Goals as goal

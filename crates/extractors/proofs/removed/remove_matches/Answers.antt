@@ -1,6 +1,6 @@
 use Rattle.std.proofs.Common.{◌≡◌, ◌+◌, ◌∙◌, ap, arith}
 use Rattle.std.proofs.lemmas.Result.{err_from_is_err_and}
-use Rattle.var_functions.specs.Vars.{without_var}
+use Rattle.thread_vars.specs.Vars.{without_var}
 use Rattle.var_changes.proofs.ChangeLaws.{standing-more, standing-stopped}
 use Rattle.extractors.specs.Extraction.{removes_groups, removes_matches}
 use Rattle.extractors.proofs.RemovedLaws.{from_match, matches-first, matches-next, matches-over}

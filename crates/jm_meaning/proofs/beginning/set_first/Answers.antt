@@ -3,7 +3,7 @@ use Rattle.jm_base.specs.Run.{over}
 use Rattle.jm_base.proofs.RunLaws.{goes-bind}
 use Rattle.jm_base.specs.declared.types.End.TheVariants.{ValueLimit as PastValueLimit}
 use Rattle.std.proofs.Common.{refl}
-use Rattle.var_functions.specs.Vars.{put_var}
+use Rattle.thread_vars.specs.Vars.{put_var}
 use Rattle.var_functions.proofs.CameLaws.{came-first, refused-bind}
 use Rattle.jm_meaning.specs.State.{state_of, normal, stopped, on_normal, put}
 use Rattle.jm_meaning.specs.Beginning.{set_first, user_variables, last_sample_ok}

@@ -6,7 +6,7 @@ use Rattle.sampler_pipeline.specs.SamplerPipeline.{last_sample_ok, truth_text}
 use Rattle.var_functions.proofs.LaterLaws.{later_same}
 use Rattle.std.proofs.Common.{ap}
 use Rattle.var_functions.specs.declared.state.UserState.{UserState}
-use Rattle.var_functions.specs.Vars.{Variables}
+use Rattle.thread_vars.specs.Vars.{Variables}
 use Rattle.trials.proofs.CutLaws.{puts_refused}
 use Rattle.sampler_pipeline.proofs.run.note.Goals as goal
 

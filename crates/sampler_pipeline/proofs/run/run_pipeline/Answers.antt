@@ -11,7 +11,7 @@ use Rattle.sampler_pipeline.specs.SamplerPipeline.{pre_process, pausing, asking,
 use Rattle.var_functions.proofs.LaterLaws.{later_then, later_same}
 use Rattle.trials.proofs.CutLaws.{refused-left}
 use Rattle.sampler_pipeline.proofs.PipelineStages.{after_request, after_pause, after_delay, after_pre}
-use Rattle.var_functions.specs.declared.error.VarError.TheVariants.{NoMemory}
+use Rattle.thread_vars.specs.declared.error.VarError.TheVariants.{NoMemory}
 use Rattle.sampler_pipeline.proofs.StageLaws.{same-error}
 use Rattle.sampler_pipeline.proofs.run.run_pipeline.Goals as goal
 

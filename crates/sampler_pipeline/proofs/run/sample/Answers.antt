@@ -5,7 +5,7 @@ use Rattle.trials.specs.Tried.{fine, past_limit, giving}
 use Rattle.trials.proofs.TrialLaws.{then-came, then-refused}
 use Rattle.sampler_pipeline.specs.SamplerPipeline.{answering}
 use Rattle.var_functions.proofs.LaterLaws.{later_same}
-use Rattle.var_functions.specs.declared.error.VarError.TheVariants.{NoMemory}
+use Rattle.thread_vars.specs.declared.error.VarError.TheVariants.{NoMemory}
 use Rattle.sampler_pipeline.proofs.StageLaws.{same-error}
 use Rattle.sampler_pipeline.proofs.run.sample.Goals as goal
 

@@ -2,7 +2,7 @@ use Rattle.std.proofs.Common.{refl, ap, ◌∙◌, inl, inr}
 use Rattle.element_tree.specs.Scope.{Scope}
 use Rattle.sampler_pipeline.proofs.AnswerLaws.{answered-all, not-noted, not-judged, not-posted}
 use Rattle.var_functions.proofs.LaterLaws.{later_then}
-use Rattle.var_functions.specs.declared.error.VarError.TheVariants.{NoMemory}
+use Rattle.thread_vars.specs.declared.error.VarError.TheVariants.{NoMemory}
 use Rattle.sampler_pipeline.proofs.StageLaws.{same-error}
 use Rattle.sampler_pipeline.proofs.run.sample_answer.Goals as goal
 

@@ -7,9 +7,10 @@ use Rattle.jm_base.proofs.RunLaws.{goes-nothing}
 use Rattle.template_text.specs.Pieces.{call, reference_spelling}
 use Rattle.template_text.specs.View.{pieces_of, arguments_of, weight, arguments_weight}
 use Rattle.template_text.proofs.Written.{argument_weight}
-use Rattle.var_functions.specs.Vars.{most_text}
+use Rattle.thread_vars.specs.Vars.{most_text}
 use Rattle.var_functions.specs.Functions.{function_named}
 use Rattle.var_functions.specs.Came.{by_memory}
+use Rattle.var_functions.specs.Texts.{value_bytes}
 use Rattle.var_functions.specs.Expansion.{taking, count, after_texts, Grows}
 use Rattle.var_functions.proofs.LaterLaws.{later_same, later_then}
 use Rattle.var_functions.proofs.Expanding.{grows-came, one_piece, no_piece, one_argument, no_argument, names_function, referred_call, called_none, called_refused, called_value, called_cut, piece_weight, weight-positive}
@@ -24,36 +25,36 @@ argument_texts-loop-argument-init g t c = record {
   stops = λ to h. h;
 }
 
-pub argument_texts-write_pieces-requires : goal.argument_texts-write_pieces-requires
-argument_texts-write_pieces-requires g t c =
+pub argument_texts-argument_text-requires : goal.argument_texts-argument_text-requires
+argument_texts-argument_text-requires g t c =
     let below : weight (get_or c.args.args.now c.loop-argument.argument-index c.argument-item.result) ≤ arguments_weight (arguments_of c.args.args.now) =
     argument_weight c.args.args.now c.loop-argument.argument-index c.argument-item.result c.loop-argument-test.true in
     let same : weight c.argument-item.result ≡ weight (get_or c.args.args.now c.loop-argument.argument-index c.argument-item.result) = ap weight c.argument-item.is in
-    λ κs h. (omega (arith, below, same, c.decreases), (λ a m. h a m, rw c.text_for-text.ensures (omega arith)))
+    λ κs h. (omega (arith, below, same, c.decreases), λ a m. h a m)
 
 pub argument_texts-returns-in-Err-clause-came : goal.argument_texts-returns-in-Err-clause-came
 argument_texts-returns-in-Err-clause-came g t c =
-    one_argument _ _ _ _ c.loop-argument.texts.items c.write_pieces.new.out.items c.args.vars.now c.args.args.now c.loop-argument.fns c.write_pieces.new.fns c.loop-argument.argument-index c.argument-item.result (Err c.in-Err.error)
-    c.loop-argument-test.true c.argument-item.is c.loop-argument.invariant.goes (rw c.text_for-text.ensures at c.in-Err.ensures.came)
+    one_argument _ _ _ _ c.loop-argument.texts.items c.args.vars.now c.args.args.now c.loop-argument.fns c.argument_text.new.fns c.loop-argument.argument-index c.argument-item.result (Err c.in-Err.error)
+    c.loop-argument-test.true c.argument-item.is c.loop-argument.invariant.goes c.in-Err.ensures.came
 
-pub argument_texts-returns-in_default-push-clause-came : goal.argument_texts-returns-in_default-push-clause-came
-argument_texts-returns-in_default-push-clause-came g t c =
+pub argument_texts-returns-in_default-clause-came : goal.argument_texts-returns-in_default-clause-came
+argument_texts-returns-in_default-clause-came g t c =
     by_memory (
       _,
-      one_argument _ _ _ _ c.loop-argument.texts.items c.write_pieces.new.out.items c.args.vars.now c.args.args.now c.loop-argument.fns c.write_pieces.new.fns c.loop-argument.argument-index c.argument-item.result (Ok tt)
-          c.loop-argument-test.true c.argument-item.is c.loop-argument.invariant.goes (rw c.text_for-text.ensures at c.in_default.ensures.came),
+      one_argument _ _ _ _ c.loop-argument.texts.items c.args.vars.now c.args.args.now c.loop-argument.fns c.argument_text.new.fns c.loop-argument.argument-index c.argument-item.result (Ok c.in-Ok.text)
+          c.loop-argument-test.true c.argument-item.is c.loop-argument.invariant.goes c.in-Ok.ensures.came,
     )
 
 pub argument_texts-loop-argument-preserved : goal.argument_texts-loop-argument-preserved
 argument_texts-loop-argument-preserved g t c =
-    let items : c.push.new.self.items ≡ c.loop-argument.texts.items ++ c.write_pieces.new.out.items ∷ [] = rw c.of.ensures at c.in-Ok.ensures.items in
+    let items : c.push.new.self.items ≡ c.loop-argument.texts.items ++ c.in-Ok.text ∷ [] = c.in-Ok-push.ensures.ok in
     record {
-      short = rw items (All-push (λ t. length t ≤ most_text) c.loop-argument.texts.items c.write_pieces.new.out.items c.loop-argument.invariant.short c.in_default.ensures.short);
-      goes = rw items (one_argument _ _ _ _ c.loop-argument.texts.items c.write_pieces.new.out.items c.args.vars.now c.args.args.now c.loop-argument.fns c.write_pieces.new.fns c.loop-argument.argument-index c.argument-item.result (Ok tt)
-          c.loop-argument-test.true c.argument-item.is c.loop-argument.invariant.goes (rw c.text_for-text.ensures at c.in_default.ensures.came));
-      later = later_then _ _ _ c.loop-argument.invariant.later c.write_pieces.ensures.later;
+      short = rw items (All-push (λ t. length t ≤ most_text) c.loop-argument.texts.items c.in-Ok.text c.loop-argument.invariant.short c.in-Ok.ensures.short);
+      goes = rw items (one_argument _ _ _ _ c.loop-argument.texts.items c.args.vars.now c.args.args.now c.loop-argument.fns c.argument_text.new.fns c.loop-argument.argument-index c.argument-item.result (Ok c.in-Ok.text)
+          c.loop-argument-test.true c.argument-item.is c.loop-argument.invariant.goes c.in-Ok.ensures.came);
+      later = later_then _ _ _ c.loop-argument.invariant.later c.argument_text.ensures.later;
       stops = λ to h. c.loop-argument.invariant.stops to (stops_past_argument c.args.vars.now c.args.args.now c.loop-argument.argument-index c.argument-item.result c.loop-argument-test.true c.argument-item.is
-          c.write_pieces.new.out.items _ _ to (rw c.text_for-text.ensures at c.in_default.ensures.came) h);
+          c.in-Ok.text _ _ to c.in-Ok.ensures.came h);
     }
 
 pub argument_texts-returns-clause-came : goal.argument_texts-returns-clause-came
@@ -73,8 +74,7 @@ write_called-returns-in-Ok-Some-clause-came g t c =
     names_function c.args.name.now _ c.args.args.now _ _ c.bytes.ensures c.function_named.ensures c.taking.ensures in
     called_value _ (after_texts (arguments_of c.args.args.now) c.args.vars.now []) (reference_spelling (call c.args.name.now (arguments_of c.args.args.now))) c.args.out.now.items c.args.vars.now c.args.fns.now _
     (referred_call c.args.name.now (arguments_of c.args.args.now) c.args.vars.now c.args.fns.now) _ _ c.in-Some.function c.in-Ok.texts.items c.argument_texts.new.fns (which ∙ c.in-Some.is) c.in-Ok.ensures.came
-    _ (Some c.in-Ok-Some.text) c.value.new.fns c.append.new.out.items c.append.result (rw (c.deref.ensures.value, c.in-Ok-Some.field-0-is) at c.in-Ok-Some.ensures.ok)
-    (subst (λ t. Grows (c.args.out.now.items ++ t) c.append.new.out.items c.append.result) c.bytes-in-Ok-Some.ensures c.append.ensures.grown)
+    _ (Some (value_bytes c.in-Ok-Some.value)) c.value.new.fns c.append_value.new.out.items c.append_value.result (rw (c.as_slice.ensures, c.in-Ok-Some.field-0-is) at c.in-Ok-Some.ensures.ok) c.append_value.ensures.grown
 
 pub write_called-returns-in-Ok-None-clause-came : goal.write_called-returns-in-Ok-None-clause-came
 write_called-returns-in-Ok-None-clause-came g t c =
@@ -82,7 +82,7 @@ write_called-returns-in-Ok-None-clause-came g t c =
     names_function c.args.name.now _ c.args.args.now _ _ c.bytes.ensures c.function_named.ensures c.taking.ensures in
     called_value _ (after_texts (arguments_of c.args.args.now) c.args.vars.now []) (reference_spelling (call c.args.name.now (arguments_of c.args.args.now))) c.args.out.now.items c.args.vars.now c.args.fns.now _
     (referred_call c.args.name.now (arguments_of c.args.args.now) c.args.vars.now c.args.fns.now) _ _ c.in-Some.function c.in-Ok.texts.items c.argument_texts.new.fns (which ∙ c.in-Some.is) c.in-Ok.ensures.came
-    _ None c.value.new.fns c.append_call-in-Ok-None.new.out.items c.append_call-in-Ok-None.result (rw (c.deref.ensures.value, c.in-Ok-None.field-0-is) at c.in-Ok-None.ensures.ok) c.append_call-in-Ok-None.ensures.grown
+    _ None c.value.new.fns c.append_call-in-Ok-None.new.out.items c.append_call-in-Ok-None.result (rw (c.as_slice.ensures, c.in-Ok-None.field-0-is) at c.in-Ok-None.ensures.ok) c.append_call-in-Ok-None.ensures.grown
 
 pub write_called-returns-in-Ok-clause-came : goal.write_called-returns-in-Ok-clause-came
 write_called-returns-in-Ok-clause-came g t c =
@@ -90,7 +90,7 @@ write_called-returns-in-Ok-clause-came g t c =
     names_function c.args.name.now _ c.args.args.now _ _ c.bytes.ensures c.function_named.ensures c.taking.ensures in
     called_cut _ (after_texts (arguments_of c.args.args.now) c.args.vars.now []) (reference_spelling (call c.args.name.now (arguments_of c.args.args.now))) c.args.out.now.items c.args.vars.now c.args.fns.now _
     (referred_call c.args.name.now (arguments_of c.args.args.now) c.args.vars.now c.args.fns.now) _ _ c.in-Some.function c.in-Ok.texts.items c.argument_texts.new.fns (which ∙ c.in-Some.is) c.in-Ok.ensures.came
-    _ _ (rw c.deref.ensures.value at c.in-Err-value.ensures.cut)
+    _ _ (rw c.as_slice.ensures at c.in-Err-value.ensures.cut)
 
 pub write_called-returns-clause-came : goal.write_called-returns-clause-came
 write_called-returns-clause-came g t c =
@@ -144,11 +144,21 @@ write_pieces-returns-clause-came g t c =
 
 pub argument_texts-returns-in-Err-clause-later : goal.argument_texts-returns-in-Err-clause-later
 argument_texts-returns-in-Err-clause-later g t c =
-    later_then _ _ _ c.loop-argument.invariant.later c.write_pieces.ensures.later
+    later_then _ _ _ c.loop-argument.invariant.later c.argument_text.ensures.later
 
-pub argument_texts-returns-in_default-push-clause-later : goal.argument_texts-returns-in_default-push-clause-later
-argument_texts-returns-in_default-push-clause-later g t c =
-    later_then _ _ _ c.loop-argument.invariant.later c.write_pieces.ensures.later
+pub argument_texts-returns-in_default-clause-later : goal.argument_texts-returns-in_default-clause-later
+argument_texts-returns-in_default-clause-later g t c =
+    later_then _ _ _ c.loop-argument.invariant.later c.argument_text.ensures.later
+
+pub argument_text-returns-in-Some-clause-came : goal.argument_text-returns-in-Some-clause-came
+argument_text-returns-in-Some-clause-came g t c = rw (c.lent.ensures, c.in-Some.ensures.text c.args.fns.now) (goes-nothing _ _)
+
+pub argument_text-returns-in-Some-clause-later : goal.argument_text-returns-in-Some-clause-later
+argument_text-returns-in-Some-clause-later g t c = later_same _
+
+pub argument_text-write_pieces-requires : goal.argument_text-write_pieces-requires
+argument_text-write_pieces-requires g t c =
+    λ κs h. (omega (arith, c.decreases), (λ a m. h a m, rw c.text_for-text.ensures (omega arith)))
 
 pub write_called-returns-in_default-clause-later : goal.write_called-returns-in_default-clause-later
 write_called-returns-in_default-clause-later g t c = later_same _
@@ -175,12 +185,12 @@ write_pieces-returns-in-Err-clause-later g t c =
 pub argument_texts-returns-in-Err-clause-stops : goal.argument_texts-returns-in-Err-clause-stops
 argument_texts-returns-in-Err-clause-stops g t c =
     lifted c.in-Err.error (λ h. c.loop-argument.invariant.stops _ (stops_in_argument c.args.vars.now c.args.args.now c.loop-argument.argument-index c.argument-item.result c.loop-argument-test.true c.argument-item.is _ _ h))
-    (rw c.text_for-text.ensures at c.in-Err.ensures.stops)
+    c.in-Err.ensures.stops
 
-pub argument_texts-returns-in_default-push-clause-stops : goal.argument_texts-returns-in_default-push-clause-stops
-argument_texts-returns-in_default-push-clause-stops g t c =
+pub argument_texts-returns-in_default-clause-stops : goal.argument_texts-returns-in_default-clause-stops
+argument_texts-returns-in_default-clause-stops g t c =
     c.loop-argument.invariant.stops _ (stops_past_argument c.args.vars.now c.args.args.now c.loop-argument.argument-index c.argument-item.result c.loop-argument-test.true c.argument-item.is
-    c.write_pieces.new.out.items _ _ _ (rw c.text_for-text.ensures at c.in_default.ensures.came) (texts_before _ _ _))
+    c.in-Ok.text _ _ _ c.in-Ok.ensures.came (texts_before _ _ _))
 
 pub write_called-returns-in_default-clause-stops : goal.write_called-returns-in_default-clause-stops
 write_called-returns-in_default-clause-stops g t c = reference_stops _ _ _ _
@@ -190,21 +200,21 @@ write_called-returns-in-Ok-Some-clause-stops g t c =
     let which : option_and_then (taking (count (arguments_of c.args.args.now))) (function_named c.args.name.now) ≡ c.taking.result =
     names_function c.args.name.now _ c.args.args.now _ _ c.bytes.ensures c.function_named.ensures c.taking.ensures in
     out_of_memory _ (call_stops c.args.name.now (arguments_of c.args.args.now) c.args.vars.now _ _ c.in-Some.function (which ∙ c.in-Some.is) c.in-Ok.texts.items _ c.in-Ok.ensures.came
-    (inr (Some c.in-Ok-Some.text, rw (c.deref.ensures.value, c.in-Ok-Some.field-0-is) at c.in-Ok-Some.ensures.ok)))
+    (inr (Some (value_bytes c.in-Ok-Some.value), rw (c.as_slice.ensures, c.in-Ok-Some.field-0-is) at c.in-Ok-Some.ensures.ok)))
 
 pub write_called-returns-in-Ok-None-clause-stops : goal.write_called-returns-in-Ok-None-clause-stops
 write_called-returns-in-Ok-None-clause-stops g t c =
     let which : option_and_then (taking (count (arguments_of c.args.args.now))) (function_named c.args.name.now) ≡ c.taking.result =
     names_function c.args.name.now _ c.args.args.now _ _ c.bytes.ensures c.function_named.ensures c.taking.ensures in
     out_of_memory _ (call_stops c.args.name.now (arguments_of c.args.args.now) c.args.vars.now _ _ c.in-Some.function (which ∙ c.in-Some.is) c.in-Ok.texts.items _ c.in-Ok.ensures.came
-    (inr (None, rw (c.deref.ensures.value, c.in-Ok-None.field-0-is) at c.in-Ok-None.ensures.ok)))
+    (inr (None, rw (c.as_slice.ensures, c.in-Ok-None.field-0-is) at c.in-Ok-None.ensures.ok)))
 
 pub write_called-returns-in-Ok-clause-stops : goal.write_called-returns-in-Ok-clause-stops
 write_called-returns-in-Ok-clause-stops g t c =
     let which : option_and_then (taking (count (arguments_of c.args.args.now))) (function_named c.args.name.now) ≡ c.taking.result =
     names_function c.args.name.now _ c.args.args.now _ _ c.bytes.ensures c.function_named.ensures c.taking.ensures in
     call_stops c.args.name.now (arguments_of c.args.args.now) c.args.vars.now _ _ c.in-Some.function (which ∙ c.in-Some.is) c.in-Ok.texts.items _ c.in-Ok.ensures.came
-    (inl (rw c.deref.ensures.value at c.in-Err-value.ensures.left, rw c.deref.ensures.value at c.in-Err-value.ensures.cut))
+    (inl (c.in-Err-value.ensures.left, rw c.as_slice.ensures at c.in-Err-value.ensures.cut))
 
 pub write_called-returns-clause-stops : goal.write_called-returns-clause-stops
 write_called-returns-clause-stops g t c =

@@ -1,7 +1,7 @@
 use Rattle.std.proofs.Common.{◌≡◌, ◌+◌, ◌*◌, ◌-◌, ◌≤◌, [], ◌∷◌, length, drop, All}
 use Rattle.jm_base.specs.Outside.{Goes}
 use Rattle.template_text.specs.View.{pieces_of, arguments_of, weight, arguments_weight}
-use Rattle.var_functions.specs.Vars.{most_text}
+use Rattle.thread_vars.specs.Vars.{most_text}
 use Rattle.var_functions.specs.FunctionState.{IsLater}
 use Rattle.var_functions.specs.Expansion.{after_pieces, after_texts}
 use Rattle.var_functions.specs.Stops.{Moment, moment, StopsIn, StopsInTexts}
@@ -33,10 +33,13 @@ abbrev pub decreases-write_pieces : goal.decreases-write_pieces
 decreases-write_pieces g l = 5 * weight l.template.now
 
 abbrev pub decreases-argument_texts : goal.decreases-argument_texts
-decreases-argument_texts g l = 5 * arguments_weight (arguments_of l.args.now) + 1
+decreases-argument_texts g l = 5 * arguments_weight (arguments_of l.args.now) + 2
+
+abbrev pub decreases-argument_text : goal.decreases-argument_text
+decreases-argument_text g l = 5 * weight l.argument.now + 1
 
 abbrev pub decreases-write_called : goal.decreases-write_called
-decreases-write_called g l = 5 * arguments_weight (arguments_of l.args.now) + 2
+decreases-write_called g l = 5 * arguments_weight (arguments_of l.args.now) + 3
 
 abbrev pub decreases-write_piece : goal.decreases-write_piece
 decreases-write_piece g l = 5 * weight (pieces_of (l.piece.now ∷ [])) - 1

@@ -3,7 +3,8 @@ use Rattle.std.specs.Prelude.{is_some, not, unwrap_or}
 use Rattle.std.specs.Option.{option_and_then}
 use Rattle.jm_base.proofs.RunLaws.{goes-nothing}
 use Rattle.template_text.specs.Pieces.{variable, reference_spelling}
-use Rattle.var_functions.specs.Vars.{value_of}
+use Rattle.thread_vars.specs.Vars.{value_of}
+use Rattle.var_functions.specs.Texts.{value_bytes}
 use Rattle.var_functions.specs.Expansion.{function_of_name, taking, Grows}
 use Rattle.var_functions.proofs.Expanding.{text_came, referred_variable, referred_function, no_texts, called_none, called_value, called_cut}
 use Rattle.var_functions.proofs.LaterLaws.{later_same}
@@ -34,8 +35,7 @@ returns-in-Ok-Some-clause-came g c =
     let some : is_some (function_of_name c.args.name.now) ≡ true = ap is_some (sym named) ∙ c.is_none.ensures ∙ ap not c.if-is_none.false in
     let which : option_and_then (taking 0) (function_of_name c.args.name.now) ≡ Some c.in-Some-taking.function = ap (option_and_then (taking 0)) (sym named) ∙ sym c.taking.ensures ∙ c.in-Some-taking.is in
     called_value _ no_texts (reference_spelling (variable c.args.name.now)) c.args.out.now.items c.args.vars.now c.args.fns.now _ (referred_function c.args.name.now c.args.vars.now c.args.fns.now some) _ _ c.in-Some-taking.function [] c.args.fns.now which (goes-nothing _ _)
-    _ (Some c.in-Ok-Some.text) c.value.new.fns c.append-in-Ok-Some.new.out.items c.append-in-Ok-Some.result (rw c.in-Ok-Some.field-0-is at c.in-Ok-Some.ensures.ok)
-    (subst (λ t. Grows (c.args.out.now.items ++ t) c.append-in-Ok-Some.new.out.items c.append-in-Ok-Some.result) c.bytes-in-Ok-Some.ensures c.append-in-Ok-Some.ensures.grown)
+    _ (Some (value_bytes c.in-Ok-Some.value)) c.value.new.fns c.append_value.new.out.items c.append_value.result (rw c.in-Ok-Some.field-0-is at c.in-Ok-Some.ensures.ok) c.append_value.ensures.grown
 
 pub returns-in-Ok-None-clause-came : goal.returns-in-Ok-None-clause-came
 returns-in-Ok-None-clause-came g c =
@@ -79,7 +79,7 @@ pub returns-in-Ok-Some-clause-stops : goal.returns-in-Ok-Some-clause-stops
 returns-in-Ok-Some-clause-stops g c =
     let named : c.function_of_name-named.result ≡ function_of_name c.args.name.now = c.function_of_name-named.ensures ∙ ap function_of_name c.bytes.ensures in
     let which : option_and_then (taking 0) (function_of_name c.args.name.now) ≡ Some c.in-Some-taking.function = ap (option_and_then (taking 0)) (sym named) ∙ sym c.taking.ensures ∙ c.in-Some-taking.is in
-    out_of_memory _ (named_stops c.args.name.now c.args.vars.now _ _ c.in-Some-taking.function which (inr (Some c.in-Ok-Some.text, rw c.in-Ok-Some.field-0-is at c.in-Ok-Some.ensures.ok)))
+    out_of_memory _ (named_stops c.args.name.now c.args.vars.now _ _ c.in-Some-taking.function which (inr (Some (value_bytes c.in-Ok-Some.value), rw c.in-Ok-Some.field-0-is at c.in-Ok-Some.ensures.ok)))
 
 pub returns-in-Ok-None-clause-stops : goal.returns-in-Ok-None-clause-stops
 returns-in-Ok-None-clause-stops g c =

@@ -1,6 +1,6 @@
 use Rattle.std.proofs.Common.{sym, ap, ◌∙◌}
 use Rattle.std.specs.Prelude.{Ok, Err}
-use Rattle.var_functions.specs.declared.error.VarError.TheVariants.{NoMemory}
+use Rattle.thread_vars.specs.declared.error.VarError.TheVariants.{NoMemory}
 use Rattle.var_functions.specs.declared.state.UserState.{UserState}
 use Rattle.var_functions.proofs.LaterLaws.{later_same}
 use Rattle.cursor_steps.specs.RunningChildren.{run_count}

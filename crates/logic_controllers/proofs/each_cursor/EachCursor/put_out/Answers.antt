@@ -1,5 +1,5 @@
 use Rattle.std.proofs.Common.{sym, subst, ◌∙◌}
-use Rattle.var_functions.specs.Vars.{Puts}
+use Rattle.thread_vars.specs.Vars.{Puts}
 use Rattle.logic_controllers.specs.ForEachController.{output_vars}
 use Rattle.logic_controllers.proofs.each_cursor.EachCursor.put_out.Goals as goal
 

@@ -1,5 +1,5 @@
 use Rattle.std.specs.Prelude.{decimal}
-use Rattle.var_functions.specs.Vars.{index_name}
+use Rattle.thread_vars.specs.Vars.{index_name}
 use Rattle.plain_run.proofs.StepLaws.{put-done, put-refused, refused-so}
 use Rattle.plain_run.proofs.progress.Progress.set_index.Goals as goal
 

@@ -1,0 +1,2 @@
+pub mod VarLaws
+pub mod BesideLaws

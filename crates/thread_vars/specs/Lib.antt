@@ -1,0 +1,2 @@
+pub mod Vars
+pub mod Beside

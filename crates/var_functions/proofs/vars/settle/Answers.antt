@@ -1,5 +1,0 @@
-use Rattle.var_functions.proofs.BesideLaws.{settled}
-use Rattle.var_functions.proofs.vars.settle.Goals as goal
-
-pub returns-then-not-beside-clause-ok : goal.returns-then-not-beside-clause-ok
-returns-then-not-beside-clause-ok c = settled c.args.name.now c.args.digits.now c.args.table.now c.kept.ensures c.args.ahead c.args.beside c.requires c.then-not-beside.either
