@@ -1,5 +1,5 @@
 -- The result lines of a trace.
-use Rattle.std.specs.Prelude.{◌≡◌, ℕ, ◌+◌, ◌-◌, List, [], ◌∷◌, ◌++◌, length, slice_get, Option, Some, None, option_and_then}
+use Rattle.std.specs.Prelude.{◌≡◌, ℕ, ◌+◌, ◌-◌, ◌<◌, ◌≤◌, List, [], ◌∷◌, ◌++◌, length, take, slice_get, Option, Some, None, option_and_then}
 use Rattle.std.specs.List.{flat_map}
 use Rattle.std.specs.Option.{option_map_or}
 use Rattle.jm_base.specs.declared.types.End.{End}
@@ -7,6 +7,7 @@ use Rattle.element_tree.specs.Tree.{Tree}
 use Rattle.element_tree.specs.Names.{labels_of}
 use Rattle.interval_tables.specs.declared.report.Report.{Report}
 use Rattle.interval_tables.specs.Rows.{IsInBounds}
+use Rattle.output_lines.specs.Bulk.{LinesOf}
 use Rattle.output_lines.specs.Reports.{report_text}
 use Rattle.output_lines.specs.Lines.{result_text, end_text}
 use Rattle.thread_machine.specs.declared.trace.TraceItem.{TraceItem}
@@ -24,6 +25,14 @@ line_of plan thread (Ended end) = []
 -- the lines of a thread's trace
 abbrev pub trace_text : Tree → ℕ → List TraceItem → List ℕ
 trace_text plan thread trace = flat_map (line_of plan thread) trace
+
+-- The lines of the first items of a thread's trace stand after a text: of that many items, which are all or bring the text to
+-- the wanted length, and one fewer would not.
+pub record AddsLines (lines : LinesOf) (items : List TraceItem) (most : ℕ) (old new : List ℕ) (count : ℕ) : Type 0 where
+  pub text : new ≡ old ++ trace_text lines.plan lines.thread (take count items)
+  pub within : count ≤ length items
+  pub full : count < length items → most ≤ length new
+  pub room : (k : ℕ) → k < count → length (old ++ trace_text lines.plan lines.thread (take k items)) < most
 
 -- how a thread has ended, by an item of its trace
 abbrev pub end_in : TraceItem → Option End

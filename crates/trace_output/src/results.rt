@@ -1,12 +1,12 @@
 // Result lines.
 
-ghost use Rattle.std.specs.Prelude.{ℕ, ◌≡◌, ◌<◌, ◌≤◌, ◌++◌, All, length, take, IfOk, OnOk, OnErr};
+ghost use Rattle.std.specs.Prelude.{◌≡◌, ◌<◌, ◌++◌, All, length, IfOk, OnOk, OnErr};
 ghost use Rattle.element_tree.specs.Tree.{threads_of};
 ghost use Rattle.element_tree.specs.Names.{labels_of};
 ghost use Rattle.output_lines.specs.Lines.{header_text};
 ghost use Rattle.output_lines.specs.Bulk.{BeginsWith};
 ghost use Rattle.thread_machine.specs.Bare.{IsLabelled};
-ghost use Rattle.trace_output.specs.Texts.{line_of, trace_text, traces_text};
+ghost use Rattle.trace_output.specs.Texts.{line_of, trace_text, traces_text, AddsLines};
 ghost use Rattle.trace_output.specs.Printing.{way, HasPut, HasPrinted};
 
 use crate::error::PrintError;
@@ -147,11 +147,7 @@ pub fn result_lines<'a>(
     most: usize,
 ) -> M<usize>
     requires { All (IsLabelled (length (labels_of lines.old.plan.elements))) items.now }
-    ensures ok { IfOk result (λ count. out.new.items ≡ out.old.items ++ trace_text lines.old.plan lines.old.thread (take count items.now)) }
-    ensures within { IfOk result (λ count. count ≤ length items.now) }
-    ensures full { IfOk result (λ count. count < length items.now → most ≤ length out.new.items) }
-    ensures room { IfOk result (λ count. (k : ℕ) → k < count
-        → length (out.old.items ++ trace_text lines.old.plan lines.old.thread (take k items.now)) < most) }
+    ensures ok { IfOk result (AddsLines lines.old items.now most out.old.items out.new.items) }
     ensures err { OnErr result (out.new.items ≡ out.old.items) }
     ensures same { lines.new ≡ lines.old }
 {
@@ -171,11 +167,7 @@ fn add_lines<'a>(
     most: usize,
 ) -> M<usize>
     requires { All (IsLabelled (length (labels_of lines.old.plan.elements))) items.now }
-    ensures ok { IfOk result (λ count. out.new.items ≡ out.old.items ++ trace_text lines.old.plan lines.old.thread (take count items.now)) }
-    ensures within { IfOk result (λ count. count ≤ length items.now) }
-    ensures full { IfOk result (λ count. count < length items.now → most ≤ length out.new.items) }
-    ensures room { IfOk result (λ count. (k : ℕ) → k < count
-        → length (out.old.items ++ trace_text lines.old.plan lines.old.thread (take k items.now)) < most) }
+    ensures ok { IfOk result (AddsLines lines.old items.now most out.old.items out.new.items) }
     ensures err { OnErr result (BeginsWith out.old.items out.new.items) }
     ensures same { lines.new ≡ lines.old }
 {

@@ -24,7 +24,7 @@ returns-in_err-put_lines g c =
     let count = c.in-Ok-result_lines.count in
     let text = c.deref.result.now in
     let own : text ≡ trace_text c.args.plan.now c.args.thread (take count left) =
-    own_text c.args.plan.now c.args.thread c.texts.lines c.texts.invariant.whose (take count left) c.clear.new.self.items c.result_lines.new.out.items text c.deref.ensures.value c.in-Ok-result_lines.ensures.ok c.clear.ensures.items in
+    own_text c.args.plan.now c.args.thread c.texts.lines c.texts.invariant.whose (take count left) c.clear.new.self.items c.result_lines.new.out.items text c.deref.ensures.value c.in-Ok-result_lines.ensures.ok.text c.clear.ensures.items in
     let so_far = c.texts.invariant.put in
     rw (p.1, p.2) (next_short c.args.plan.now c.args.thread c.args.trace.now left count text own so_far.0 so_far.2 _ _ _ so_far.1 _ c.in_err-put_lines.ensures.put)
 
@@ -34,7 +34,7 @@ texts-preserved g c =
     let count = c.in-Ok-result_lines.count in
     let text = c.deref.result.now in
     let own : text ≡ trace_text c.args.plan.now c.args.thread (take count left) =
-    own_text c.args.plan.now c.args.thread c.texts.lines c.texts.invariant.whose (take count left) c.clear.new.self.items c.result_lines.new.out.items text c.deref.ensures.value c.in-Ok-result_lines.ensures.ok c.clear.ensures.items in
+    own_text c.args.plan.now c.args.thread c.texts.lines c.texts.invariant.whose (take count left) c.clear.new.self.items c.result_lines.new.out.items text c.deref.ensures.value c.in-Ok-result_lines.ensures.ok.text c.clear.ensures.items in
     let so_far = c.texts.invariant.put in
     let labelled = IsLabelled (length (labels_of c.args.plan.now.elements)) in
     record {
