@@ -1,8 +1,8 @@
 #!/bin/sh
-# Prints how fast `solo` runs: samples a second from the start of the process to its exit, the peak of its memory,
-# how long a loop without end over an empty controller takes to meet its limit of rounds, what a critical section costs beside
-# a Simple Controller, a pass of a controller with many children beside one with few, and how much one long list of children costs
-# beside many short ones.
+# Prints how fast `solo` runs: samples a second from the start of the process to its exit, by the best of 40 runs and by their
+# median, the peak of its memory, how long a loop without end over an empty controller takes to meet its limit of rounds, what a
+# critical section costs beside a Simple Controller, a pass of a controller with many children beside one with few, and how much
+# one long list of children costs beside many short ones.
 # Usage: bench/solo.sh    (it needs python3, for the clock and the memory of a child process)
 cd "$(dirname "$0")/.." || exit 1
 ./jm solo </dev/null >/dev/null 2>&1
@@ -27,17 +27,21 @@ def source(text):
     file.seek(0)
     return file
 
-def seconds(text, *words, times=5):
-    best = None
+# The least and the median of that many runs.
+def times_of(text, *words, times=5):
+    taken = []
     for _ in range(times):
         with source(text) as plan_file, open("/dev/null", "wb") as sink:
             start = time.perf_counter()
             child = subprocess.Popen([PROGRAM, *words], stdin=plan_file, stdout=sink, stderr=subprocess.PIPE)
             report = child.stderr.read().decode().strip().replace("\n", " / ")
             child.wait()
-            took = time.perf_counter() - start
-        best = took if best is None else min(best, took)
-    return best, report
+            taken.append(time.perf_counter() - start)
+    return min(taken), sorted(taken)[times // 2], report
+
+def seconds(text, *words, times=5):
+    least, _, report = times_of(text, *words, times=times)
+    return least, report
 
 # The results are written once all of them are there, so the peak is reached when the first bytes come.
 def peak_and_lines(text):
@@ -50,10 +54,11 @@ def peak_and_lines(text):
         child.wait()
     return peak, lines
 
-def sampled(name, text):
-    took, report = seconds(text, "solo")
+# A machine that is shared may be slow for seconds on end, so these are the best of many.
+def sampled(name, text, times=40):
+    took, median, report = times_of(text, "solo", times=times)
     peak, lines = peak_and_lines(text)
-    print(f"{name}: {lines} samples in {took * 1000:.1f} ms, {lines / took:,.0f} a second, "
+    print(f"{name}: {lines} samples in {took * 1000:.1f} ms, {lines / took:,.0f} a second, the best of {times}, {lines / median:,.0f} by the median; "
           f"{peak} KiB at the peak, {peak * 1024 / lines:.0f} bytes a sample; {report[report.index('all,'):]}")
 
 sampled("4,093 samplers of one reply", plan([script("S", [{}]) for _ in range(4093)]))
