@@ -1,23 +1,45 @@
 // A text that is written over.
 
-ghost use Rattle.std.specs.Prelude.{◌≡◌, length, OnOk, OnErr, IsOk};
+ghost use Rattle.std.specs.Prelude.{◌≡◌, ◌≤◌, length, OnOk, OnErr, IsOk};
 
 use jm_base::{M, Text};
 use std::alloc::Global;
 use std::mem::replace;
 
-/// Writes a value over another one, in its memory where it has as many bytes. Out of memory it stays.
+/// A text of no more bytes keeps its memory when it becomes shorter or longer. A long text's memory goes with it, so that
+/// texts don't hold more than about what their bytes need.
+const USUAL_LENGTH: usize = 64;
+
+/// Writes a value over a text's bytes, in their memory where there is room. Out of memory they stay.
+fn overwrite(bytes: &mut Vec<u8>, value: &[u8]) -> M<()>
+    ensures ok { OnOk result (bytes.new.items ≡ value.now) }
+    ensures err { OnErr result (bytes.new.items ≡ bytes.old.items) }
+    ensures memory { length value.now ≤ length bytes.old.items → IsOk result }
+{
+    let before = bytes.len();
+    if before < value.len() {
+        bytes.extend_from_slice(&value[before..])?;
+    } else {
+        bytes.truncate(value.len());
+    }
+    bytes.copy_from_slice(value);
+    Ok(())
+}
+
+/// Writes a value over another one, in its memory where it has as many bytes, or both have at most 64. Out of memory it stays.
 pub fn write_over(alloc: Global, text: &mut Text, value: &[u8]) -> M<()>
     ensures ok { OnOk result (text.new ≡ value.now) }
     ensures err { OnErr result (text.new ≡ text.old) }
     ensures memory { length text.old ≡ length value.now → IsOk result }
+    ensures shorter { length value.now ≤ length text.old → length text.old ≤ 64 → IsOk result }
 {
-    if text.bytes().len() != value.len() {
+    let before = text.bytes().len();
+    if before != value.len() && before.max(value.len()) > USUAL_LENGTH {
         *text = Text::new(alloc, value)?;
         return Ok(());
     }
     let mut bytes = replace(text, Text::of(Vec::new(alloc))).into_vec();
-    bytes.copy_from_slice(value);
+    let written = overwrite(&mut bytes, value);
     *text = Text::of(bytes);
-    Ok(())
+    written
 }
