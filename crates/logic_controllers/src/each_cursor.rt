@@ -1,15 +1,17 @@
 // The cursor of a ForEach Controller.
 
 ghost use Rattle.std.specs.Prelude.{◌≡◌, ◌+◌, ◌<◌, ◌≤◌, IfOk, IfSome, OnOk, OnErr, None};
+ghost use Rattle.std.specs.Option.{option_copied};
 ghost use Rattle.jm_base.specs.Run.{Run};
 ghost use Rattle.jm_base.specs.Outside.{Account};
-ghost use Rattle.thread_vars.specs.Vars.{Puts, value_of};
+ghost use Rattle.thread_vars.specs.Vars.{Puts};
 ghost use Rattle.var_functions.specs.FunctionState.{Functions};
 ghost use Rattle.var_functions.specs.Came.{CameTo};
 ghost use Rattle.cursor_steps.specs.CursorStep.{Step, past_limit, StepsTo};
 ghost use Rattle.logic_controllers.specs.ControllerRounds.{opened, RoundsTurn};
 ghost use Rattle.logic_controllers.specs.ForEachController.{input_name, value_at, output_vars, each_goes, each_opens, each_next, AllSet, EachKept};
 
+use crate::kept_value::KeptValue;
 use crate::rounds::Rounds;
 use cursor_steps::Controller;
 use element_tree::{Kind, Plan, Turn};
@@ -28,7 +30,7 @@ pub struct EachCursor {
     /// Its rounds in this pass.
     pub rounds: Rounds,
     /// The value of the round that began last, until it goes to the output.
-    pub value: Option<Text>,
+    pub value: KeptValue,
 }
 
 // Names of no more bytes take no memory.
@@ -51,16 +53,18 @@ fn input_name(
     Ok(name)
 }
 
-/// A copy of the value of a variable, where it is defined.
-fn copied_value(alloc: Global, vars: &Vars, name: &[u8]) -> M<Option<Text>>
-    ensures { IfOk result (λ v. v ≡ value_of name.now vars.now) }
+/// Sets the output to a value, where there is one.
+fn put_value(
+    alloc: Global,
+    output: &Text,
+    value: Option<&[u8]>,
+    vars: &mut Vars,
+) -> Result<(), VarError>
+    ensures { Puts (output_vars output.now (option_copied value.entry) vars.old) vars.old vars.new result }
 {
-    match vars.get(name) {
-        Some(value) => {
-            let copy = value.copy(alloc)?;
-            Ok(Some(copy))
-        }
-        None => Ok(None),
+    match value {
+        Some(value) => vars.put_copy(alloc, output.bytes(), value),
+        None => Ok(()),
     }
 }
 
@@ -75,9 +79,15 @@ pub struct Span {
     pub end: u32,
 }
 
-/// The value of the round of this index, where there is one.
-pub fn value_at(alloc: Global, vars: &Vars, input: &Text, span: Span, index: u32) -> M<Option<Text>>
-    ensures value { IfOk result (λ v. v ≡ value_at (record { input = input.now; separator = span.separator; start = span.start; end = span.end }) index vars.now) }
+/// The value of the round of this index where it stands, where there is one.
+fn lent_value<'a>(
+    alloc: Global,
+    vars: &'a Vars,
+    input: &Text,
+    span: Span,
+    index: u32,
+) -> M<Option<&'a Text>>
+    ensures value { IfOk result (λ v. option_copied v ≡ value_at (record { input = input.now; separator = span.separator; start = span.start; end = span.end }) index vars.now) }
     ensures within { IfOk result (λ v. IfSome v (λ t. span.start + 1 + index ≤ span.end)) }
 {
     let number = u64::from(span.start) + 1 + u64::from(index);
@@ -85,8 +95,21 @@ pub fn value_at(alloc: Global, vars: &Vars, input: &Text, span: Span, index: u32
         return Ok(None);
     }
     let name = input_name(alloc, input.bytes(), span.separator, number)?;
-    let value = copied_value(alloc, vars, name.as_slice())?;
-    Ok(value)
+    Ok(vars.get(name.as_slice()))
+}
+
+/// A copy of the value of the round of this index, where there is one.
+pub fn value_at(alloc: Global, vars: &Vars, input: &Text, span: Span, index: u32) -> M<Option<Text>>
+    ensures value { IfOk result (λ v. v ≡ value_at (record { input = input.now; separator = span.separator; start = span.start; end = span.end }) index vars.now) }
+    ensures within { IfOk result (λ v. IfSome v (λ t. span.start + 1 + index ≤ span.end)) }
+{
+    match lent_value(alloc, vars, input, span, index)? {
+        Some(value) => {
+            let copy = value.copy(alloc)?;
+            Ok(Some(copy))
+        }
+        None => Ok(None),
+    }
 }
 
 impl Controller for EachCursor {
@@ -125,7 +148,7 @@ impl Controller for EachCursor {
         EachCursor {
             element,
             rounds: Rounds::before_first(0),
-            value: None,
+            value: KeptValue::none(),
         }
     }
 
@@ -143,7 +166,7 @@ impl Controller for EachCursor {
         _outside: &mut O,
     ) -> Result<(), VarError> {
         self.rounds = Rounds::before_first(children);
-        self.value = None;
+        self.value.forget();
         Ok(())
     }
 
@@ -240,10 +263,9 @@ impl EachCursor {
         ensures vars { Puts (output_vars output.now self.old.value vars.old) vars.old vars.new result }
         ensures taken { self.new ≡ record self.old { value = None } }
     {
-        match self.value.take() {
-            Some(value) => vars.put_copy(alloc, output.bytes(), value.bytes()),
-            None => Ok(()),
-        }
+        let put = put_value(alloc, output, self.value.get(), vars);
+        self.value.forget();
+        put
     }
 
     // What comes next in a round that is open, or after it.
@@ -263,10 +285,10 @@ impl EachCursor {
         if let Some(place) = self.rounds.pass.next_child() {
             return Ok(Turn::Child(place));
         }
-        match value_at(alloc, &state.vars, input, span, self.rounds.begun) {
+        match lent_value(alloc, &state.vars, input, span, self.rounds.begun) {
             Ok(Some(value)) => {
+                self.value.keep(alloc, value.bytes())?;
                 self.rounds.begin();
-                self.value = Some(value);
                 Ok(Turn::Round)
             }
             Ok(None) => Ok(Turn::Over),

@@ -6,6 +6,7 @@
 
 mod each_cursor;
 mod if_cursor;
+mod kept_value;
 mod loop_cursor;
 mod once_cursor;
 mod rounds;
@@ -15,6 +16,7 @@ mod while_cursor;
 pub use cursor_steps::Pass;
 pub use each_cursor::{EachCursor, Span, value_at};
 pub use if_cursor::{IfCursor, is_true};
+pub use kept_value::KeptValue;
 pub use loop_cursor::{LoopCursor, loops_of, round_begins};
 pub use once_cursor::OnceCursor;
 pub use rounds::{Rounds, set_index};
