@@ -1,7 +1,6 @@
 // Result lines of a thread that are formed one after another.
 
-ghost use Rattle.std.specs.Prelude.{◌∷◌, [], ◌≡◌, ◌<◌, ◌^◌, ◌++◌, length, is_some, true, IfOk, IfSome, OnOk, OnErr};
-ghost use Rattle.std.specs.Fmt.{decimal};
+ghost use Rattle.std.specs.Prelude.{◌∷◌, [], ◌≡◌, ◌<◌, ◌++◌, length, is_some, true, IfOk, IfSome, OnOk, OnErr};
 ghost use Rattle.csv.specs.Writing.{comma};
 ghost use Rattle.element_tree.specs.Tree.{threads_of};
 ghost use Rattle.element_tree.specs.Names.{labels_of};
@@ -9,18 +8,20 @@ ghost use Rattle.output_lines.specs.Lines.{result_text};
 ghost use Rattle.output_lines.specs.Bulk.{EndsTheSame, IsTail, BeginsWith};
 
 use crate::middle_rows::{MiddleRows, says_the_same};
+use crate::stamp::StampField;
 use element_tree::Plan;
 use itoa::Buffer;
 use jm_base::{M, NoMemory, Sample};
 use std::alloc::Global;
 use std::marker::Model;
 
-/// What forms a thread's result lines one after another, in less time than `result_line` takes for each: what a line says after
-/// its stamp is formed anew only for a sample that says something else there than the one before it.
+/// What forms a thread's result lines one after another, in less time than `result_line` takes for each: a stamp, and what a line
+/// says after it, are formed anew only for a sample that says something else there than the one before it.
 ///
 /// Contracts see the plan and the thread's number.
 #[derive(Drop)]
 pub struct ResultLines<'a> {
+    stamp: StampField,
     middles: MiddleRows<'a>,
     // The last line after its stamp and the comma.
     tail: Vec<u8>,
@@ -50,6 +51,7 @@ impl<'a> ResultLines<'a> {
         ensures { IfOk result (λ lines. lines ≡ record { plan = plan.now; thread = thread }) }
     {
         Ok(ResultLines {
+            stamp: StampField::new(alloc),
             middles: MiddleRows::new(alloc, plan, thread)?,
             tail: Vec::new(alloc),
             last: None,
@@ -68,7 +70,8 @@ impl<'a> ResultLines<'a> {
             write_tail(&mut self.tail, &mut self.middles, sample, interval)?;
             self.last = Some((sample, interval));
         }
-        append_line(out, sample.stamp, &self.tail)?;
+        self.stamp.set(sample.stamp)?;
+        append_line(out, self.stamp.text(), &self.tail)?;
         Ok(())
     }
 }
@@ -111,10 +114,9 @@ fn write_tail<'a>(
     Ok(())
 }
 
-// Appends the line of a stamp and what comes after it. Out of memory appends nothing.
-fn append_line(out: &mut Vec<u8>, stamp: u64, tail: &[u8]) -> M<()>
-    ensures ok { OnOk result (out.new.items ≡ out.old.items ++ (decimal stamp ++ comma ∷ tail.now)) }
-    ensures number { stamp < 2 ^ 64 }
+// Appends the two parts of a line. Out of memory appends nothing.
+fn append_line(out: &mut Vec<u8>, stamp: &[u8], tail: &[u8]) -> M<()>
+    ensures ok { OnOk result (out.new.items ≡ out.old.items ++ (stamp.now ++ tail.now)) }
     ensures err { OnErr result (out.new.items ≡ out.old.items) }
 {
     let length = out.len();
@@ -126,11 +128,11 @@ fn append_line(out: &mut Vec<u8>, stamp: u64, tail: &[u8]) -> M<()>
 }
 
 // The same, but out of memory a part of the line is there.
-fn push_line(out: &mut Vec<u8>, stamp: u64, tail: &[u8]) -> M<()>
-    ensures ok { OnOk result (out.new.items ≡ out.old.items ++ (decimal stamp ++ comma ∷ tail.now)) }
+fn push_line(out: &mut Vec<u8>, stamp: &[u8], tail: &[u8]) -> M<()>
+    ensures ok { OnOk result (out.new.items ≡ out.old.items ++ (stamp.now ++ tail.now)) }
     ensures err { OnErr result (BeginsWith out.old.items out.new.items) }
 {
-    push_field(out, Buffer::new().format(stamp).as_bytes())?;
+    out.extend_from_slice(stamp)?;
     out.extend_from_slice(tail)?;
     Ok(())
 }

@@ -6,6 +6,7 @@ mod lines;
 mod middle_rows;
 mod reports;
 mod rows;
+mod stamp;
 mod texts;
 
 pub use bulk::ResultLines;

@@ -1,4 +1,7 @@
-use Rattle.std.proofs.Common.{◌≡◌, ◌++◌, ap, ◌∙◌, sym, subst, rules}
+use Rattle.std.proofs.Common.{◌≡◌, [], ◌∷◌, ◌++◌, ap, ◌∙◌, sym, subst, rules, append_assoc}
+use Rattle.std.specs.Fmt.{decimal}
+use Rattle.csv.specs.Writing.{comma}
+use Rattle.output_lines.specs.Lines.{result_text}
 use Rattle.output_lines.specs.Bulk.{LinesOf, IsTail}
 use Rattle.output_lines.proofs.Middles.{line_of_tail, last_tail}
 use Rattle.output_lines.proofs.bulk.ResultLines.add.Goals.{then-not-ends_the_same+in_ok-write_tail, else-not-ends_the_same}
@@ -18,4 +21,6 @@ returns-clause-ok c =
           (last_tail c.self.inside.middles.plan c.self.inside.middles.thread s c.args.interval c.self.inside.tail.items c.self.inside.last c.self.invariant
           (c.ends_the_same.ensures.same w.if-not-ends_the_same.false) (c.ends_the_same.ensures.some w.if-not-ends_the_same.false)))
     ] in
-    c.in_ok-append_line.ensures.ok ∙ ap (λ l. c.args.out.now.items ++ l) (line_of_tail lines.plan lines.thread c.args.interval s c.deref.result.now is c.in_ok-append_line.ensures.number)
+    let line : decimal s.stamp ++ comma ∷ c.deref.result.now ≡ result_text lines.plan lines.thread s c.args.interval = line_of_tail lines.plan lines.thread c.args.interval s c.deref.result.now is c.in_ok-set.ensures.number in
+    let field : c.text.result.now ≡ decimal s.stamp ++ comma ∷ [] = search rules in
+    c.in_ok-append_line.ensures.ok ∙ ap (λ l. c.args.out.now.items ++ l) (ap (λ f. f ++ c.deref.result.now) field ∙ append_assoc (decimal s.stamp) (comma ∷ []) c.deref.result.now ∙ line)
