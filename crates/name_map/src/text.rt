@@ -26,7 +26,8 @@ fn overwrite(bytes: &mut Vec<u8>, value: &[u8]) -> M<()>
     Ok(())
 }
 
-/// Writes a value over another one, in its memory where it has as many bytes, or both have at most 64. Out of memory it stays.
+/// Writes a value over another one. It takes no memory for as many bytes, nor for fewer where the text has at most 64. Out of memory
+/// the text stays.
 pub fn write_over(alloc: Global, text: &mut Text, value: &[u8]) -> M<()>
     ensures ok { OnOk result (text.new ≡ value.now) }
     ensures err { OnErr result (text.new ≡ text.old) }
