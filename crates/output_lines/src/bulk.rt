@@ -1,6 +1,7 @@
 // Result lines of a thread that are formed one after another.
 
-ghost use Rattle.std.specs.Prelude.{◌∷◌, [], ◌≡◌, ◌<◌, ◌++◌, length, is_some, true, IfOk, IfSome, OnOk, OnErr};
+ghost use Rattle.std.specs.Prelude.{◌∷◌, [], ◌≡◌, ◌<◌, ◌^◌, ◌++◌, length, is_some, true, IfOk, IfSome, OnOk, OnErr};
+ghost use Rattle.std.specs.Fmt.{decimal};
 ghost use Rattle.csv.specs.Writing.{comma};
 ghost use Rattle.element_tree.specs.Tree.{threads_of};
 ghost use Rattle.element_tree.specs.Names.{labels_of};
@@ -8,15 +9,15 @@ ghost use Rattle.output_lines.specs.Lines.{result_text};
 ghost use Rattle.output_lines.specs.Bulk.{EndsTheSame, IsTail, BeginsWith};
 
 use crate::middle_rows::{MiddleRows, says_the_same};
-use crate::stamp::StampField;
+use crate::stamp::{StampField, push_field};
 use element_tree::Plan;
 use itoa::Buffer;
 use jm_base::{M, NoMemory, Sample};
 use std::alloc::Global;
 use std::marker::Model;
 
-/// What forms a thread's result lines one after another, in less time than `result_line` takes for each: a stamp, and what a line
-/// says after it, are formed anew only for a sample that says something else there than the one before it.
+/// What forms a thread's result lines one after another, in less time than `result_line` takes for each: what a line says after its
+/// stamp is formed anew only for a sample that says something else there than the one before it, and a stamp twice at most.
 ///
 /// Contracts see the plan and the thread's number.
 #[derive(Drop)]
@@ -70,8 +71,7 @@ impl<'a> ResultLines<'a> {
             write_tail(&mut self.tail, &mut self.middles, sample, interval)?;
             self.last = Some((sample, interval));
         }
-        self.stamp.set(sample.stamp)?;
-        append_line(out, self.stamp.text(), &self.tail)?;
+        append_line(out, &mut self.stamp, sample.stamp, &self.tail)?;
         Ok(())
     }
 }
@@ -114,13 +114,14 @@ fn write_tail<'a>(
     Ok(())
 }
 
-// Appends the two parts of a line. Out of memory appends nothing.
-fn append_line(out: &mut Vec<u8>, stamp: &[u8], tail: &[u8]) -> M<()>
-    ensures ok { OnOk result (out.new.items ≡ out.old.items ++ (stamp.now ++ tail.now)) }
+// Appends a line, of which the tail is what stands after its stamp and the comma. Out of memory appends nothing.
+fn append_line(out: &mut Vec<u8>, field: &mut StampField, stamp: u64, tail: &[u8]) -> M<()>
+    ensures ok { OnOk result (out.new.items ≡ out.old.items ++ ((decimal stamp ++ comma ∷ []) ++ tail.now)) }
     ensures err { OnErr result (out.new.items ≡ out.old.items) }
+    ensures number { stamp < 2 ^ 64 }
 {
     let length = out.len();
-    if push_line(out, stamp, tail).is_err() {
+    if push_line(out, field, stamp, tail).is_err() {
         out.truncate(length);
         return Err(NoMemory);
     }
@@ -128,21 +129,12 @@ fn append_line(out: &mut Vec<u8>, stamp: &[u8], tail: &[u8]) -> M<()>
 }
 
 // The same, but out of memory a part of the line is there.
-fn push_line(out: &mut Vec<u8>, stamp: &[u8], tail: &[u8]) -> M<()>
-    ensures ok { OnOk result (out.new.items ≡ out.old.items ++ (stamp.now ++ tail.now)) }
+fn push_line(out: &mut Vec<u8>, field: &mut StampField, stamp: u64, tail: &[u8]) -> M<()>
+    ensures ok { OnOk result (out.new.items ≡ out.old.items ++ ((decimal stamp ++ comma ∷ []) ++ tail.now)) }
     ensures err { OnErr result (BeginsWith out.old.items out.new.items) }
+    ensures number { stamp < 2 ^ 64 }
 {
-    out.extend_from_slice(stamp)?;
+    field.append(out, stamp)?;
     out.extend_from_slice(tail)?;
-    Ok(())
-}
-
-// Appends a field that needs no quotes, or has them, and the comma after it.
-fn push_field(out: &mut Vec<u8>, field: &[u8]) -> M<()>
-    ensures ok { OnOk result (out.new.items ≡ out.old.items ++ (field.now ++ comma ∷ [])) }
-    ensures err { OnErr result (BeginsWith out.old.items out.new.items) }
-{
-    out.extend_from_slice(field)?;
-    out.push(b',')?;
     Ok(())
 }

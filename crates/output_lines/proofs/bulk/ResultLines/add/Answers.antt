@@ -21,6 +21,5 @@ returns-clause-ok c =
           (last_tail c.self.inside.middles.plan c.self.inside.middles.thread s c.args.interval c.self.inside.tail.items c.self.inside.last c.self.invariant
           (c.ends_the_same.ensures.same w.if-not-ends_the_same.false) (c.ends_the_same.ensures.some w.if-not-ends_the_same.false)))
     ] in
-    let line : decimal s.stamp ++ comma ∷ c.deref.result.now ≡ result_text lines.plan lines.thread s c.args.interval = line_of_tail lines.plan lines.thread c.args.interval s c.deref.result.now is c.in_ok-set.ensures.number in
-    let field : c.text.result.now ≡ decimal s.stamp ++ comma ∷ [] = search rules in
-    c.in_ok-append_line.ensures.ok ∙ ap (λ l. c.args.out.now.items ++ l) (ap (λ f. f ++ c.deref.result.now) field ∙ append_assoc (decimal s.stamp) (comma ∷ []) c.deref.result.now ∙ line)
+    let line : decimal s.stamp ++ comma ∷ c.deref.result.now ≡ result_text lines.plan lines.thread s c.args.interval = line_of_tail lines.plan lines.thread c.args.interval s c.deref.result.now is c.in_ok-append_line.ensures.number in
+    c.in_ok-append_line.ensures.ok ∙ ap (λ l. c.args.out.now.items ++ l) (append_assoc (decimal s.stamp) (comma ∷ []) c.deref.result.now ∙ line)
