@@ -1,7 +1,7 @@
 #!/bin/sh
-# How long one core takes to write the line of a sample into memory, 64 lines in one text. Each is in another interval than the one
-# before it, so what it says after its stamp is formed anew; but all have one stamp, which is formed for the first of a text alone, so
-# a line of another stamp takes longer. A run prints lines in texts of some 16 KiB. At most 130 ns is the aim.
+# How long one core takes to write the line of a sample into memory, 64 lines in one text. Each has another stamp and interval than
+# the one before it, so the whole line is formed anew but for its label, name, code and texts. A run prints lines in texts of some
+# 16 KiB. At most 130 ns is the aim.
 # Usage: bench/lines.sh [ROUNDS]
 set -eu
 cd "$(dirname "$0")/.."

@@ -106,38 +106,61 @@ pub fn result_case(
     Ok(())
 }
 
-// The same line 64 times in one text, in two intervals in turn, so that each is formed anew after its stamp.
-fn many_lines<'a>(alloc: Global, plan: &'a Plan, line: &'a Line) -> M<Vec<u8>>
-    requires thread { line.now.thread < length (threads_of plan.now) }
-    requires label { line.now.sample.label < length (labels_of plan.now.elements) }
+// Two lines of one thread.
+#[derive(Drop)]
+struct Pair {
+    even: Line,
+    odd: Line,
+}
+
+// A line, and one of the next or the previous stamp and interval.
+fn pair_in(alloc: Global, plan: &Plan, given: &str) -> anyhow::Result<Pair>
+    ensures thread { IfOk result (λ p. p.even.thread < length (threads_of plan.now)) }
+    ensures even { IfOk result (λ p. p.even.sample.label < length (labels_of plan.now.elements)) }
+    ensures odd { IfOk result (λ p. p.odd.sample.label < length (labels_of plan.now.elements)) }
 {
-    let mut lines = ResultLines::new(alloc, plan, line.thread)?;
+    let even = line_in(alloc, plan, given)?;
+    let mut odd = line_in(alloc, plan, given)?;
+    odd.sample.stamp ^= 1;
+    odd.interval ^= 1;
+    Ok(Pair { even, odd })
+}
+
+// The two lines in turn, 64 in one text, so that each is formed anew.
+fn many_lines<'a>(alloc: Global, plan: &'a Plan, pair: &'a Pair) -> M<Vec<u8>>
+    requires thread { pair.now.even.thread < length (threads_of plan.now) }
+    requires even { pair.now.even.sample.label < length (labels_of plan.now.elements) }
+    requires odd { pair.now.odd.sample.label < length (labels_of plan.now.elements) }
+{
+    let mut lines = ResultLines::new(alloc, plan, pair.even.thread)?;
     let mut text = Vec::new(alloc);
-    for number in 0..64u64 {
-        lines.add(&mut text, &line.sample, line.interval ^ (number & 1))?;
+    for _ in 0..32u32 {
+        lines.add(&mut text, &pair.even.sample, pair.even.interval)?;
+        lines.add(&mut text, &pair.odd.sample, pair.odd.interval)?;
     }
     Ok(text)
 }
 
 // How many bytes that many texts of 64 lines have together.
-fn write_often(alloc: Global, plan: &Plan, line: &Line, texts: u32) -> M<u64>
-    requires thread { line.now.thread < length (threads_of plan.now) }
-    requires label { line.now.sample.label < length (labels_of plan.now.elements) }
+fn write_often(alloc: Global, plan: &Plan, pair: &Pair, texts: u32) -> M<u64>
+    requires thread { pair.now.even.thread < length (threads_of plan.now) }
+    requires even { pair.now.even.sample.label < length (labels_of plan.now.elements) }
+    requires odd { pair.now.odd.sample.label < length (labels_of plan.now.elements) }
 {
     let mut bytes = 0u64;
     for _ in 0..texts {
-        let text = many_lines(alloc, plan, line)?;
+        let text = many_lines(alloc, plan, pair)?;
         bytes = bytes.wrapping_add(text.len() as u64);
     }
     Ok(bytes)
 }
 
-/// The same line that many times, as far as that is whole texts of 64 lines, so that a script can time it: how many bytes
-/// they have together.
+/// A line and one of another stamp and interval in turn, that many times together, as far as that is whole texts of 64 lines, so
+/// that a script can time them: how many bytes they have together.
 pub fn times_case(alloc: Global, plan: &Plan, given: &str, out: &mut String) -> anyhow::Result<()> {
     let (count, rest) = parted(given, ' ');
-    let line = line_in(alloc, plan, rest)?;
-    let bytes = write_often(alloc, plan, &line, whole(count) / 64)?;
+    let pair = pair_in(alloc, plan, rest)?;
+    let bytes = write_often(alloc, plan, &pair, whole(count) / 64)?;
     write!(out, "= {bytes} bytes\n")?;
     Ok(())
 }
