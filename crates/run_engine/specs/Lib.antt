@@ -6,6 +6,7 @@ pub mod Keeps
 pub mod Made
 pub mod Marks
 pub mod Paired
+pub mod Reporting
 pub mod JobsRan
 pub mod Served
 pub mod Stops

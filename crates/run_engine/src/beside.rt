@@ -1,15 +1,9 @@
 // The workers in threads, and the reporter at the same time on the caller's thread.
 
-ghost use Rattle.std.specs.Prelude.{All, ◌≡◌, ◌<◌, ◌≤◌, ℕ, length, IfErr, OnOk, OnErr, [], false};
-ghost use Rattle.element_tree.specs.Names.{labels_of};
-ghost use Rattle.output_lines.specs.Reports.{report_text};
-ghost use Rattle.recorder_core.specs.RecorderSeats.{reports, numbers_of, IsReporter};
+ghost use Rattle.std.specs.Prelude.{All, ◌≡◌};
 ghost use Rattle.interval_reporter.specs.Judged.{Keeps};
-ghost use Rattle.reporter_loop.specs.Failing.{IsCause};
-ghost use Rattle.reporter_loop.specs.Reported.{Reported};
-ghost use Rattle.reporter_loop.specs.Ticked.{HasTickedWhere};
-ghost use Rattle.reporter_loop.specs.ReportsWritten.{WritesPrefix};
 ghost use Rattle.run_engine.specs.JobsRan.{CanRun, AllRan};
+ghost use Rattle.run_engine.specs.Reporting.{MayReport, HasReported};
 ghost use denote.Param.Send.{IsSync, IsSend};
 
 use crate::job::Job;
@@ -87,22 +81,14 @@ fn report_at<'t, 'k, R: Wait, T: Ticker, K: Sink, F: Fn(&Report, u64) -> Verdict
     seat: ReporterSeat,
     desk: Desk<'t, 'k, T, K>,
 ) -> Reporting<'t, 'k, T, K>
-    requires seat { IsReporter recorder.now seat }
-    requires first { ((reports seat).closed ≡ []) × ((reports seat).interval ≡ 0) × ((reports seat).raised ≡ false) }
-    requires rows { length desk.last.rows ≡ (numbers_of recorder.now).labels }
-    requires labels { (numbers_of recorder.now).labels ≡ length (labels_of rules.now.plan.now.elements) }
+    requires may { MayReport recorder.now rules.now.plan.now seat desk.last }
     requires kept { Keeps F.Fn rules.now.reporter.now }
-    ensures seat { IsReporter recorder.now result.seat }
-    ensures rows { length result.desk.last.rows ≡ (numbers_of recorder.now).labels }
-    ensures few { (reports result.seat).interval ≤ 16777216 }
+    ensures reported { HasReported recorder.now rules.now.plan.now rules.now.limit
+        (record { ticks = T.ticks desk.entry.ticker.now; written = K.written desk.entry.sink.now; faults = K.faults desk.entry.sink.now })
+        (record { ticks = T.ticks result.desk.ticker.now; written = K.written result.desk.sink.now; faults = K.faults result.desk.sink.now })
+        seat (record { seat = result.seat; report = result.desk.last; answer = result.answer }) }
     ensures ticker { result.desk.ticker.ghost_name ≡ desk.entry.ticker.ghost_name }
     ensures sink { result.desk.sink.ghost_name ≡ desk.entry.sink.ghost_name }
-    ensures ticked { HasTickedWhere (reports result.seat).interval (T.ticks desk.entry.ticker.now) (T.ticks result.desk.ticker.now) }
-    ensures reported { OnOk result.answer (Reported (report_text rules.now.plan.now) rules.now.limit (reports result.seat) (K.written desk.entry.sink.now) (K.written result.desk.sink.now)) }
-    ensures prefix { OnErr result.answer (WritesPrefix (report_text rules.now.plan.now) (K.written desk.entry.sink.now) (K.written result.desk.sink.now)) }
-    ensures joined { (reports result.seat).joined ≡ (reports seat).joined }
-    ensures ok { OnOk result.answer (K.faults result.desk.sink.now ≡ K.faults desk.entry.sink.now) }
-    ensures cause { IfErr result.answer (IsCause (K.faults desk.entry.sink.now) (K.faults result.desk.sink.now)) }
 {
     let Desk {
         ticker,
@@ -144,21 +130,13 @@ pub fn run_beside<
     Report,
 )
     requires jobs { All (CanRun recorder.now) jobs.items }
-    requires seat { IsReporter recorder.now seat }
-    requires first { ((reports seat).closed ≡ []) × ((reports seat).interval ≡ 0) × ((reports seat).raised ≡ false) }
-    requires rows { length report.rows ≡ (numbers_of recorder.now).labels }
-    requires labels { (numbers_of recorder.now).labels ≡ length (labels_of rules.now.plan.now.elements) }
+    requires may { MayReport recorder.now rules.now.plan.now seat report }
     requires kept { Keeps F.Fn rules.now.reporter.now }
     ensures jobs { AllRan O.account recorder.now jobs.entry.items result.0.items }
-    ensures seat { IsReporter recorder.now result.1 }
-    ensures rows { length result.3.rows ≡ (numbers_of recorder.now).labels }
-    ensures few { (reports result.1).interval ≤ 16777216 }
-    ensures ticked { HasTickedWhere (reports result.1).interval (T.ticks ticker.old) (T.ticks ticker.new) }
-    ensures reported { OnOk result.2 (Reported (report_text rules.now.plan.now) rules.now.limit (reports result.1) (K.written sink.old) (K.written sink.new)) }
-    ensures prefix { OnErr result.2 (WritesPrefix (report_text rules.now.plan.now) (K.written sink.old) (K.written sink.new)) }
-    ensures joined { (reports result.1).joined ≡ (reports seat).joined }
-    ensures ok { OnOk result.2 (K.faults sink.new ≡ K.faults sink.old) }
-    ensures cause { IfErr result.2 (IsCause (K.faults sink.old) (K.faults sink.new)) }
+    ensures reported { HasReported recorder.now rules.now.plan.now rules.now.limit
+        (record { ticks = T.ticks ticker.old; written = K.written sink.old; faults = K.faults sink.old })
+        (record { ticks = T.ticks ticker.new; written = K.written sink.new; faults = K.faults sink.new })
+        seat (record { seat = result.1; report = result.3; answer = result.2 }) }
 {
     let ended = rules.ended;
     let desk = Desk {
@@ -170,8 +148,15 @@ pub fn run_beside<
         thread::scope_env(),
         rt,
         move |scope| -> Gathered<O, T, K>
-            requires { All (CanRun recorder.now) jobs.items × IsReporter recorder.now seat × ((reports seat).closed ≡ []) × ((reports seat).interval ≡ 0) × ((reports seat).raised ≡ false) × (length desk.last.rows ≡ (numbers_of recorder.now).labels) × ((numbers_of recorder.now).labels ≡ length (labels_of rules.now.plan.now.elements)) × Keeps F.Fn rules.now.reporter.now × IsSync R.row × IsSend O.row }
-            ensures { AllRan O.account recorder.entry.now jobs.entry.items result.jobs.items × IsReporter recorder.entry.now result.end.seat × (length result.end.desk.last.rows ≡ (numbers_of recorder.entry.now).labels) × ((reports result.end.seat).interval ≤ 16777216) × (result.end.desk.ticker.ghost_name ≡ desk.entry.ticker.ghost_name) × (result.end.desk.sink.ghost_name ≡ desk.entry.sink.ghost_name) × HasTickedWhere (reports result.end.seat).interval (T.ticks desk.entry.ticker.now) (T.ticks result.end.desk.ticker.now) × OnOk result.end.answer (Reported (report_text rules.entry.now.plan.now) rules.entry.now.limit (reports result.end.seat) (K.written desk.entry.sink.now) (K.written result.end.desk.sink.now)) × OnErr result.end.answer (WritesPrefix (report_text rules.entry.now.plan.now) (K.written desk.entry.sink.now) (K.written result.end.desk.sink.now)) × ((reports result.end.seat).joined ≡ (reports seat).joined) × OnOk result.end.answer (K.faults result.end.desk.sink.now ≡ K.faults desk.entry.sink.now) × IfErr result.end.answer (IsCause (K.faults desk.entry.sink.now) (K.faults result.end.desk.sink.now)) }
+            requires { All (CanRun recorder.now) jobs.items × MayReport recorder.now rules.now.plan.now seat desk.last
+                × Keeps F.Fn rules.now.reporter.now × IsSync R.row × IsSend O.row }
+            ensures { AllRan O.account recorder.entry.now jobs.entry.items result.jobs.items
+                × HasReported recorder.entry.now rules.entry.now.plan.now rules.entry.now.limit
+                (record { ticks = T.ticks desk.entry.ticker.now; written = K.written desk.entry.sink.now; faults = K.faults desk.entry.sink.now })
+                (record { ticks = T.ticks result.end.desk.ticker.now; written = K.written result.end.desk.sink.now; faults = K.faults result.end.desk.sink.now })
+                seat (record { seat = result.end.seat; report = result.end.desk.last; answer = result.end.answer })
+                × (result.end.desk.ticker.ghost_name ≡ desk.entry.ticker.ghost_name)
+                × (result.end.desk.sink.ghost_name ≡ desk.entry.sink.ghost_name) }
         {
             let promise = TeamOf {
                 recorder,

@@ -1,21 +1,20 @@
-use Rattle.std.proofs.Common.{◌≡◌, ◌∙◌, ℕ, Bool, ap, sym, subst, length}
+use Rattle.std.proofs.Common.{◌≡◌, ◌∙◌, ℕ, Bool, ap, sym, subst, length, rules}
 use Rattle.output_lines.specs.Reports.{report_text}
 use Rattle.phaser_core.specs.declared.view.ReporterView.{ReporterView}
 use Rattle.recorder_core.specs.RecorderSeats.{reports}
 use Rattle.reporter_loop.specs.Reported.{any_over}
 use Rattle.reporter_loop.proofs.Judging.{reported_same, quiet}
-use Rattle.reporter_loop.proofs.Outcomes.{if_ok_then, if_ok_and, err_then, on_ok}
+use Rattle.reporter_loop.proofs.Outcomes.{if_ok_then, err_then, on_ok}
 use Rattle.run_engine.specs.Asked.{options_of}
 use Rattle.run_engine.specs.Followed.{AllFollow}
 use Rattle.std.specs.List.{range_with_len}
 use Rattle.run_engine.specs.Joins.{AllEnd, numbers_in}
-use Rattle.run_engine.specs.Marks.{AllMarked}
 use Rattle.run_engine.specs.Made.{AllFresh, AreUntold}
 use Rattle.run_engine.proofs.Finishing.{all_done}
 use Rattle.run_engine.proofs.Opening.{none_served}
-use Rattle.run_engine.proofs.Hearing.{untold_follow, none_follow, all_follow}
+use Rattle.run_engine.proofs.Hearing.{untold_follow, all_follow}
 use Rattle.element_tree.specs.Names.{locks_of}
-use Rattle.run_engine.specs.SectionsRun.{AreNumbered, AllRise}
+use Rattle.run_engine.specs.SectionsRun.{AreNumbered}
 use Rattle.run_engine.proofs.Placing.{all_seats, numbered_all}
 use Rattle.run_engine.proofs.Stopping.{stopped_books}
 use Rattle.run_engine.proofs.Finishing.{all_among}
@@ -26,6 +25,10 @@ returns-in_err-seats-clause-closed g c = none_served _ _ _ c.requires.opened
 
 pub run_beside-jobs-requires-clause-jobs : goal.run_beside-jobs-requires-clause-jobs
 run_beside-jobs-requires-clause-jobs g c κs within k d lt = (c.in_ok-jobs.ensures.each k d lt).can_run
+
+pub run_beside-jobs-requires-clause-may : goal.run_beside-jobs-requires-clause-may
+run_beside-jobs-requires-clause-may g c κs within =
+    record { seat = search rules; closed = search rules; interval = search rules; raised = search rules; rows = search rules; labels = search rules }
 
 pub join_all-requires-clause-jobs : goal.join_all-requires-clause-jobs
 join_all-requires-clause-jobs g c κs within =
@@ -77,7 +80,7 @@ returns-in-Ok-clause-written g c =
     let text = report_text c.args.ask.now.plan.now in let limit = c.args.ask.now.limit in
     let old = g.K.Sink.written c.args.reports.now in let new = g.K.Sink.written c.run_beside-jobs.new.sink in
     let r = reports c.run_beside-jobs.result.1 in let s = reports c.join_all.new.seat in let only = c.join_all.ensures.only in
-    c.finish_run.ensures.written limit old (reported_same text limit r s old new only.interval only.closed only.raised (on_ok c.run_beside-jobs.result.2 c.in-Ok.is c.run_beside-jobs.ensures.reported))
+    c.finish_run.ensures.written limit old (reported_same text limit r s old new only.interval only.closed only.raised (on_ok c.run_beside-jobs.result.2 c.in-Ok.is c.run_beside-jobs.ensures.reported.reported))
 
 pub returns-in-Ok-clause-prefix : goal.returns-in-Ok-clause-prefix
 returns-in-Ok-clause-prefix g c =
@@ -85,12 +88,12 @@ returns-in-Ok-clause-prefix g c =
     let old = g.K.Sink.written c.args.reports.now in let new = g.K.Sink.written c.run_beside-jobs.new.sink in
     let r = reports c.run_beside-jobs.result.1 in let s = reports c.join_all.new.seat in let only = c.join_all.ensures.only in
     err_then c.finish_run.result c.finish_run.ensures.prefix (λ prefix.
-    prefix limit old (reported_same text limit r s old new only.interval only.closed only.raised (on_ok c.run_beside-jobs.result.2 c.in-Ok.is c.run_beside-jobs.ensures.reported)))
+    prefix limit old (reported_same text limit r s old new only.interval only.closed only.raised (on_ok c.run_beside-jobs.result.2 c.in-Ok.is c.run_beside-jobs.ensures.reported.reported)))
 
 pub returns-in-Ok-clause-unlimited : goal.returns-in-Ok-clause-unlimited
 returns-in-Ok-clause-unlimited g c =
     let limit = c.args.ask.now.limit in
-    let h = on_ok c.run_beside-jobs.result.2 c.in-Ok.is c.run_beside-jobs.ensures.reported in
+    let h = on_ok c.run_beside-jobs.result.2 c.in-Ok.is c.run_beside-jobs.ensures.reported.reported in
     let r = reports c.run_beside-jobs.result.1 in let only = c.join_all.ensures.only in
     if_ok_then c.finish_run.result c.finish_run.ensures.lists (λ b is most.
     ap (λ (q : ReporterView). q.raised) is ∙ only.raised ∙ h.raised ∙ quiet limit r.closed most h.bounds)
@@ -98,7 +101,7 @@ returns-in-Ok-clause-unlimited g c =
 pub returns-in-Ok-clause-stopped : goal.returns-in-Ok-clause-stopped
 returns-in-Ok-clause-stopped g c =
     let limit = c.args.ask.now.limit in
-    let h = on_ok c.run_beside-jobs.result.2 c.in-Ok.is c.run_beside-jobs.ensures.reported in
+    let h = on_ok c.run_beside-jobs.result.2 c.in-Ok.is c.run_beside-jobs.ensures.reported.reported in
     let s = reports c.join_all.new.seat in let only = c.join_all.ensures.only in
     let raised : s.raised ≡ any_over limit s.closed = only.raised ∙ h.raised ∙ ap (any_over limit) (sym only.closed) in
     stopped_books limit s c.join_all.new.traces.items c.join_all.ensures.marks raised c.finish_run.result c.finish_run.ensures.traces c.finish_run.ensures.lists c.finish_run.ensures.stop

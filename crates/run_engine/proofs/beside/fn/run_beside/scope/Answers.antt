@@ -16,23 +16,15 @@ returns-in-Ok g c =
     let at = c.report_at-end.ensures in (
       subst (λ (js : List (Job _)). AllRan g.O.Outside.account c.captures.recorder.now js c.join-jobs.result.items) (ap (λ v. v.items) c.of.ensures)
           (subst (λ p. AllRan g.O.Outside.account p.recorder.now p.before.value.items c.join-jobs.result.items) c.in-Ok.ensures.ok c.join-jobs.ensures),
-      at.seat,
-      at.rows,
-      at.few,
+      at.reported,
       at.ticker,
       at.sink,
-      at.ticked,
-      at.reported,
-      at.prefix,
-      at.joined,
-      at.ok,
-      at.cause,
     )
 
 pub returns-in-Err : goal.returns-in-Err
 returns-in-Err g c =
     let at = c.report_at-end-in-Err.ensures in
-    (subst (λ f. AllRan g.O.Outside.account f.1.now f.3.items c.work-jobs.result.items) c.in-Err.ensures.err c.work-jobs.ensures, at.seat, at.rows, at.few, at.ticker, at.sink, at.ticked, at.reported, at.prefix, at.joined, at.ok, at.cause)
+    (subst (λ f. AllRan g.O.Outside.account f.1.now f.3.items c.work-jobs.result.items) c.in-Err.ensures.err c.work-jobs.ensures, at.reported, at.ticker, at.sink)
 
 pub work-jobs-requires-after_bounds : goal.work-jobs-requires-after_bounds
 work-jobs-requires-after_bounds g c κs within =
