@@ -1,5 +1,5 @@
 -- A map from names to values, as the list of its pairs in the order of the names' bytes.
-use Rattle.std.specs.Prelude.{ℕ, Bool, List, [], ◌∷◌, Vec, Option}
+use Rattle.std.specs.Prelude.{◌≡◌, ◌⊎◌, ◌≤◌, ℕ, Bool, List, [], ◌∷◌, Vec, Option}
 use Rattle.std.specs.Global.{Global}
 use Rattle.std.specs.declared.cmp.Ordering.{Ordering}
 use Rattle.std.specs.Ordering.{nat_cmp, is_eq}
@@ -23,6 +23,10 @@ is_same name other = is_eq (by_bytes name other)
 -- the value of a name, where it is defined
 abbrev pub value_of : List ℕ → Variables → Option (List ℕ)
 value_of name vars = lookup (is_at (by_bytes name)) vars
+
+-- A value of that many bytes takes no memory in the place of an old one: it has as many, or fewer where the old one has at most 64.
+abbrev pub FitsIn : ℕ → ℕ → Type 0
+FitsIn old new = (new ≡ old) ⊎ ((new ≤ old) × (old ≤ 64))
 
 -- with this value at the name, in place of an old one
 abbrev pub with_var : List ℕ → List ℕ → Variables → Variables

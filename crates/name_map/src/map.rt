@@ -2,7 +2,7 @@
 
 ghost use Rattle.std.specs.Prelude.{◌≡◌, length, is_some, None, [], IfOk, IfSome, IsOk, OnOk, OnErr, if◌then◌else◌};
 ghost use Rattle.std.specs.Option.{option_copied, option_map};
-ghost use Rattle.name_map.specs.Names.{IsInOrder, value_of, with_var, without_var};
+ghost use Rattle.name_map.specs.Names.{FitsIn, IsInOrder, value_of, with_var, without_var};
 
 use crate::text::write_over;
 use jm_base::{M, NoMemory, Text};
@@ -59,13 +59,13 @@ impl NameMap {
     }
 
     /// Writes a value over that of a name, where it is defined, and answers how many bytes that had. Out of memory all stays;
-    /// a value of as many bytes takes none.
+    /// a value of as many bytes takes none, nor one of fewer in the place of at most 64.
     pub fn write(&mut self, alloc: Global, name: &[u8], value: &[u8]) -> M<Option<usize>>
         ensures old { IfOk result (λ old. old ≡ option_map length (value_of name.now self.old)) }
         ensures ok { IfOk result (λ old. self.new ≡ (if is_some old then with_var name.now value.now self.old else self.old)) }
         ensures undefined { value_of name.now self.old ≡ None → IsOk result }
         ensures err { OnErr result (self.new ≡ self.old) }
-        ensures memory { IfSome (value_of name.now self.old) (λ old. length old ≡ length value.now → IsOk result) }
+        ensures memory { IfSome (value_of name.now self.old) (λ old. FitsIn (length old) (length value.now) → IsOk result) }
         ensures ordered { IsInOrder self.new }
     {
         let Some(old) = self.pairs.get_mut(name) else {

@@ -1,6 +1,7 @@
 // A text that is written over.
 
 ghost use Rattle.std.specs.Prelude.{◌≡◌, ◌≤◌, length, OnOk, OnErr, IsOk};
+ghost use Rattle.name_map.specs.Names.{FitsIn};
 
 use jm_base::{M, Text};
 use std::alloc::Global;
@@ -31,8 +32,7 @@ fn overwrite(bytes: &mut Vec<u8>, value: &[u8]) -> M<()>
 pub fn write_over(alloc: Global, text: &mut Text, value: &[u8]) -> M<()>
     ensures ok { OnOk result (text.new ≡ value.now) }
     ensures err { OnErr result (text.new ≡ text.old) }
-    ensures memory { length text.old ≡ length value.now → IsOk result }
-    ensures shorter { length value.now ≤ length text.old → length text.old ≤ 64 → IsOk result }
+    ensures memory { FitsIn (length text.old) (length value.now) → IsOk result }
 {
     let before = text.bytes().len();
     if before != value.len() && before.max(value.len()) > USUAL_LENGTH {

@@ -16,7 +16,7 @@ use Rattle.std.proofs.lemmas.Map.Entries.{none_below_head}
 use Rattle.std.proofs.lemmas.Map.Keys.{sorted_tail}
 use Rattle.thread_vars.specs.declared.error.VarError.{VarError}
 use Rattle.thread_vars.specs.declared.error.VarError.TheVariants.{ValueLimit, NoMemory}
-use Rattle.thread_vars.specs.Vars.{Variables, by_bytes, value_of, with_var, without_var, bytes_of, bytes_found, is_same, IsInOrder, most_text, most_bytes, put_var, index_name, last_sample_ok, Puts, IsKept}
+use Rattle.thread_vars.specs.Vars.{Variables, by_bytes, value_of, FitsIn, with_var, without_var, bytes_of, bytes_found, is_same, IsInOrder, most_text, most_bytes, put_var, index_name, last_sample_ok, Puts, IsKept}
 use Rattle.thread_vars.specs.Beside.{with_beside, IsBeside}
 use Rattle.name_map.proofs.NameLaws.{same_from_is, is_same-refl, value_of-with_var, value_of-without_var, with_var-same}
 use Rattle.thread_vars.proofs.VarLaws.{bytes_of-with_var, within, room}
@@ -235,7 +235,7 @@ refusal error = Err error
 
 -- over a value of as many bytes no call runs out of memory
 abbrev pub refuses : List ℕ → VarError → List ℕ → Type 0
-refuses new error old = length old ≡ length new → refusal error ≢ refusal NoMemory
+refuses new error old = FitsIn (length old) (length new) → refusal error ≢ refusal NoMemory
 
 module _ (name value : List ℕ) (vars : Variables) (kept : IsKept (bytes_of vars) vars) (ahead : Bool) where
   pub all-kept : (beside : Bool) → (beside ≡ true → IsBeside ahead name value vars) → IsKept (bytes_of (with_beside beside name value vars)) (with_beside beside name value vars)
@@ -323,7 +323,7 @@ module _ (name value : List ℕ) (vars : Variables) (kept : IsKept (bytes_of var
   memory-too beside true is other m new error h =
       let i = is m.0 in
       let old : refuses new error i.before = subst (λ o. IfSome o (refuses new error)) (ap (λ n. value_of n vars) m.1 ∙ i.defined) h in
-      subst (λ o. IfSome o (refuses new error)) (sym (value-own beside name value vars other m.0 m.1)) (λ long. old (i.alike ∙ long))
+      subst (λ o. IfSome o (refuses new error)) (sym (value-own beside name value vars other m.0 m.1)) (λ fits. old (subst (λ n. FitsIn n (length new)) (sym i.alike) fits))
   memory-too beside false is other m new error h = subst (λ o. IfSome o (refuses new error)) (sym (value-other beside name value vars other m)) h
 
   -- ---- the number that is set again, or anew

@@ -1,5 +1,5 @@
 -- The variables of a thread: names with their values, and how many bytes they may have.
-pub use Rattle.name_map.specs.Names.{Variables, by_bytes, value_of, with_var, without_var, is_same, IsInOrder}
+pub use Rattle.name_map.specs.Names.{Variables, by_bytes, value_of, FitsIn, with_var, without_var, is_same, IsInOrder}
 use Rattle.std.specs.Prelude.{◌≡◌, ℕ, ◌+◌, ◌≤◌, Bool, ◌&&◌, nat_le, List, [], ◌∷◌, ◌++◌, codes, length, Option, Some, None, Result, Ok, Err, if◌then◌else◌}
 use Rattle.thread_vars.specs.declared.error.VarError.{VarError}
 use Rattle.thread_vars.specs.declared.error.VarError.TheVariants.{ValueLimit, NoMemory}

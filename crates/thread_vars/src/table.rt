@@ -2,7 +2,7 @@
 
 ghost use Rattle.std.specs.Prelude.{◌≡◌, ◌≢◌, ◌≤◌, ◌<◌, ◌^◌, ◌-◌, ◌+◌, length, true, false, IfSome, MatchBool, [], None, Some, ℕ, List, OnOk, if◌then◌else◌};
 ghost use Rattle.std.specs.Option.{option_copied};
-ghost use Rattle.thread_vars.specs.Vars.{IsKept, value_of, put_var, without_var, is_same, Puts, bytes_at, bytes_of, bytes_found, most_bytes, last_sample_ok, truth_text};
+ghost use Rattle.thread_vars.specs.Vars.{FitsIn, IsKept, value_of, put_var, without_var, is_same, Puts, bytes_at, bytes_of, bytes_found, most_bytes, last_sample_ok, truth_text};
 
 use crate::error::VarError;
 use jm_base::Text;
@@ -146,14 +146,14 @@ impl Table {
         Ok(())
     }
 
-    /// Sets a variable to a copy of a value, in place of the value that it had, and in its memory where that has as many
-    /// bytes: then it takes none. The time is that of a search by a hash. A call that refuses changes nothing.
+    /// Sets a variable to a copy of a value, in place of the value that it had. It takes no memory where that has as many bytes,
+    /// nor where it has more and at most 64. The time is that of a search by a hash. A call that refuses changes nothing.
     ///
     /// `ValueLimit` comes where the value would have more than 65,536 bytes, or all names and values together more than
     /// 4,194,304, without the old value of this name.
     pub fn put_copy(&mut self, alloc: Global, name: &[u8], value: &[u8]) -> Result<(), VarError>
         ensures exact { Puts (put_var name.now value.now self.old) self.old self.new result }
-        ensures memory { IfSome (value_of name.now self.old) (λ old. length old ≡ length value.now → result ≢ Err VarError.NoMemory) }
+        ensures memory { IfSome (value_of name.now self.old) (λ old. FitsIn (length old) (length value.now) → result ≢ Err VarError.NoMemory) }
     {
         let length = value.len();
         if length > MOST_TEXT {

@@ -2,7 +2,7 @@ use Rattle.std.proofs.Common.{◌≡◌, ◌∙◌, length, Some, None, true, fa
 use Rattle.std.specs.Prelude.{IfSome, IsSome, IsOk}
 use Rattle.std.specs.Option.{option_map}
 use Rattle.std.proofs.lemmas.Result.{err_from_is_err_and}
-use Rattle.name_map.specs.Names.{value_of, with_var, listed}
+use Rattle.name_map.specs.Names.{FitsIn, value_of, with_var, listed}
 use Rattle.name_map.proofs.NameLaws.{with_var-same}
 use Rattle.name_map.proofs.EntryLaws.{lookup-listed, listed-with, listed-ordered}
 use Rattle.name_map.proofs.map.NameMap.write.Goals as goal
@@ -29,7 +29,7 @@ returns-in_err-write_over-clause-err c =
 pub returns-in_err-write_over-clause-memory : goal.returns-in_err-write_over-clause-memory
 returns-in_err-write_over-clause-memory c =
     let found : Some c.in-Some.old.now ≡ value_of c.args.name.now c.args.self.now = c.in-Some.ensures.value ∙ lookup-listed c.args.name.now c.self.inside.pairs.entries ∙ ap (value_of c.args.name.now) c.self.view_is in
-    subst (λ o. IfSome o (λ old. length old ≡ length c.args.value.now → IsOk c.from_residual.result)) found (λ same. let refuted : false ≡ true = c.in_err-write_over.ensures.memory same in cc)
+    subst (λ o. IfSome o (λ old. FitsIn (length old) (length c.args.value.now) → IsOk c.from_residual.result)) found (λ fits. let refuted : false ≡ true = c.in_err-write_over.ensures.memory fits in cc)
 
 pub returns-in_err-write_over-clause-ordered : goal.returns-in_err-write_over-clause-ordered
 returns-in_err-write_over-clause-ordered c = listed-ordered (c.get_mut.follows.lender c.write_over.new.text).entries
