@@ -10,11 +10,12 @@ mod transaction;
 
 ghost use Rattle.std.specs.Prelude.{length, ◌<◌, ◌≡◌, [], ℕ, IfOk, OnOk, OnErr};
 ghost use Rattle.jm_base.specs.Run.{Run, over};
-ghost use Rattle.element_tree.specs.Tree.{threads_of};
+ghost use Rattle.element_tree.specs.Tree.{threads_of, group_of};
+ghost use Rattle.config_elements.specs.RoundStart.{feeds_of};
 ghost use Rattle.jm_meaning.specs.Beginning.{first_of};
 ghost use Rattle.jm_meaning.specs.Meaning.{events, end_of, after_pause};
 ghost use Rattle.jm_meaning.specs.TraceShown.{Shows};
-ghost use Rattle.plain_run.specs.Plays.{IsUnderWay};
+ghost use Rattle.plain_run.specs.Plays.{state_in, IsUnderWay};
 
 use crate::group::run_thread;
 use crate::progress::Progress;
@@ -47,7 +48,28 @@ pub fn run_plainly<O: Outside>(
     ensures cut { OnErr result (IsUnderWay (O.account outside.old)
         (events plan.now thread (record { seed = seed; props = props.now; budget = budget })) (O.account outside.new)) }
 {
-    let mut progress = Progress {
+    let mut progress = first_progress(alloc, plan, thread, seed, props, budget)?;
+    pause(ramp_up_pause(plan, thread), outside, &mut progress.items)?;
+    let signal = run_thread(plan, plan.group_of(thread), &mut progress, outside)?;
+    progress.items.push(Item::Ended(end_of(signal)))?;
+    Ok(progress.items)
+}
+
+// The thread before its first event.
+fn first_progress(
+    alloc: Global,
+    plan: &Plan,
+    thread: u16,
+    seed: u64,
+    props: &Props,
+    budget: u32,
+) -> M<Progress>
+    requires { thread < length (threads_of plan.now) }
+    ensures state { IfOk result (λ p. state_in p ≡ first_of plan.now thread (record { seed = seed; props = props.now; budget = budget })) }
+    ensures feeds { IfOk result (λ p. p.config.feeds ≡ feeds_of plan.now.elements (group_of plan.now thread)) }
+    ensures items { IfOk result (λ p. p.items.items ≡ []) }
+{
+    Ok(Progress {
         alloc,
         user: first_user(alloc, plan, thread, seed, props)?,
         units: budget,
@@ -56,11 +78,7 @@ pub fn run_plainly<O: Outside>(
         config: ConfigState::new(alloc, plan, thread)?,
         tally: Tally::none(),
         items: Vec::new(alloc),
-    };
-    pause(ramp_up_pause(plan, thread), outside, &mut progress.items)?;
-    let signal = run_thread(plan, plan.group_of(thread), &mut progress, outside)?;
-    progress.items.push(Item::Ended(end_of(signal)))?;
-    Ok(progress.items)
+    })
 }
 
 // The variables and what functions keep, before anything is set.
