@@ -75,26 +75,26 @@ impl<'p> Runner<'p> {
         ensures start { IfOk result (λ r. IsAtStart plan.now thread (record { seed = seed; props = props.now; budget = budget }) (standing_of r false)) }
         ensures on { IfOk result GoesOn }
     {
-        let found = plan.thread(thread);
+        let number = plan.thread(thread).number;
         Ok(Runner {
             plan,
             thread,
             pause: ramp_up_pause(plan, thread),
             begun: false,
-            user: UserState {
-                vars: Vars::new(alloc),
-                fns: FnState::new(alloc, props, found.number, u64::from(thread), seed)?,
-            },
-            config: ConfigState::new(alloc, plan, thread)?,
-            table: NodeTable::of(alloc, plan)?,
-            machine: Machine::new(alloc, plan, thread)?,
             units: budget,
             owed: None,
             entering: None,
             section: None,
             last: None,
-            trace: Trace::new(alloc, budget)?,
             pipeline: Pipeline::new(alloc),
+            trace: Trace::new(alloc, budget)?,
+            table: NodeTable::of(alloc, plan)?,
+            config: ConfigState::new(alloc, plan, thread)?,
+            user: UserState {
+                vars: Vars::new(alloc),
+                fns: FnState::new(alloc, props, number, u64::from(thread), seed)?,
+            },
+            machine: Machine::new(alloc, plan, thread)?,
             alloc,
         })
     }
