@@ -19,9 +19,15 @@ use Rattle.phaser_core.specs.Views.{Pair, first_reading, made_known, AllJoined, 
 use Rattle.phaser_core.specs.Shares.{AllUpTo, entries_in, Partition, SumsOfLists, SumsOfStripes}
 use Rattle.phaser_core.specs.CoreMoves.{Move, entering, loading, adding, leaving, swapping, clearing, flipping, looking, taking, looking_stop, raising_stop, raising_as_reporter}
 use Rattle.phaser_core.specs.Invariant.{RecorderInvariant, raised_in, saw_in}
+use Rattle.phaser_words.specs.Spacing.{slot_count, words_in}
 
+-- the recorder invariant, of words that stand one after another
+abbrev pub core_holds : Numbers → State (Unit {0}) View → Type 0
+core_holds n s = RecorderInvariant n s.words s.views
+
+-- the recorder invariant, of the words that stand in the slots
 abbrev pub holds_of : Numbers → State (Unit {0}) View → Type 0
-holds_of n s = RecorderInvariant n s.words s.views
+holds_of n s = (length s.words ≡ slot_count n.labels) × RecorderInvariant n (words_in n.labels s.words) s.views
 
 abbrev pub first_view : Numbers → View
 first_view n = Reporter (first_reading n.labels)

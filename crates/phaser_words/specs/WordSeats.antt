@@ -18,6 +18,7 @@ use Rattle.phaser_words.specs.declared.places.ReporterWordSeat.{ReporterWordSeat
 use Rattle.phaser_words.specs.declared.places.LastWords.{LastWords}
 use Rattle.phaser_core.specs.declared.applied.Applied.{Applied}
 use Rattle.phaser_core.specs.declared.applied.Applied.TheVariants.{Old, Settled, NotYet, NotEnabled}
+use Rattle.phaser_words.specs.Spacing.{words_in}
 use Rattle.phaser_words.specs.RecorderKinds.{writing_of, reading_of, waited_for}
 
 -- what the writer, and the reporter, of a seat knows
@@ -39,7 +40,7 @@ abbrev pub IsReporterOf : Words → ReporterWordSeat → Type 0
 IsReporterOf w s = (s.seat.table_id ≡ w.table.shared.table_id) × ((reading s).labels ≡ (numbers w).labels)
 
 abbrev pub last_words : LastWords → List ℕ
-last_words l = slots_items l.closed.words
+last_words l = words_in l.labels (slots_items l.closed.words)
 
 -- the words are those of a state of the recorder in which the reporter has this view, and every writer was joined
 abbrev pub Ends : Numbers → List ℕ → ReporterView → Type 0

@@ -6,6 +6,7 @@ mod last;
 mod places;
 mod reporter;
 mod rule;
+mod spacing;
 mod steps;
 mod words;
 mod writer;

@@ -1,9 +1,9 @@
 //! The words and the seats, each with what is always true of it.
 ghost use Rattle.std.specs.Prelude.{◌≡◌, ◌+◌, ◌≤◌, []};
 ghost use Rattle.std.specs.Slots.{slots_len, IsFull};
-ghost use Rattle.phaser_core.specs.Cells.{word_count};
 ghost use Rattle.phaser_core.specs.Views.{pending, IsSized};
 ghost use Rattle.phaser_core.specs.declared.view.View.TheVariants.{Reporter, Writer};
+ghost use Rattle.phaser_words.specs.Spacing.{slot_count};
 ghost use Rattle.phaser_words.specs.RecorderKinds.{writing_of, reading_of};
 
 use crate::rule::RecorderRule;
@@ -17,7 +17,7 @@ pub struct Words {
     pub(crate) table: Table<(), View, Numbers, RecorderRule, Global>,
     pub(crate) labels: u16,
     ghost labelled: { table.shared.key.labels ≡ labels },
-    ghost wide: { table.shared.table_id.words ≡ word_count table.shared.key.labels },
+    ghost wide: { table.shared.table_id.words ≡ slot_count table.shared.key.labels },
     ghost vacant: { table.shared.table_id.slots ≡ 0 },
     ghost sized: { IsSized table.shared.key },
 }
@@ -52,13 +52,15 @@ pub struct ReporterWordSeat {
 /// The words as they stood at the end.
 pub struct LastWords {
     pub(crate) closed: Closed<(), Global>,
+    pub(crate) labels: u16,
     ghost full: { IsFull closed.words },
+    ghost wide: { slots_len closed.words ≡ slot_count labels },
     ghost vacant: { slots_len closed.slots ≡ 0 },
 }
 
 impl Drop for LastWords {
     fn drop(self) {
-        let Self { closed } = self;
+        let Self { closed, labels: _ } = self;
         closed.free();
     }
 }

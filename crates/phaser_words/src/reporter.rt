@@ -6,12 +6,14 @@ ghost use Rattle.phaser_core.specs.Shares.{SumsOfStripes};
 ghost use Rattle.phaser_core.specs.CoreMoves.{gathered, reporter_raised};
 ghost use Rattle.phaser_core.specs.declared.view.View.TheVariants.{Reporter};
 ghost use Rattle.phaser_core.specs.Invariant.{raised_in, saw_in};
+ghost use Rattle.phaser_words.specs.Spacing.{slot};
 ghost use Rattle.phaser_words.specs.RecorderKinds.{IsWaiting, HasCell, taken_in, Recalled};
 ghost use Rattle.phaser_words.specs.WordSeats.{reading, numbers, IsReporterOf, IsLook};
 
 use crate::places::{ReporterWordSeat, Words};
 use crate::rule::{Clears, Flips, Handing, Looks, Reads, Recalls, ReporterRaises, Swaps, Takes};
-use phaser_core::layout::{ACTIVE, START, STOP, cell_count, cell_word, end_word, initial, vacant};
+use crate::spacing::{ACTIVE, START, STOP, end_slot, slot_of};
+use phaser_core::layout::{cell_count, cell_word, initial, vacant};
 use phaser_core::{Applied, ReporterStage};
 use std::marker::Brand;
 
@@ -36,7 +38,7 @@ impl Words {
     {
         self.table
             .shared
-            .swap::<ReporterRaises>(&mut seat.seat, STOP as usize, 1)
+            .swap::<ReporterRaises>(&mut seat.seat, STOP, 1)
     }
 
     /// Begins to close the interval: samples enter the next one from now on. The answer is the interval that closes, which
@@ -53,7 +55,7 @@ impl Words {
         let found = self
             .table
             .shared
-            .swap::<Swaps>(&mut seat.seat, ACTIVE as usize, next);
+            .swap::<Swaps>(&mut seat.seat, ACTIVE, next);
         seat.closing = ReporterStage::Swapped;
         found
     }
@@ -71,7 +73,7 @@ impl Words {
         let found = self
             .table
             .shared
-            .swap::<Clears>(&mut seat.seat, end_word(odd) as usize, initial(odd));
+            .swap::<Clears>(&mut seat.seat, end_slot(odd), initial(odd));
         seat.closing = ReporterStage::Cleared;
         found
     }
@@ -87,7 +89,7 @@ impl Words {
         let found = self
             .table
             .shared
-            .swap::<Flips>(&mut seat.seat, START as usize, initial(odd));
+            .swap::<Flips>(&mut seat.seat, START, initial(odd));
         seat.closing = ReporterStage::Waiting { want: found };
         found
     }
@@ -108,7 +110,7 @@ impl Words {
         let seen = self
             .table
             .shared
-            .load::<Looks>(&mut seat.seat, end_word(odd) as usize);
+            .load::<Looks>(&mut seat.seat, end_slot(odd));
         if seen != want {
             return Applied::NotYet { seen, want };
         }
@@ -133,11 +135,11 @@ impl Words {
         let ReporterStage::Harvest { taken } = seat.closing else {
             unreachable!()
         };
-        let word = self.cell_of(seat.interval, taken);
+        let slot = self.cell_of(seat.interval, taken);
         let found = self
             .table
             .shared
-            .swap::<Takes>(&mut seat.seat, word, vacant(taken));
+            .swap::<Takes>(&mut seat.seat, slot, vacant(taken));
         if taken + 1 == cell_count(self.labels) {
             seat.closing = ReporterStage::Idle;
             seat.interval += 1;
@@ -147,12 +149,12 @@ impl Words {
         found
     }
 
-    // the word of a cell, in word order, of the table in which an interval counts
+    // the slot of a cell, in word order, of the table in which an interval counts
     fn cell_of(&self, interval: u64, cell: u32) -> usize
         requires { cell < table_cells (numbers self.now).labels }
-        ensures { result ≡ cell_at (numbers self.now).labels interval cell }
+        ensures { result ≡ slot (cell_at (numbers self.now).labels interval cell) }
     {
-        cell_word(self.labels, interval, cell) as usize
+        slot_of(cell_word(self.labels, interval, cell))
     }
 
     // The same as `recall`, for numbers that the proof names.
@@ -163,9 +165,7 @@ impl Words {
         ensures same { reading seat.new ≡ reading seat.old }
         ensures knows { Recalled (numbers self.now) (reading seat.old) }
     {
-        self.table
-            .shared
-            .load::<Recalls<J>>(&mut seat.seat, ACTIVE as usize);
+        self.table.shared.load::<Recalls<J>>(&mut seat.seat, ACTIVE);
     }
 
     /// A load of the active word that changes nothing. By it the reporter learns what the rule says of its own view:
@@ -190,8 +190,8 @@ impl Words {
         ensures same { reading seat.new ≡ reading seat.old }
         ensures worth { result ≡ joined_at (reading seat.old).labels (reading seat.old).interval cell (reading seat.old).joined }
     {
-        let word = self.cell_of(seat.interval, cell);
-        self.table.shared.load::<Reads<J>>(&mut seat.seat, word)
+        let slot = self.cell_of(seat.interval, cell);
+        self.table.shared.load::<Reads<J>>(&mut seat.seat, slot)
     }
 
     /// Loads a cell of the open interval, once every writer was joined: it holds what their lists contribute to it.

@@ -7,6 +7,7 @@ ghost use Rattle.phaser_words.specs.WordSeats.{writing, reading, numbers, IsWrit
 
 use crate::places::{LastWords, ReporterWordSeat, Words, WriterWordSeat};
 use crate::rule::{Makes, TakesIn};
+use crate::spacing::spread;
 use atomic_table::Table;
 use jm_base::M;
 use phaser_core::layout::first_words;
@@ -34,7 +35,8 @@ impl Words {
             budget,
         };
         let words = first_words(alloc, labels)?;
-        let (table, mut seat) = Table::of_words(alloc, words.as_slice(), &numbers)?;
+        let slots = spread(alloc, labels, words.as_slice())?;
+        let (table, mut seat) = Table::of_words(alloc, slots.as_slice(), &numbers)?;
         let first = table.shared.split_seat::<Makes>(&mut seat);
         Ok((
             Words { table, labels },
@@ -109,8 +111,8 @@ impl Words {
             interval: _,
             closing: _,
         } = seat;
-        let Words { table, labels: _ } = self;
+        let Words { table, labels } = self;
         let closed = table.close_with(seat);
-        LastWords { closed }
+        LastWords { closed, labels }
     }
 }

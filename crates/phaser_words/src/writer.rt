@@ -4,16 +4,18 @@ ghost use Rattle.phaser_core.specs.Cells.{phase, sums, column, part, place as ce
 ghost use Rattle.phaser_core.specs.Views.{at_stage};
 ghost use Rattle.phaser_core.specs.Shares.{AllUpTo};
 ghost use Rattle.phaser_core.specs.CoreMoves.{marked, or};
+ghost use Rattle.phaser_words.specs.Spacing.{slot};
 ghost use Rattle.phaser_words.specs.RecorderKinds.{IsIn, HasSum, HasLeast, HasGreatest, HasAll, one_further, parity_in, interval_in, entry_in};
 ghost use Rattle.phaser_words.specs.WordSeats.{writing, numbers, IsWriterOf};
 
 use crate::cells::part_of;
 use crate::places::{Words, WriterWordSeat};
 use crate::rule::{Adds, Enters, Exits, Handing, Loads, Raises, Watches};
+use crate::spacing::{ACTIVE, START, STOP, cell_slot, end_slot};
 use crate::steps::Steps;
 use jm_base::Entry;
 use phaser_core::Stage;
-use phaser_core::layout::{ACTIVE, HALF, START, STOP, column_of, end_word, place};
+use phaser_core::layout::{HALF, column_of};
 use std::marker::Brand;
 use std::sync::ledger::Ledger;
 
@@ -46,7 +48,7 @@ impl Words {
         let found = self
             .table
             .shared
-            .fetch_add::<Enters>(&mut seat.seat, START as usize, 1);
+            .fetch_add::<Enters>(&mut seat.seat, START, 1);
         seat.stage = Stage::In { odd: found >= HALF };
         steps.tick();
         found
@@ -71,10 +73,7 @@ impl Words {
     {
         let _elapsed = entry.elapsed;
         let _bytes = entry.bytes;
-        let found = self
-            .table
-            .shared
-            .load::<Loads<J>>(&mut seat.seat, ACTIVE as usize);
+        let found = self.table.shared.load::<Loads<J>>(&mut seat.seat, ACTIVE);
         seat.stage = Stage::On {
             odd,
             interval: found,
@@ -124,11 +123,11 @@ impl Words {
         else {
             unreachable!()
         };
-        let (word, amount) = self.next_part(seat, interval, &entry, done);
+        let (slot, amount) = self.next_part(seat, interval, &entry, done);
         let found = self
             .table
             .shared
-            .fetch_add::<Adds>(&mut seat.seat, word, amount);
+            .fetch_add::<Adds>(&mut seat.seat, slot, amount);
         seat.stage = Stage::On {
             odd,
             interval,
@@ -156,11 +155,11 @@ impl Words {
         else {
             unreachable!()
         };
-        let (word, amount) = self.next_part(seat, interval, &entry, done);
+        let (slot, amount) = self.next_part(seat, interval, &entry, done);
         let found = self
             .table
             .shared
-            .fetch_min::<Adds>(&mut seat.seat, word, amount);
+            .fetch_min::<Adds>(&mut seat.seat, slot, amount);
         seat.stage = Stage::On {
             odd,
             interval,
@@ -188,11 +187,11 @@ impl Words {
         else {
             unreachable!()
         };
-        let (word, amount) = self.next_part(seat, interval, &entry, done);
+        let (slot, amount) = self.next_part(seat, interval, &entry, done);
         let found = self
             .table
             .shared
-            .fetch_max::<Adds>(&mut seat.seat, word, amount);
+            .fetch_max::<Adds>(&mut seat.seat, slot, amount);
         seat.stage = Stage::On {
             odd,
             interval,
@@ -203,7 +202,7 @@ impl Words {
         found
     }
 
-    // The word of the cell that an entry's next part goes into, and that part.
+    // The slot of the cell that an entry's next part goes into, and that part.
     fn next_part(
         &self,
         seat: &WriterWordSeat,
@@ -213,21 +212,12 @@ impl Words {
     ) -> (usize, u64)
         requires left { done < sums entry.now }
         requires label { entry.now.label < (numbers self.now).labels }
-        ensures word { result.0 ≡ cell_place (numbers self.now).labels (interval % 2) (writing seat.now).number entry.now.label (column entry.now done) }
+        ensures slot { result.0 ≡ slot (cell_place (numbers self.now).labels (interval % 2) (writing seat.now).number entry.now.label (column entry.now done)) }
         ensures amount { result.1 ≡ part (column entry.now done) entry.now }
     {
         let column = column_of(entry, done);
-        let word = self.cell_word(seat, interval, entry, column);
-        (word, part_of(entry, column))
-    }
-
-    // The word of a writer's cell.
-    fn cell_word(&self, seat: &WriterWordSeat, interval: u64, entry: &Entry, column: u8) -> usize
-        requires column { column < 6 }
-        requires label { entry.now.label < (numbers self.now).labels }
-        ensures { result ≡ cell_place (numbers self.now).labels (interval % 2) (writing seat.now).number entry.now.label column }
-    {
-        place(self.labels, interval, seat.number, entry.label, column) as usize
+        let slot = cell_slot(self.labels, interval, seat.number, entry.label, column);
+        (slot, part_of(entry, column))
     }
 
     /// Adds 1 to the end word of the seat's parity: the entry is in. No clause says what the answer is.
@@ -244,7 +234,7 @@ impl Words {
         let found = self
             .table
             .shared
-            .fetch_add::<Exits>(&mut seat.seat, end_word(odd) as usize, 1);
+            .fetch_add::<Exits>(&mut seat.seat, end_slot(odd), 1);
         seat.stage = Stage::Out;
         steps.tick();
         found
@@ -258,9 +248,7 @@ impl Words {
         ensures saw { writing seat.new ≡ marked (writing seat.old) (writing seat.old).raised (or (writing seat.old).saw (result == 1)) }
         ensures known { (result ≤ 1) × ((writing seat.old).raised ≡ true → result ≡ 1) × ((writing seat.old).saw ≡ true → result ≡ 1) }
     {
-        self.table
-            .shared
-            .load::<Watches>(&mut seat.seat, STOP as usize)
+        self.table.shared.load::<Watches>(&mut seat.seat, STOP)
     }
 
     /// Raises the stop word. The answer is 0 or 1, and 1 for a seat that raised it or saw it as 1 before.
@@ -271,8 +259,6 @@ impl Words {
         ensures raised { writing seat.new ≡ marked (writing seat.old) true (writing seat.old).saw }
         ensures found { (result ≤ 1) × ((writing seat.old).raised ≡ true → result ≡ 1) × ((writing seat.old).saw ≡ true → result ≡ 1) }
     {
-        self.table
-            .shared
-            .swap::<Raises>(&mut seat.seat, STOP as usize, 1)
+        self.table.shared.swap::<Raises>(&mut seat.seat, STOP, 1)
     }
 }

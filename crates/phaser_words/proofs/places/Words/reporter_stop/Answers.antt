@@ -1,6 +1,6 @@
 use Rattle.std.proofs.Common.{rules}
-use Rattle.phaser_words.proofs.Allowed.{reporter_raise_allowed}
+use Rattle.phaser_words.proofs.SlotSteps.{reporter_raise_on_slot}
 use Rattle.phaser_words.proofs.places.Words.reporter_stop.Goals as goal
 
 pub swap-requires : goal.swap-requires
-swap-requires c = (search rules, search rules, reporter_raise_allowed _ _ _ _ c.args.seat.now.reads)
+swap-requires c = (search rules, search rules, reporter_raise_on_slot _ _ _ _ c.args.seat.now.reads)
