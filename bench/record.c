@@ -1,5 +1,6 @@
 /* The atomic steps of a record, in WRITERS threads, while the main thread turns the tables every millisecond. A table has
-   four stripes of six cells; writer w counts in stripe w mod 4.
+   four stripes of six cells; writer w counts in stripe w mod 4. The words stand apart as ours do: the one that is only read, those
+   that each writer adds to, and each stripe.
    Usage: record SAMPLES WRITERS. It prints how many samples were counted. */
 #include <pthread.h>
 #include <stdatomic.h>
@@ -10,9 +11,11 @@
 
 #define HALF (UINT64_C(1) << 63)
 #define STRIPES 4
-#define CELLS (STRIPES * 6)
+#define STRIPE 16
 
-static _Atomic uint64_t words[5 + 2 * CELLS];
+enum { ACTIVE = 0, START = 16, EVEN_END = 17, ODD_END = 18, CELLS = 48 };
+
+static _Atomic uint64_t words[CELLS + 2 * STRIPES * STRIPE];
 static _Atomic int ended;
 static uint64_t samples;
 static int writers;
@@ -34,9 +37,9 @@ static void keep_greatest(_Atomic uint64_t *cell, uint64_t x)
 
 static void record(uint64_t stripe, uint64_t failed, uint64_t elapsed, uint64_t bytes)
 {
-    uint64_t token = atomic_fetch_add(&words[1], 1);
-    uint64_t interval = atomic_load(&words[0]);
-    _Atomic uint64_t *cells = &words[5 + ((interval % 2) * STRIPES + stripe) * 6];
+    uint64_t token = atomic_fetch_add(&words[START], 1);
+    uint64_t interval = atomic_load(&words[ACTIVE]);
+    _Atomic uint64_t *cells = &words[CELLS + ((interval % 2) * STRIPES + stripe) * STRIPE];
     atomic_fetch_add(&cells[0], 1);
     if (failed)
         atomic_fetch_add(&cells[1], 1);
@@ -44,7 +47,7 @@ static void record(uint64_t stripe, uint64_t failed, uint64_t elapsed, uint64_t 
     atomic_fetch_add(&cells[3], bytes);
     keep_least(&cells[4], elapsed);
     keep_greatest(&cells[5], elapsed);
-    atomic_fetch_add(&words[token >= HALF ? 3 : 2], 1);
+    atomic_fetch_add(&words[token >= HALF ? ODD_END : EVEN_END], 1);
 }
 
 static void *work(void *number)
@@ -59,17 +62,19 @@ static void *work(void *number)
 static uint64_t close_interval(uint64_t k)
 {
     uint64_t next = (k + 1) % 2 ? HALF : 0;
-    atomic_exchange(&words[0], k + 1);
-    atomic_exchange(&words[(k + 1) % 2 ? 3 : 2], next);
-    uint64_t want = atomic_exchange(&words[1], next);
-    while (atomic_load(&words[k % 2 ? 3 : 2]) != want) {
+    atomic_exchange(&words[ACTIVE], k + 1);
+    atomic_exchange(&words[(k + 1) % 2 ? ODD_END : EVEN_END], next);
+    uint64_t want = atomic_exchange(&words[START], next);
+    while (atomic_load(&words[k % 2 ? ODD_END : EVEN_END]) != want) {
     }
-    _Atomic uint64_t *cells = &words[5 + (k % 2) * CELLS];
     uint64_t count = 0;
-    for (int c = 0; c < CELLS; c++) {
-        uint64_t found = atomic_exchange(&cells[c], c % 6 == 4 ? UINT64_MAX : 0);
-        if (c % 6 == 0)
-            count += found;
+    for (int stripe = 0; stripe < STRIPES; stripe++) {
+        _Atomic uint64_t *cells = &words[CELLS + ((k % 2) * STRIPES + stripe) * STRIPE];
+        for (int c = 0; c < 6; c++) {
+            uint64_t found = atomic_exchange(&cells[c], c == 4 ? UINT64_MAX : 0);
+            if (c == 0)
+                count += found;
+        }
     }
     return count;
 }
@@ -78,9 +83,9 @@ int main(int argc, char **argv)
 {
     samples = argc > 1 ? strtoull(argv[1], NULL, 10) : 1000;
     writers = argc > 2 ? atoi(argv[2]) : 1;
-    words[3] = HALF;
-    for (int row = 0; row < 2 * STRIPES; row++)
-        words[5 + row * 6 + 4] = UINT64_MAX;
+    words[ODD_END] = HALF;
+    for (int stripe = 0; stripe < 2 * STRIPES; stripe++)
+        words[CELLS + stripe * STRIPE + 4] = UINT64_MAX;
     pthread_t threads[64];
     for (int i = 0; i < writers && i < 64; i++)
         pthread_create(&threads[i], NULL, work, (void *)(uintptr_t)i);

@@ -1,4 +1,5 @@
-//! Where the words of a recorder stand, and what they begin with. The pure core and the shared words have this layout.
+//! The numbers of a recorder's words, and what they begin with. The pure core's words stand in this order; the shared words have
+//! these numbers, and slots of their own.
 //!
 //! Words 0 to 4 are: the active interval, start, the end words of the even and of the odd phase, stop. After them stand two
 //! tables of cells; interval i counts in table i mod 2. A table has four stripes, and a stripe six cells for each label:
