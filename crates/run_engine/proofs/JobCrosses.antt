@@ -48,7 +48,7 @@ pub worker : (a : NamedLft) → IsSend (Worker.the_row a)
 worker a = view_send (WorkerInside.the_row a) _ _ _ _ (declared_send (WorkerInside.the_type a) (runner a, (search sendable depth 20, tt)))
 
 pub job : (a b : NamedLft) (O : RattleType) → IsSend O → IsSend (Job.the_row a b O)
-job a b O s = declared_send (Job.the_type a b O) (search sendable depth 20, (worker a, (as_row_send (row_field O) s, (writer.the_send, (shr_send _ _ _ places.the_sync, (place.the_send, tt))))))
+job a b O s = declared_send (Job.the_type a b O) (search sendable depth 20, (writer.the_send, (place.the_send, (shr_send _ _ _ places.the_sync, (worker a, (as_row_send (row_field O) s, tt))))))
 
 -- what a closure holds
 pub closure : (ν : Sym) (A B C D : RattleType) → IsSend A → IsSend B → IsSend C → IsSend D → IsSend (TupleAt ν (A ∷ B ∷ C ∷ D ∷ []))
