@@ -1,11 +1,11 @@
 -- Rows into which cells are folded one by one, and sums of two lists of entries of which one is counted for the first labels alone.
-use Rattle.std.proofs.Common.{◌≡◌, ◌≢◌, ℕ, zero, suc, ◌+◌, ◌*◌, ◌<◌, ◌≤◌, ◌==◌, Bool, true, false, cond, List, [], ◌∷◌, ◌++◌, length, get_or, set, sym, refl, ap, ◌∙◌, subst, arith}
+use Rattle.std.proofs.Common.{◌≡◌, ℕ, zero, suc, ◌+◌, ◌<◌, ◌≤◌, ◌==◌, Bool, true, false, cond, List, [], ◌∷◌, ◌++◌, length, get_or, set, sym, refl, ap, subst, arith}
 use mathlib.Core.Logic.{dite}
 use native.Mathlib.Decide.{ℕ_discrete}
 use Rattle.jm_base.specs.declared.types.Entry.{Entry}
 use Rattle.interval_tables.specs.declared.row.Row.{Row}
 use Rattle.jm_base.specs.SumTotals.{total}
-use Rattle.interval_tables.specs.Rows.{failed, row_of, sum_of, AllLabels, no_samples, joined, merged, merged_rows, IsInBounds, CanMerge, CanMergeSamples}
+use Rattle.interval_tables.specs.Rows.{row_of, sum_of, AllLabels, no_samples, joined, merged, merged_rows, IsInBounds, CanMergeSamples}
 use Rattle.interval_tables.proofs.Totals.{total_written}
 use Rattle.interval_tables.proofs.Sums.{merged_both, counts_over, errors_over, over_labels}
 use Rattle.interval_tables.proofs.Bounds.{AllSmall, small_times}

@@ -89,6 +89,25 @@ tally_append (e ∷ es) (f ∷ fs) =
     merged_both (tally_of (e ∷ es)) (tally_of (f ∷ fs)) (λ z. omega arith) (λ z. omega arith)
     ∙ (λ i. record { count = counts i; errors = errors i; total = totals i; bytes = bytes i; least = least i; greatest = greatest i })
 
+joined_swap : (a b : Row) → joined a b ≡ joined b a
+joined_swap a b =
+    let counts : a.count + b.count ≡ b.count + a.count = omega arith in
+    let errors : a.errors + b.errors ≡ b.errors + a.errors = omega arith in
+    let totals : a.total + b.total ≡ b.total + a.total = omega arith in
+    let bytes : a.bytes + b.bytes ≡ b.bytes + a.bytes = omega arith in
+    let least : min a.least b.least ≡ min b.least a.least = omega arith in
+    let greatest : max a.greatest b.greatest ≡ max b.greatest a.greatest = omega arith in
+    λ i. record { count = counts i; errors = errors i; total = totals i; bytes = bytes i; least = least i; greatest = greatest i }
+
+-- in either order
+tally_swap : (es fs : List Entry) → tally_of (es ++ fs) ≡ tally_of (fs ++ es)
+tally_swap [] fs = ap tally_of (sym (nothing_more fs))
+tally_swap (e ∷ es) [] = ap tally_of (nothing_more (e ∷ es))
+tally_swap (e ∷ es) (f ∷ fs) =
+    let left = merged_both (tally_of (e ∷ es)) (tally_of (f ∷ fs)) (λ z. omega arith) (λ z. omega arith) in
+    let right = merged_both (tally_of (f ∷ fs)) (tally_of (e ∷ es)) (λ z. omega arith) (λ z. omega arith) in
+    sym (tally_append (e ∷ es) (f ∷ fs)) ∙ left ∙ joined_swap (tally_of (e ∷ es)) (tally_of (f ∷ fs)) ∙ sym right ∙ tally_append (f ∷ fs) (e ∷ es)
+
 -- one more entry of the label
 tally_snoc : (es : List Entry) (e : Entry) → with_entry (tally_of es) e ≡ tally_of (es ++ e ∷ [])
 tally_snoc [] e =
@@ -121,6 +140,11 @@ row_else l es e ne = ap tally_of (keep_append (λ (x : Entry). x.label == l) es 
 
 row_append : (l : ℕ) (es fs : List Entry) → merged (row_of l es) (row_of l fs) ≡ row_of l (es ++ fs)
 row_append l es fs = tally_append (of_label l es) (of_label l fs) ∙ ap tally_of (sym (keep_append (λ (x : Entry). x.label == l) es fs))
+
+row_swap : (l : ℕ) (es fs : List Entry) → row_of l (es ++ fs) ≡ row_of l (fs ++ es)
+row_swap l es fs =
+    ap tally_of (keep_append (λ (x : Entry). x.label == l) es fs) ∙ tally_swap (of_label l es) (of_label l fs)
+    ∙ ap tally_of (sym (keep_append (λ (x : Entry). x.label == l) fs es))
 
 -- The rows of all labels
 
@@ -158,6 +182,11 @@ sum_of_append zero es fs = refl
 sum_of_append (suc n) es fs =
     merged_snoc (sum_of n es) (sum_of n fs) (row_of n es) (row_of n fs) (length-sum_of n es ∙ sym (length-sum_of n fs))
     ∙ (λ i. sum_of_append n es fs i ++ row_append n es fs i ∷ [])
+
+-- the order of two lists makes no difference
+pub sum_of_swap : (n : ℕ) (es fs : List Entry) → sum_of n (es ++ fs) ≡ sum_of n (fs ++ es)
+sum_of_swap zero es fs = refl
+sum_of_swap (suc n) es fs = λ i. sum_of_swap n es fs i ++ row_swap n es fs i ∷ []
 
 -- a counter that sums g over the entries of its label sums g over all entries where every label is in range
 module _ (f : Row → ℕ) (g : Entry → ℕ) (is : (es : List Entry) → f (tally_of es) ≡ total g es) where

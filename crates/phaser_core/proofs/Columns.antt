@@ -4,7 +4,7 @@ use Rattle.jm_base.specs.declared.types.Entry.{Entry}
 use Rattle.jm_base.specs.SumTotals.{total}
 use Rattle.interval_tables.specs.Rows.{failed, least_after, greatest_of, of_label, elapsed_of, tally_of, row_of, sum_of, no_samples, row_cells, row_from}
 use Rattle.interval_tables.proofs.Bounds.{AllSmall as AllSmallEntries}
-use Rattle.phaser_core.specs.Cells.{combine, vacant, gather, pick, part, column_at, rows_from}
+use Rattle.phaser_core.specs.Cells.{combine, vacant, pick, part, column_at, rows_from}
 use Rattle.phaser_core.proofs.Folds.{combine_sum, vacant_sum, gather_sum}
 use Rattle.phaser_core.proofs.CellSteps.{part_low, pick_low, rows_same}
 

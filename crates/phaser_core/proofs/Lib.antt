@@ -7,6 +7,7 @@ pub mod CellSteps
 pub mod Sounds
 pub mod Columns
 pub mod Stripes
+pub mod Merging
 pub mod Sharing
 pub mod Whole
 pub mod Steps

@@ -26,8 +26,9 @@ use Rattle.phaser_core.specs.Invariant.{MayCount, AllKept, Fits, AllSmall}
 use Rattle.phaser_core.proofs.Halves.{TimelyStage, AllTimely, Timely, Phased, Sound, worth_report}
 use Rattle.phaser_core.proofs.PhaseSteps.{bound_exact}
 use Rattle.phaser_core.proofs.CellSteps.{may_low, last_is, before_last}
-use Rattle.phaser_core.proofs.Folds.{gather_from, gather_cap, gather_append}
+use Rattle.phaser_core.proofs.Folds.{gather_from, gather_append}
 use Rattle.phaser_core.proofs.Stripes.{Group, all_of, LabelsIn, SmallIn, group_at, groups_at, stripes_of, groups_report, small_append, labels_append}
+use Rattle.phaser_core.proofs.Merging.{in_turn, turns_next, merged_bounds}
 use Rattle.jm_base.proofs.Totals.{total_snoc, total_at}
 
 -- The entries with an interval, writer by writer
@@ -298,6 +299,15 @@ part_length [] m = omega arith
 part_length (l ∷ ls) zero = omega arith
 part_length (l ∷ ls) (suc m) = let h : length (get_or ls m []) ≤ total (λ (l : List Entry). length l) ls = part_length ls m in omega arith
 
+turns_length : (k : ℕ) (vs : List View) → length (in_turn 0 k (λ m. share_of m vs)) ≡ upto k (λ m. length (share_of m vs))
+unfolding upto
+turns_length zero vs = refl
+turns_length (suc k) vs =
+    let f : ℕ → List Entry = λ m. share_of m vs in
+    let last : f (0 + k) ≡ f k = ap f (let e : 0 + k ≡ k = omega arith in e) in
+    ap (λ (l : List Entry). length l) (turns_next 0 k f ∙ ap (λ (l : List Entry). in_turn 0 k f ++ l) last)
+    ∙ length-append (in_turn 0 k f) (f k) ∙ ap (λ (z : ℕ). z + length (f k)) (turns_length k vs)
+
 -- the report that sums few entries is in bounds
 report_bounds : (n : Numbers) (report : Report) (m : ℕ) (es : List Entry) → report ≡ record { interval = m; rows = sum_of n.labels es } → AllLabels n.labels es → AllSmallEntries es → length es ≤ 4194304 → IsInBounds report.rows
 report_bounds n report m es is labels small few = subst (λ (q : Report). IsInBounds q.rows) (sym is) (sum_in_bounds n.labels es labels small few)
@@ -319,6 +329,10 @@ sums_of_lists n ws vs k =
           let part : length (get_or (lists_to r.interval vs) m []) ≤ total (λ (l : List Entry). length l) (lists_to r.interval vs) = part_length (lists_to r.interval vs) m in
           let here : length (get_or (lists_to r.interval vs) m []) ≡ length (share_of m vs) = ap length (lists_at r.interval vs m (omega arith)) in
           report_bounds n (get_or r.closed m no_report) m (share_of m vs) (sum_is m lt) (labels_in m) (share_small n ws vs k.phased k.counted.timely m) (omega arith);
+      together =
+          let all : length (in_turn 0 (length r.closed) (λ m. share_of m vs)) ≡ upto (length r.closed) (λ m. length (share_of m vs)) = turns_length (length r.closed) vs in
+          let same : upto (length r.closed) (λ m. length (share_of m vs)) ≡ upto r.interval (λ m. length (share_of m vs)) = ap (λ (z : ℕ). upto z (λ m. length (share_of m vs))) closed in
+          merged_bounds n.labels r.closed (λ m. share_of m vs) (λ m lt. ap (λ (q : Report). q.rows) (sum_is m lt)) labels_in (λ m. share_small n ws vs k.phased k.counted.timely m) (omega arith);
     }
 
 -- Joined writers

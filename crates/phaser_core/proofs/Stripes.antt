@@ -1,18 +1,17 @@
 -- Stripes of cells: what they fold to is what the entries of all of them sum to.
-use Rattle.std.proofs.Common.{◌≡◌, ◌≢◌, ℕ, zero, suc, ◌+◌, ◌*◌, ◌/◌, ◌%◌, ◌<◌, ◌≤◌, ◌==◌, Bool, true, false, cond, List, [], ◌∷◌, ◌++◌, length, sym, refl, ap, ◌∙◌, subst, arith, length-append, append_assoc, eq-eqb, ne_eqb}
+use Rattle.std.proofs.Common.{◌≡◌, ◌≢◌, ℕ, zero, suc, ◌+◌, ◌*◌, ◌/◌, ◌%◌, ◌<◌, ◌≤◌, ◌==◌, Bool, true, false, cond, List, [], ◌∷◌, ◌++◌, length, sym, refl, ap, ◌∙◌, subst, arith, length-append, eq-eqb, ne_eqb}
 use mathlib.Core.Logic.{dite}
 use native.Mathlib.Decide.{ℕ_discrete}
 use Rattle.std.proofs.Math.Nat.{suc-mul}
-use Rattle.std.proofs.lemmas.Nat.{mul-le}
 use Rattle.jm_base.specs.declared.types.Entry.{Entry}
 use Rattle.interval_tables.specs.declared.row.Row.{Row}
 use Rattle.interval_tables.specs.Rows.{sum_of, AllLabels, merged_rows, IsInBounds}
 use Rattle.interval_tables.proofs.Bounds.{AllSmall as AllSmallEntries}
 use Rattle.interval_tables.proofs.Sums.{sum_of_append}
 use Rattle.interval_tables.proofs.Folding.{partly_in_bounds}
-use Rattle.phaser_core.specs.Cells.{stripe_of, row_at, table_cells, combine, vacant, gather, folded, pick, part, adds, column_at, cell_of, folded_to, rows_from, report_from, stripe_rows, merged_to}
+use Rattle.phaser_core.specs.Cells.{stripe_of, row_at, table_cells, combine, vacant, gather, folded, pick, part, adds, column_at, cell_of, folded_to, report_from, stripe_rows, merged_to}
 use Rattle.phaser_core.specs.Shares.{stripes_to, SumsOfStripes}
-use Rattle.phaser_core.proofs.Folds.{combine_comm, combine_assoc, vacant_vacant, folded_is, gather_from, gather_append}
+use Rattle.phaser_core.proofs.Folds.{combine_comm, combine_assoc, vacant_vacant, folded_is, gather_append}
 use Rattle.phaser_core.proofs.CellSteps.{cell_low, rows_same}
 use Rattle.phaser_core.proofs.Columns.{rows_are, same_columns, column_low}
 

@@ -3,7 +3,8 @@ use Rattle.std.specs.Prelude.{◌≡◌, ℕ, zero, suc, ◌-◌, ◌*◌, ◌<�
 use Rattle.jm_base.specs.declared.types.Entry.{Entry}
 use Rattle.interval_tables.specs.declared.report.Report.{Report}
 use Rattle.jm_base.specs.SumTotals.{total}
-use Rattle.interval_tables.specs.Rows.{sum_of, AllLabels, IsInBounds}
+use Rattle.interval_tables.specs.declared.row.Row.{Row}
+use Rattle.interval_tables.specs.Rows.{sum_of, AllLabels, IsInBounds, merged_rows}
 use Rattle.phaser_core.specs.declared.view.Numbers.{Numbers}
 use Rattle.phaser_core.specs.declared.view.Joined.{Joined}
 use Rattle.phaser_core.specs.declared.view.ReporterView.{ReporterView}
@@ -66,7 +67,16 @@ pub record Partition (labels : ℕ) (lists : List (List Pair)) (reports : List R
   pub timed : AllTimed (length reports - 1) lists
   pub sums : (m : ℕ) → m < length reports → slice_index_or reports m no_report ≡ record { interval = m; rows = sum_of labels (entries_in m lists) }
 
--- Each closed report of the reporter is the sum of some list of entries with labels in range, and these lists have together no more entries than all writers may record. So each is in bounds.
+-- the rows with those of reports, one report after the other
+abbrev pub merged_from : List Row → List Report → List Row
+merged_from rows [] = rows
+merged_from rows (r ∷ rs) = merged_from (merged_rows rows r.rows) rs
+
+-- the rows of all reports together
+abbrev pub rows_of_all : ℕ → List Report → List Row
+rows_of_all labels reports = merged_from (sum_of labels []) reports
+
+-- Each closed report of the reporter is the sum of some list of entries with labels in range, and these lists have together no more entries than all writers may record. So each is in bounds, and so are all together.
 pub record SumsOfLists (n : Numbers) (r : ReporterView) : Type 0 where
   pub lists : List (List Entry)
   pub count : length lists ≡ length r.closed
@@ -74,6 +84,7 @@ pub record SumsOfLists (n : Numbers) (r : ReporterView) : Type 0 where
   pub labels : (m : ℕ) → m < length r.closed → AllLabels n.labels (slice_index_or lists m [])
   pub sums : (m : ℕ) → m < length r.closed → slice_index_or r.closed m no_report ≡ record { interval = m; rows = sum_of n.labels (slice_index_or lists m []) }
   pub bounds : (m : ℕ) → m < length r.closed → IsInBounds (slice_index_or r.closed m no_report).rows
+  pub together : IsInBounds (rows_of_all n.labels r.closed)
 
 -- the entries of the first stripes
 abbrev pub stripes_to : (ℕ → List Entry) → ℕ → List Entry

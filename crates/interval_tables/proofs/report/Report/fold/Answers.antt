@@ -1,4 +1,4 @@
-use Rattle.std.proofs.Common.{◌≡◌, ℕ, get_or, set, sym, ap, ◌∙◌, subst}
+use Rattle.std.proofs.Common.{ℕ, get_or, set, sym, ◌∙◌, subst}
 use Rattle.interval_tables.specs.declared.row.Row.{Row}
 use Rattle.interval_tables.specs.Rows.{no_samples, row_from, merged, CanMergeSamples}
 use Rattle.interval_tables.proofs.Folding.{can_fold}
