@@ -1,23 +1,27 @@
 -- The texts of a run by a schedule.
-use Rattle.std.proofs.Common.{◌≡◌, ℕ, ◌*◌, ◌≤◌, List, [], ◌∷◌, ◌++◌, length, get_or, Option, refl, sym, ap, ap₂, ◌∙◌, subst, inl, inr}
+use Rattle.std.proofs.Common.{◌≡◌, ℕ, ◌+◌, ◌*◌, ◌<◌, ◌≤◌, List, [], ◌∷◌, ◌++◌, length, take, get_or, Option, refl, sym, ap, ap₂, ◌∙◌, subst, inl, inr}
 use Rattle.std.specs.Prelude.{All}
-use Rattle.std.proofs.lemmas.List.{get_or_default}
+use Rattle.std.proofs.lemmas.List.{get_or_default, take_more}
 use Rattle.interval_tables.specs.declared.report.Report.{Report}
-use Rattle.interval_tables.specs.Rows.{sum_of, IsInBounds}
+use Rattle.interval_tables.specs.declared.row.Row.{Row}
+use Rattle.interval_tables.specs.Rows.{sum_of, merged_rows, IsInBounds}
 use Rattle.interval_tables.proofs.Sums.{length-sum_of}
+use Rattle.interval_tables.proofs.Folding.{length-merged_rows}
 use Rattle.element_tree.specs.Tree.{Tree}
 use Rattle.element_tree.specs.Names.{labels_of}
 use Rattle.phaser_core.specs.Views.{Pair}
 use Rattle.phaser_core.specs.Cells.{no_report}
-use Rattle.phaser_core.specs.Shares.{entries_in, Partition}
+use Rattle.phaser_core.specs.Shares.{entries_in, Partition, merged_from, rows_of_all}
+use Rattle.phaser_core.proofs.Merging.{report_more}
 use Rattle.thread_machine.specs.declared.trace.TraceItem.{TraceItem}
 use Rattle.thread_machine.specs.declared.trace.TraceItem.TheVariants.{Paused, Sampled, Null, Entered, Left, Ended}
 use Rattle.trace_output.specs.Texts.{CanPrint}
 use Rattle.trace_output.specs.Printing.{TextOut, TextFailed, TextCut}
 use Rattle.run_engine.specs.Paired.{pairs_in, pairs, pairs_of as run_pairs}
-use Rattle.run_engine.specs.Keeps.{AllKeep as AllKeepRun}
+use Rattle.run_engine.specs.Keeps.{AllKeep as AllKeepRun, all_entries}
 use Rattle.run_engine.proofs.Bounding.{counts_in_bounds, counts_shares}
 use Rattle.run_engine.proofs.Joining.{pairs_length}
+use Rattle.run_engine.proofs.Totalling.{total_is, firsts_fit}
 use Rattle.weave_engine.specs.Books.{pair_of, pairs_of, lists_in, AllKeep}
 use Rattle.command_words.specs.declared.command.Command.TheVariants.{Weave}
 use Rattle.command_words.specs.declared.command.Weave.{Weave as WeaveOf}
@@ -52,6 +56,21 @@ kept_same labels budget (list ∷ lists) keep =
 pub kept_run : (labels budget : ℕ) (traces : List (List TraceItem)) → AllKeep labels budget (lists_in traces) → AllKeepRun labels budget (run_pairs traces)
 kept_run labels budget traces keep = subst (AllKeepRun labels budget) (lists_same traces) (kept_same labels budget (lists_in traces) keep)
 
+-- ---- reports that are merged one after the other
+
+from_length : (rows : List Row) (reports : List Report) → length (merged_from rows reports) ≡ length rows
+from_length rows [] = refl
+from_length rows (r ∷ rs) = from_length (merged_rows rows r.rows) rs ∙ length-merged_rows rows r.rows
+
+module _ (labels : ℕ) (reports : List Report) (i : ℕ) (item : Report) (low : i < length reports) (is : item ≡ get_or reports i item) (so_far : List Row) (invariant : so_far ≡ rows_of_all labels (take i reports)) where
+  pub so_far_length : length so_far ≡ labels
+  so_far_length = ap length invariant ∙ from_length (sum_of labels []) (take i reports) ∙ length-sum_of labels []
+
+  pub one_more : merged_rows so_far item.rows ≡ rows_of_all labels (take (i + 1) reports)
+  one_more =
+      (λ t. merged_rows (invariant t) (is t).rows) ∙ sym (report_more (sum_of labels []) (take i reports) (get_or reports i item))
+      ∙ ap (rows_of_all labels) (sym (take_more reports i item low))
+
 -- ---- each report is in bounds
 
 module _ (plan : Tree) (budget : ℕ) (traces : List (List TraceItem)) (reports : List Report) where
@@ -67,6 +86,18 @@ module _ (plan : Tree) (budget : ℕ) (traces : List (List TraceItem)) (reports 
       let bounds : IsInBounds (sum_of labels (entries_in m lists)) =
       counts_in_bounds labels (length lists * budget) (entries_in m lists) (counts_shares labels budget m lists (kept_run labels budget traces keep)) most in
       subst (CanPrint plan) (sym is) (length-sum_of labels (entries_in m lists), bounds)
+
+  -- ---- the first reports are in bounds together
+
+  pub firsts_low : AllKeep labels budget (lists_in traces) → length traces * budget ≤ 4194304 → Partition labels (lists_in traces) reports → (n : ℕ) → n ≤ length reports → IsInBounds (rows_of_all labels (take n reports))
+  firsts_low keep few parted =
+      firsts_fit labels budget (run_pairs traces) reports (subst (λ ls. Partition labels ls reports) (lists_same traces) parted) (kept_run labels budget traces keep)
+      (subst (λ n. n * budget ≤ 4194304) (sym (pairs_length traces)) few)
+
+-- ---- the reports together
+
+pub all_counted : (labels : ℕ) (traces : List (List TraceItem)) (reports merged : List Report) (rows : List Row) → Partition labels (lists_in traces) reports → merged ≡ reports → rows ≡ rows_of_all labels merged → rows ≡ sum_of labels (all_entries (lists_in traces))
+all_counted labels traces reports merged rows parted same is = is ∙ ap (rows_of_all labels) same ∙ total_is labels (lists_in traces) reports parted
 
 -- ---- what is printed
 

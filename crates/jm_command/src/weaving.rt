@@ -1,13 +1,12 @@
 // What `weave` prints of a plan.
 
-ghost use Rattle.std.specs.Prelude.{◌≡◌, ◌≤◌, ◌*◌, All, length, IfOk, Some};
+ghost use Rattle.std.specs.Prelude.{◌≡◌, ◌≤◌, ℕ, All, length, take, IfOk};
 ghost use Rattle.element_tree.specs.Tree.{threads_of};
 ghost use Rattle.element_tree.specs.Names.{labels_of};
-ghost use Rattle.interval_tables.specs.Rows.{sum_of, IsInBounds};
-ghost use Rattle.run_engine.specs.Keeps.{all_entries};
+ghost use Rattle.interval_tables.specs.Rows.{IsInBounds};
+ghost use Rattle.phaser_core.specs.Shares.{rows_of_all};
 ghost use Rattle.thread_machine.specs.Bare.{IsLabelled};
 ghost use Rattle.trace_output.specs.Texts.{CanPrint};
-ghost use Rattle.weave_engine.specs.Books.{lists_in, AllKeep};
 ghost use Rattle.command_words.specs.declared.command.Command.TheVariants.{Weave as WeaveCommand};
 ghost use Rattle.jm_command.specs.Parts.{HasSamples, PlanSays, TextSays, sinks};
 ghost use Rattle.jm_command.specs.WovenTexts.{weave_report};
@@ -18,7 +17,6 @@ use edge_io::Sink;
 use element_tree::Plan;
 use interval_tables::Report;
 use jm_base::M;
-use run_engine::count_all;
 use std::alloc::Global;
 use trace_output::{PrintError, print_all_results, print_history};
 use weave_engine::{WeaveBooks, weave};
@@ -47,7 +45,7 @@ pub fn print_weave<O: Sink, E: Sink>(
     ) else {
         return Status::Memory;
     };
-    let Ok(total) = total_of(alloc, plan, &books, ask.samples) else {
+    let Ok(total) = total_of(alloc, plan, books.reports.as_slice()) else {
         return Status::Memory;
     };
     match print_all_results(alloc, results, plan, books.traces.as_slice()) {
@@ -57,16 +55,17 @@ pub fn print_weave<O: Sink, E: Sink>(
     }
 }
 
-// What is counted of all samples.
-fn total_of(alloc: Global, plan: &Plan, books: &WeaveBooks, budget: u32) -> M<Report>
-    requires keep { AllKeep (length (labels_of plan.now.elements)) budget (lists_in books.now.traces) }
-    requires few { length books.now.traces * budget ≤ 4194304 }
-    ensures rows { IfOk result (λ r. r.rows ≡ sum_of (length (labels_of plan.now.elements)) (all_entries (lists_in books.now.traces))) }
+// The reports of all intervals as one.
+fn total_of(alloc: Global, plan: &Plan, reports: &[Report]) -> M<Report>
+    requires each { All (CanPrint plan.now) reports.now }
+    requires fits { (n : ℕ) → n ≤ length reports.now → IsInBounds (rows_of_all (length (labels_of plan.now.elements)) (take n reports.now)) }
+    ensures rows { IfOk result (λ r. r.rows ≡ rows_of_all (length (labels_of plan.now.elements)) reports.now) }
     ensures bounds { IfOk result (λ r. IsInBounds r.rows) }
 {
-    let labels = plan.labels();
-    let mut total = Report::vacant(alloc, labels)?;
-    count_all(&mut total, books.traces.as_slice(), labels, budget);
+    let mut total = Report::vacant(alloc, plan.labels())?;
+    'reports: for report in reports {
+        total.merge(report);
+    }
     Ok(total)
 }
 

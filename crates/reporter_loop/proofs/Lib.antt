@@ -1,3 +1,4 @@
+pub mod Counting
 pub mod Judging
 pub mod Numbers
 pub mod Outcomes

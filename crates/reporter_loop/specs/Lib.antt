@@ -1,3 +1,4 @@
+pub mod Counted
 pub mod Failing
 pub mod Reported
 pub mod Ticked

@@ -1,12 +1,12 @@
 pub mod Bounding
 pub mod Closing
-pub mod Counting
 pub mod Finishing
 pub mod Hearing
 pub mod JobCrosses
 pub mod Joining
 pub mod Opening
 pub mod Seqs
+pub mod Totalling
 pub mod Traces
 pub mod Placing
 pub mod Stopping

@@ -14,7 +14,7 @@ use interval_tables::Report;
 use jm_base::Outside;
 use outside_world::Ticker;
 use recorder_core::{Recorder, ReporterSeat};
-use reporter_loop::{Ended, Rules, RunError, report_until};
+use reporter_loop::{Counts, Ended, Rules, RunError, report_until};
 use std::alloc::Global;
 use std::snapshot::Snapshot;
 use std::sync::Wait;
@@ -51,7 +51,7 @@ fn team_thread<'p, 's, R: Threads + Wait + Sync, O: Outside + Send>(
 struct Desk<'t, 'k, T, K> {
     ticker: &'t mut T,
     sink: &'k mut K,
-    last: Report,
+    counts: Counts,
 }
 
 // How the reporter's loop ended, and the desk as it left it.
@@ -81,25 +81,29 @@ fn report_at<'t, 'k, R: Wait, T: Ticker, K: Sink, F: Fn(&Report, u64) -> Verdict
     seat: ReporterSeat,
     desk: Desk<'t, 'k, T, K>,
 ) -> Reporting<'t, 'k, T, K>
-    requires may { MayReport recorder.now rules.now.plan.now seat desk.last }
+    requires may { MayReport recorder.now rules.now.plan.now seat desk.counts }
     requires kept { Keeps F.Fn rules.now.reporter.now }
     ensures reported { HasReported recorder.now rules.now.plan.now rules.now.limit
         (record { ticks = T.ticks desk.entry.ticker.now; written = K.written desk.entry.sink.now; faults = K.faults desk.entry.sink.now })
         (record { ticks = T.ticks result.desk.ticker.now; written = K.written result.desk.sink.now; faults = K.faults result.desk.sink.now })
-        seat (record { seat = result.seat; report = result.desk.last; answer = result.answer }) }
+        seat (record { seat = result.seat; counts = result.desk.counts; answer = result.answer }) }
     ensures ticker { result.desk.ticker.ghost_name ≡ desk.entry.ticker.ghost_name }
     ensures sink { result.desk.sink.ghost_name ≡ desk.entry.sink.ghost_name }
 {
     let Desk {
         ticker,
         sink,
-        mut last,
+        mut counts,
     } = desk;
-    let (seat, answer) = report_until(rt, alloc, recorder, rules, seat, &mut last, ticker, sink);
+    let (seat, answer) = report_until(rt, alloc, recorder, rules, seat, &mut counts, ticker, sink);
     Reporting {
         seat,
         answer,
-        desk: Desk { ticker, sink, last },
+        desk: Desk {
+            ticker,
+            sink,
+            counts,
+        },
     }
 }
 
@@ -120,41 +124,41 @@ pub fn run_beside<
     rules: &Rules<'_, F>,
     jobs: Vec<Job<'p, 's, O>>,
     seat: ReporterSeat,
-    report: Report,
+    counts: Counts,
     ticker: &mut T,
     sink: &mut K,
 ) -> (
     Vec<Job<'p, 's, O>>,
     ReporterSeat,
     Result<(), RunError>,
-    Report,
+    Counts,
 )
     requires jobs { All (CanRun recorder.now) jobs.items }
-    requires may { MayReport recorder.now rules.now.plan.now seat report }
+    requires may { MayReport recorder.now rules.now.plan.now seat counts }
     requires kept { Keeps F.Fn rules.now.reporter.now }
     ensures jobs { AllRan O.account recorder.now jobs.entry.items result.0.items }
     ensures reported { HasReported recorder.now rules.now.plan.now rules.now.limit
         (record { ticks = T.ticks ticker.old; written = K.written sink.old; faults = K.faults sink.old })
         (record { ticks = T.ticks ticker.new; written = K.written sink.new; faults = K.faults sink.new })
-        seat (record { seat = result.1; report = result.3; answer = result.2 }) }
+        seat (record { seat = result.1; counts = result.3; answer = result.2 }) }
 {
     let ended = rules.ended;
     let desk = Desk {
         ticker: &mut *ticker,
         sink: &mut *sink,
-        last: report,
+        counts,
     };
     let Gathered { jobs, end } = thread::scope(
         thread::scope_env(),
         rt,
         move |scope| -> Gathered<O, T, K>
-            requires { All (CanRun recorder.now) jobs.items × MayReport recorder.now rules.now.plan.now seat desk.last
+            requires { All (CanRun recorder.now) jobs.items × MayReport recorder.now rules.now.plan.now seat desk.counts
                 × Keeps F.Fn rules.now.reporter.now × IsSync R.row × IsSend O.row }
             ensures { AllRan O.account recorder.entry.now jobs.entry.items result.jobs.items
                 × HasReported recorder.entry.now rules.entry.now.plan.now rules.entry.now.limit
                 (record { ticks = T.ticks desk.entry.ticker.now; written = K.written desk.entry.sink.now; faults = K.faults desk.entry.sink.now })
                 (record { ticks = T.ticks result.end.desk.ticker.now; written = K.written result.end.desk.sink.now; faults = K.faults result.end.desk.sink.now })
-                seat (record { seat = result.end.seat; report = result.end.desk.last; answer = result.end.answer })
+                seat (record { seat = result.end.seat; counts = result.end.desk.counts; answer = result.end.answer })
                 × (result.end.desk.ticker.ghost_name ≡ desk.entry.ticker.ghost_name)
                 × (result.end.desk.sink.ghost_name ≡ desk.entry.sink.ghost_name) }
         {
@@ -181,8 +185,12 @@ pub fn run_beside<
         },
     );
     let Reporting { seat, answer, desk } = end;
-    let Desk { ticker, sink, last } = desk;
+    let Desk {
+        ticker,
+        sink,
+        counts,
+    } = desk;
     take_back(ticker);
     take_back(sink);
-    (jobs, seat, answer, last)
+    (jobs, seat, answer, counts)
 }

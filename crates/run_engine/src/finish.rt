@@ -9,6 +9,7 @@ ghost use Rattle.phaser_core.specs.Shares.{Partition};
 ghost use Rattle.phaser_core.specs.Views.{AllJoined};
 ghost use Rattle.phaser_words.specs.RecorderKinds.{lists_of, StopWasRaised};
 ghost use Rattle.recorder_core.specs.RecorderSeats.{reports, numbers_of, books_of, all_reports_of, IsReporter};
+ghost use Rattle.reporter_loop.specs.Counted.{CountsAll};
 ghost use Rattle.reporter_loop.specs.Failing.{IsCause};
 ghost use Rattle.reporter_loop.specs.Reported.{Reported};
 ghost use Rattle.reporter_loop.specs.ReportsWritten.{texts_of, WritesPrefix};
@@ -17,24 +18,21 @@ ghost use Rattle.run_engine.specs.Paired.{pairs_of};
 
 use crate::ask::RunAsk;
 use crate::books::RunBooks;
-use crate::count::count_all;
 use edge_io::Sink;
-use interval_tables::Report;
 use jm_base::Items;
 use recorder_core::{Recorder, ReporterSeat};
-use reporter_loop::{RunError, write_report};
+use reporter_loop::{Counts, RunError, write_report};
 use std::alloc::Global;
 use thread_machine::TraceItem;
 
-/// Ends the recorder, counts all samples and writes the last report, where every worker was taken in.
+/// Ends the recorder, counts the last report in the total and writes it, where every worker was taken in.
 pub fn finish_run<K: Sink>(
     alloc: Global,
     recorder: Recorder,
     ask: &RunAsk<'_>,
     seat: ReporterSeat,
     traces: Vec<Items<TraceItem>>,
-    last: Report,
-    total: Report,
+    counts: Counts,
     sink: &mut K,
 ) -> Result<RunBooks, RunError>
     requires seat { IsReporter recorder seat }
@@ -44,8 +42,8 @@ pub fn finish_run<K: Sink>(
     requires labels { (numbers_of recorder).labels ≡ length (labels_of ask.now.plan.now.elements) }
     requires budget { (numbers_of recorder).budget ≡ ask.now.budget }
     requires few { length traces.items * ask.now.budget ≤ 4194304 }
-    requires rows { length last.rows ≡ (numbers_of recorder).labels }
-    requires none { total.rows ≡ sum_of (length (labels_of ask.now.plan.now.elements)) [] }
+    requires rows { length counts.last.rows ≡ (numbers_of recorder).labels }
+    requires counted { CountsAll (numbers_of recorder).labels (reports seat) counts.total }
     ensures traces { IfOk result (λ b. b.traces ≡ traces.items) }
     ensures lists { IfOk result (λ b. books_of b.books ≡ reports seat) }
     ensures intervals { IfOk result (λ b. b.books.intervals ≡ length (all_reports_of b.books)) }
@@ -61,10 +59,10 @@ pub fn finish_run<K: Sink>(
     ensures ok { OnOk result (K.faults sink.new ≡ K.faults sink.old) }
     ensures cause { IfErr result (IsCause (K.faults sink.old) (K.faults sink.new)) }
 {
-    let mut last = last;
-    let books = recorder.finish(seat, &mut last);
-    let mut total = total;
-    count_all(&mut total, &traces, ask.plan.labels(), ask.budget);
+    let mut counts = counts;
+    let books = recorder.finish(seat, &mut counts.last);
+    counts.add_last();
+    let Counts { last, total } = counts;
     match write_report(alloc, ask.plan, &last, sink) {
         Ok(()) => Ok(RunBooks {
             traces: Items::of(traces),

@@ -5,7 +5,6 @@
 mod ask;
 mod beside;
 mod books;
-mod count;
 mod finish;
 mod job;
 mod joins;
@@ -17,7 +16,6 @@ mod team;
 
 pub use ask::RunAsk;
 pub use books::RunBooks;
-pub use count::count_all;
 pub use job::Job;
 pub use reporter_loop::RunError;
 pub use run::run_threads;

@@ -41,7 +41,7 @@ use interval_tables::Report;
 use jm_base::{Items, M, Outside};
 use outside_world::{Ticker, World};
 use recorder_core::Recorder;
-use reporter_loop::{Ended, Rules, RunError};
+use reporter_loop::{Counts, Ended, Rules, RunError};
 use std::alloc::Global;
 use std::sync::Wait;
 use std::thread::Threads;
@@ -51,23 +51,21 @@ use thread_machine::TraceItem;
 // of traces.
 #[derive(Drop)]
 struct Room {
-    report: Report,
-    total: Report,
+    counts: Counts,
     traces: Vec<Items<TraceItem>>,
 }
 
 impl Room {
     fn new(alloc: Global, labels: u16, threads: u16) -> M<Room>
-        ensures report { IfOk result (λ r. length r.report.rows ≡ labels) }
-        ensures total { IfOk result (λ r. r.total.rows ≡ sum_of labels []) }
+        ensures last { IfOk result (λ r. length r.counts.last.rows ≡ labels) }
+        ensures none { IfOk result (λ r. r.counts.total.rows ≡ sum_of labels []) }
         ensures traces { IfOk result (λ r. (r.traces.items ≡ []) × (threads ≤ vec_capacity r.traces)) }
     {
-        let report = Report::vacant(alloc, labels)?;
+        let last = Report::vacant(alloc, labels)?;
         let total = Report::vacant(alloc, labels)?;
         let traces = Vec::with_capacity(alloc, usize::from(threads))?;
         Ok(Room {
-            report,
-            total,
+            counts: Counts { last, total },
             traces,
         })
     }
@@ -172,11 +170,7 @@ pub fn run_threads<
     ensures stopped { IfOk result (λ b. StopHasCause ask.now.limit b.traces (books_of b.books).closed) }
 {
     let (threads, labels) = (ask.plan.threads(), ask.plan.labels());
-    let Room {
-        report,
-        total,
-        mut traces,
-    } = Room::new(alloc, labels, threads)?;
+    let Room { counts, mut traces } = Room::new(alloc, labels, threads)?;
     let (recorder, seat, writer) = Recorder::new(alloc, labels, threads, ask.budget)?;
     let seats = split_all(alloc, &recorder, writer, threads)?;
     let (sections, mut first) = open_sections(alloc, ask.plan, threads)?;
@@ -190,8 +184,8 @@ pub fn run_threads<
         limit: ask.limit,
         ended: &ended,
     };
-    let (jobs, mut seat, outcome, report) = run_beside(
-        rt, alloc, &recorder, &rules, jobs, seat, report, ticker, reports,
+    let (jobs, mut seat, outcome, counts) = run_beside(
+        rt, alloc, &recorder, &rules, jobs, seat, counts, ticker, reports,
     );
     join_all(
         &recorder,
@@ -206,7 +200,7 @@ pub fn run_threads<
     );
     let _book = sections.finish(first);
     match outcome {
-        Ok(()) => finish_run(alloc, recorder, ask, seat, traces, report, total, reports),
+        Ok(()) => finish_run(alloc, recorder, ask, seat, traces, counts, reports),
         Err(error) => Err(error),
     }
 }

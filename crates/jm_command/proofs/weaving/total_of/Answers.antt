@@ -1,18 +1,21 @@
-use Rattle.std.proofs.Common.{length, ap, sym, subst, ◌∙◌}
+use Rattle.std.proofs.Common.{length, sym, subst, ◌∙◌, ◌+◌, arith}
 use Rattle.element_tree.specs.Names.{labels_of}
-use Rattle.interval_tables.specs.Rows.{sum_of}
-use Rattle.run_engine.specs.Keeps.{AllKeep, all_entries}
-use Rattle.run_engine.specs.Paired.{pairs_of}
-use Rattle.jm_command.proofs.WeaveLaws.{lists_same, kept_run}
+use Rattle.interval_tables.specs.Rows.{IsInBounds}
+use Rattle.trace_output.specs.Texts.{CanPrint}
+use Rattle.jm_command.proofs.WeaveLaws.{so_far_length, one_more}
 use Rattle.jm_command.proofs.weaving.total_of.Goals as goal
 
-pub count_all-requires-clause-keep : goal.count_all-requires-clause-keep
-count_all-requires-clause-keep c =
-    subst (λ ts. AllKeep c.labels-labels.result c.args.budget (pairs_of ts)) (sym c.as_slice.ensures)
-    (subst (λ n. AllKeep n c.args.budget (pairs_of c.args.books.now.traces)) (sym c.labels-labels.ensures) (kept_run _ c.args.budget c.args.books.now.traces c.requires.keep))
+pub merge-requires-clause-rows : goal.merge-requires-clause-rows
+merge-requires-clause-rows c =
+    let can = subst (CanPrint c.args.plan.now) (sym c.report-item.is) (c.requires.each c.reports.report-index c.report-item.result c.reports-test.true) in
+    can.0 ∙ sym (so_far_length (length (labels_of c.args.plan.now.elements)) c.args.reports.now c.reports.report-index c.report-item.result c.reports-test.true c.report-item.is c.reports.total.rows c.reports.invariant)
 
-pub returns-clause-rows : goal.returns-clause-rows
-returns-clause-rows c =
-    c.count_all.ensures.rows ∙ ap (λ ts. sum_of c.labels-labels.result (all_entries (pairs_of ts))) c.as_slice.ensures
-    ∙ ap (λ n. sum_of n (all_entries (pairs_of c.args.books.now.traces))) c.labels-labels.ensures
-    ∙ ap (λ lists. sum_of (length (labels_of c.args.plan.now.elements)) (all_entries lists)) (sym (lists_same c.args.books.now.traces))
+pub merge-requires-clause-room : goal.merge-requires-clause-room
+merge-requires-clause-room c =
+    let low = c.reports-test.true in
+    subst IsInBounds (sym (one_more (length (labels_of c.args.plan.now.elements)) c.args.reports.now c.reports.report-index c.report-item.result c.reports-test.true c.report-item.is c.reports.total.rows c.reports.invariant))
+    (c.requires.fits (c.reports.report-index + 1) (omega arith))
+
+pub reports-preserved : goal.reports-preserved
+reports-preserved c =
+    c.merge.ensures.rows ∙ one_more (length (labels_of c.args.plan.now.elements)) c.args.reports.now c.reports.report-index c.report-item.result c.reports-test.true c.report-item.is c.reports.total.rows c.reports.invariant

@@ -1,7 +1,8 @@
-use Rattle.std.proofs.Common.{◌≡◌, ◌∙◌, ℕ, Bool, ap, sym, subst, length, rules}
+use Rattle.std.proofs.Common.{◌≡◌, ◌∙◌, ℕ, Bool, [], ap, sym, subst, length, rules}
 use Rattle.output_lines.specs.Reports.{report_text}
 use Rattle.phaser_core.specs.declared.view.ReporterView.{ReporterView}
-use Rattle.recorder_core.specs.RecorderSeats.{reports}
+use Rattle.interval_tables.specs.Rows.{sum_of}
+use Rattle.recorder_core.specs.RecorderSeats.{reports, numbers_of}
 use Rattle.reporter_loop.specs.Reported.{any_over}
 use Rattle.reporter_loop.proofs.Judging.{reported_same, quiet}
 use Rattle.reporter_loop.proofs.Outcomes.{if_ok_then, err_then, on_ok}
@@ -23,12 +24,16 @@ use Rattle.run_engine.proofs.run.run_threads.Goals as goal
 pub returns-in_err-seats-clause-closed : goal.returns-in_err-seats-clause-closed
 returns-in_err-seats-clause-closed g c = none_served _ _ _ c.requires.opened
 
+pub returns-in_err-recorder-clause-closed : goal.returns-in_err-recorder-clause-closed
+returns-in_err-recorder-clause-closed g c = none_served _ _ _ c.requires.opened
+
 pub run_beside-jobs-requires-clause-jobs : goal.run_beside-jobs-requires-clause-jobs
 run_beside-jobs-requires-clause-jobs g c κs within k d lt = (c.in_ok-jobs.ensures.each k d lt).can_run
 
 pub run_beside-jobs-requires-clause-may : goal.run_beside-jobs-requires-clause-may
 run_beside-jobs-requires-clause-may g c κs within =
-    record { seat = search rules; closed = search rules; interval = search rules; raised = search rules; rows = search rules; labels = search rules }
+    let labels : c.labels-labels.result ≡ (numbers_of c.in_ok-recorder.recorder).labels = search rules in
+    record { seat = search rules; closed = search rules; interval = search rules; raised = search rules; rows = search rules; none = c.in_ok-counts.ensures.none ∙ ap (λ (n : ℕ). sum_of n []) labels; labels = search rules }
 
 pub join_all-requires-clause-jobs : goal.join_all-requires-clause-jobs
 join_all-requires-clause-jobs g c κs within =
