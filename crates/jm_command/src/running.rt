@@ -30,9 +30,13 @@ use outside_world::{Ticker, World};
 use run_engine::{RunAsk, RunBooks, RunError, run_threads};
 use std::alloc::Global;
 use std::sync::Wait;
+use std::thread;
 use std::thread::Threads;
 use thread_machine::TraceItem;
 use trace_output::{PrintError, end_of, print_all_report, print_all_results};
+
+/// The most threads that give back memory at the same time.
+const GIVING_THREADS: usize = 8;
 
 /// Runs the program on its words, without its own name. Where the first word is not `run` this is `plain_command`. `run` reads
 /// the plan from `plan` and runs all of its threads at once, each over an outside of `world`. The reports of intervals go to
@@ -198,10 +202,28 @@ fn run_beside<
         limit: run.limit,
     };
     match run_threads(rt, alloc, &ask, world, ticker, hook, reports) {
-        Ok(books) => print_books(alloc, plan, &books, results, reports),
+        Ok(books) => {
+            let status = print_books(alloc, plan, &books, results, reports);
+            let RunBooks { traces, .. } = books;
+            give_back(rt, alloc, traces);
+            status
+        }
         Err(RunError::WriteFault) => Status::WriteFault,
         Err(RunError::NoMemory) => Status::Memory,
     }
+}
+
+// Gives back the memory of traces, those of up to eight at the same time where threads can be started.
+fn give_back<R: Threads + Sync>(rt: &R, alloc: Global, traces: Items<Items<TraceItem>>) {
+    let mut traces = traces.into_vec();
+    thread::for_each_mut(
+        rt,
+        traces.as_mut_slice(),
+        GIVING_THREADS,
+        &|_, trace| {
+            *trace = Items::of(Vec::new(alloc));
+        },
+    );
 }
 
 // Prints what the threads of a plan have done: the results, and then the summary and the end lines.

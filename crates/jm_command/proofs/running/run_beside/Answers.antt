@@ -4,14 +4,14 @@ use Rattle.recorder_core.specs.RecorderSeats.{books_of, last_report, all_reports
 use Rattle.jm_command.proofs.StartLaws.{labelled_all, ticked_reports, ticked_so_far, few_opened, stopped_before, books_say}
 use Rattle.jm_command.proofs.running.run_beside.Goals as goal
 
-pub print_books-requires-clause-threads : goal.print_books-requires-clause-threads
-print_books-requires-clause-threads g c = c.in-Ok.ensures.ends.0
+pub print_books-status-requires-clause-threads : goal.print_books-status-requires-clause-threads
+print_books-status-requires-clause-threads g c = c.in-Ok.ensures.ends.0
 
-pub print_books-requires-clause-labels : goal.print_books-requires-clause-labels
-print_books-requires-clause-labels g c = labelled_all _ _ c.in-Ok.ensures.labelled
+pub print_books-status-requires-clause-labels : goal.print_books-status-requires-clause-labels
+print_books-status-requires-clause-labels g c = labelled_all _ _ c.in-Ok.ensures.labelled
 
-pub print_books-requires-clause-rows : goal.print_books-requires-clause-rows
-print_books-requires-clause-rows g c = ap length c.in-Ok.ensures.total ∙ length-sum_of _ _
+pub print_books-status-requires-clause-rows : goal.print_books-status-requires-clause-rows
+print_books-status-requires-clause-rows g c = ap length c.in-Ok.ensures.total ∙ length-sum_of _ _
 
 pub returns-in-Ok-clause-prints : goal.returns-in-Ok-clause-prints
 returns-in-Ok-clause-prints g c =
@@ -28,7 +28,7 @@ returns-in-Ok-clause-prints g c =
       stopped = stopped_before c.args.run.now.limit c.in-Ok.books.traces (books_of c.in-Ok.books.books).closed (last_report (books_of c.in-Ok.books.books)) c.in-Ok.ensures.stopped;
     })
     (ticked_reports (books_of c.in-Ok.books.books).closed (last_report (books_of c.in-Ok.books.books)) _ _ _ _ _ c.in-Ok.ensures.count c.every.ensures c.in-Ok.ensures.ticked)
-    _ _ _ _ _ _ _ _ _ _ c.in-Ok.ensures.written c.in-Ok.ensures.ok c.print_books.result c.print_books.ensures
+    _ _ _ _ _ _ _ _ _ _ c.in-Ok.ensures.written c.in-Ok.ensures.ok c.print_books-status.result c.print_books-status.ensures
 
 pub returns-in-Err-WriteFault-clause-prints : goal.returns-in-Err-WriteFault-clause-prints
 returns-in-Err-WriteFault-clause-prints g c =
