@@ -8,11 +8,11 @@ mod group;
 mod progress;
 mod transaction;
 
-ghost use Rattle.std.specs.Prelude.{length, ◌<◌, ◌≡◌, [], ℕ, IfOk, OnOk, OnErr};
+ghost use Rattle.std.specs.Prelude.{length, ◌<◌, ◌≤◌, ◌≡◌, [], ℕ, IfOk, OnOk, OnErr};
 ghost use Rattle.jm_base.specs.Run.{Run, over};
 ghost use Rattle.element_tree.specs.Tree.{threads_of, group_of};
 ghost use Rattle.config_elements.specs.RoundStart.{feeds_of};
-ghost use Rattle.jm_meaning.specs.Beginning.{first_of};
+ghost use Rattle.jm_meaning.specs.Beginning.{Options, first_of, max_rounds};
 ghost use Rattle.jm_meaning.specs.Meaning.{events, end_of, after_pause};
 ghost use Rattle.jm_meaning.specs.TraceShown.{Shows};
 ghost use Rattle.plain_run.specs.Plays.{state_in, IsUnderWay};
@@ -49,10 +49,30 @@ pub fn run_plainly<O: Outside>(
         (events plan.now thread (record { seed = seed; props = props.now; budget = budget })) (O.account outside.new)) }
 {
     let mut progress = first_progress(alloc, plan, thread, seed, props, budget)?;
-    pause(ramp_up_pause(plan, thread), outside, &mut progress.items)?;
-    let signal = run_thread(plan, plan.group_of(thread), &mut progress, outside)?;
-    progress.items.push(Item::Ended(end_of(signal)))?;
+    run_begun(plan, thread, &mut progress, outside)?;
     Ok(progress.items)
+}
+
+// What the thread does from its first event on.
+fn run_begun<O: Outside>(
+    plan: &Plan,
+    thread: u16,
+    progress: &mut Progress,
+    outside: &mut O,
+) -> M<()>
+    requires thread { thread < length (threads_of plan.now) }
+    requires rounds { progress.old.rounds ≤ max_rounds }
+    requires feeds { progress.old.config.feeds ≡ feeds_of plan.now.elements (group_of plan.now thread) }
+    requires items { progress.old.items.items ≡ [] }
+    ensures shows { OnOk result ((options : Options) → state_in progress.old ≡ first_of plan.now thread options
+        → Shows (O.account outside.old) [] (events plan.now thread options) (over tt) progress.new.items.items (O.account outside.new)) }
+    ensures cut { OnErr result ((options : Options) → state_in progress.old ≡ first_of plan.now thread options
+        → IsUnderWay (O.account outside.old) (events plan.now thread options) (O.account outside.new)) }
+{
+    pause(ramp_up_pause(plan, thread), outside, &mut progress.items)?;
+    let signal = run_thread(plan, plan.group_of(thread), progress, outside)?;
+    progress.items.push(Item::Ended(end_of(signal)))?;
+    Ok(())
 }
 
 // The thread before its first event.
