@@ -7,8 +7,7 @@ mod StepLaws
 mod TurnLaws
 mod ElementLaws
 mod ThreadWays
-mod KindWays
-mod ChoiceWays
+mod CursorWays
 mod TransactionLaws
 mod TransactionWays
 mod SectionWays

@@ -7,12 +7,9 @@ use Rattle.jm_base.specs.declared.types.End.TheVariants.{ValueLimit as PastValue
 use Rattle.jm_base.specs.Run.{Run, over, give, Waited, Sampled, Nothing, Sampler}
 use Rattle.jm_base.specs.Outside.{Account, Goes}
 use Rattle.jm_base.proofs.RunLaws.{goes-bind}
-use Rattle.template_text.specs.Pieces.{Pieces}
 use Rattle.thread_vars.specs.declared.error.VarError.{VarError}
 use Rattle.thread_vars.specs.declared.error.VarError.TheVariants.{ValueLimit, NoMemory as NoMemoryLeft}
 use Rattle.var_functions.specs.declared.state.UserState.{UserState}
-use Rattle.thread_vars.specs.Vars.{Variables, Puts, put_var}
-use Rattle.var_functions.specs.Expansion.{expanded, expansion}
 use Rattle.var_functions.specs.Came.{Refused, by_limit, by_memory}
 use Rattle.jm_meaning.specs.declared.item.Item.TheVariants.{Null, Sampled as SampledItem}
 use Rattle.jm_meaning.specs.declared.signal.Signal.{Signal}
@@ -21,13 +18,13 @@ use Rattle.element_tree.specs.declared.kinds.Element.{Element}
 use Rattle.cursor_steps.specs.CursorStep.{Step, answers, past_limit as step_past_limit}
 use Rattle.scope_resolver.specs.Scoping.{scope_of}
 use Rattle.config_elements.specs.RoundStart.{begin_round}
-use Rattle.jm_meaning.specs.State.{Own, Part, Try, state_of, at_config, normal, stopped, and_then, with_round, with_unit, put, fine, past_limit, text, text_of}
+use Rattle.jm_meaning.specs.State.{Own, Part, Try, state_of, at_config, normal, stopped, and_then, with_round, with_unit, fine, past_limit}
 use Rattle.jm_meaning.specs.Rounds.{where_fed, on_fed, round_start}
 use Rattle.sampler_pipeline.specs.declared.run.Done.{Done}
 use Rattle.sampler_pipeline.specs.SamplerPipeline.{pipeline}
 use Rattle.jm_meaning.specs.Sampling.{given_sample, after_waited, given, after_sample, sampling}
 use Rattle.jm_meaning.specs.Transactions.{with_sample}
-use Rattle.jm_meaning.proofs.PartLaws.{no-rounds, one-round, no-units, one-unit, puts-came}
+use Rattle.jm_meaning.proofs.PartLaws.{no-rounds, one-round, no-units, one-unit}
 use Rattle.plain_run.specs.declared.progress.Progress.{Progress}
 use Rattle.plain_run.specs.Plays.{state_in, with_pause, Plays, IsUnderWay, Runs}
 use Rattle.plain_run.proofs.Ways.{OnWay, way-start, way-silent, way-move, way-give, way-end, way-over, way-then, way-stop, way-tried, way-past}
@@ -58,34 +55,12 @@ pub refused-runs : {a b : Account} {p q : Progress} {part : Part} (res : Result 
 refused-runs {a} {b} {p} {q} {part} (Ok signal) error h past cut = subst (λ s. Plays a p part s q b) (sym h.1) (past h.0)
 refused-runs (Err e) error h past cut = cut h
 
--- the text of a template, or none past a limit
-pub text-goes : (a b : Account) (template : Pieces) (old new : UserState) (came : Option (List ℕ))
-    → Goes a (expansion template old.vars old.fns) [] (over (expanded came new.fns)) b → new.vars ≡ old.vars
-    → Goes a (text template old) [] (over (record { came = came; user = new })) b
-text-goes a b template old new came goes same =
-    subst (λ vars. Goes a (text template old) [] (over (record { came = came; user = record { vars = vars; fns = new.fns } })) b) (sym same)
-    (goes-bind (λ x. over (text_of old x)) goes)
-
 -- a part that only variables and functions come from
 pub silent-plays : {a b : Account} (part : Part) (p : Progress) (user : UserState) (signal : Signal)
     → Goes a (part (state_in p)) [] (over (record { state = state_of user (record { units = p.units; rounds = p.rounds; places = p.places; config = p.config.places }); signal = signal })) b
     → Plays a p part signal (record p { user = user }) b
 silent-plays {a} part p user signal goes =
     way-over signal (way-silent (λ s. over (record { state = s; signal = signal })) (record p { user = user }) (way-start a p part) goes refl refl (omega arith) refl) refl
-
--- ---- a variable is set
-
-module _ (a : Account) (p : Progress) (name value : List ℕ) (vars : Variables) where
-  pub put-done : put_var name value p.user.vars ≡ Some vars → Plays a p (put name value) Normal (record p { user = record { vars = vars; fns = p.user.fns } }) a
-  put-done made =
-      way-over Normal (way-silent (λ s. over (normal s)) (record p { user = record { vars = vars; fns = p.user.fns } }) (way-start a p (put name value))
-      (puts-came a (put_var name value p.user.vars) p.user (record { units = p.units; rounds = p.rounds; places = p.places; config = p.config.places }) vars (Ok tt) made) refl refl (omega arith) refl) refl
-
-  pub put-refused : (error : VarError) → Puts (put_var name value p.user.vars) p.user.vars vars (Err error) → error ≡ ValueLimit
-      → Plays a p (put name value) (Stop PastValueLimit) (record p { user = record { vars = vars; fns = p.user.fns } }) a
-  put-refused error puts is =
-      way-over (Stop PastValueLimit) (way-silent (λ s. over (stopped PastValueLimit s)) (record p { user = record { vars = vars; fns = p.user.fns } }) (way-start a p (put name value))
-      (at-limit (puts-came a (put_var name value p.user.vars) p.user (record { units = p.units; rounds = p.rounds; places = p.places; config = p.config.places }) vars (Err error) puts) is) refl refl (omega arith) refl) refl
 
 -- ---- a round is taken
 

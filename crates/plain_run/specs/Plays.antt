@@ -3,8 +3,6 @@ use Rattle.std.specs.Prelude.{◌≡◌, ◌≤◌, ℕ, zero, suc, List, [], �
 use Rattle.jm_base.specs.declared.errors.NoMemory.{NoMemory}
 use Rattle.jm_base.specs.Run.{Run, Event, over}
 use Rattle.jm_base.specs.Outside.{Account, Goes}
-use Rattle.element_tree.specs.declared.kinds.Kind.{Kind}
-use Rattle.element_tree.specs.declared.kinds.Kind.TheVariants.{Loop, While, ForEach}
 use Rattle.element_tree.specs.Tree.{Tree}
 use Rattle.jm_meaning.specs.declared.item.Item.{Item}
 use Rattle.jm_meaning.specs.declared.item.Item.TheVariants.{Paused}
@@ -62,10 +60,3 @@ abbrev pub caught_signal : Signal → Signal
 caught_signal Normal = Normal
 caught_signal NextLoop = Normal
 caught_signal (Stop end) = Stop end
-
--- the kinds that have rounds
-abbrev pub IsLooping : Kind → Type 0
-IsLooping (Loop loops) = Unit {0}
-IsLooping (While condition) = Unit {0}
-IsLooping (ForEach end input output separator start) = Unit {0}
-IsLooping kind = ⊥

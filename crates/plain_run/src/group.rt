@@ -93,7 +93,7 @@ fn run_rounds<O: Outside>(
             Signal::Normal => {}
             other => return Ok(other),
         }
-        match caught(run_children(level, children, round, progress, outside)?) {
+        match caught(run_children(level, children, u64::from(round), progress, outside)?) {
             Signal::Normal => {}
             other => return Ok(other),
         }

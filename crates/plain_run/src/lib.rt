@@ -1,5 +1,5 @@
-//! The run of a plan, by recursion on its elements: slow, and plainly the definition. Its contract is that what a thread
-//! shows is the meaning of its plan.
+//! The run of a plan, by recursion on its elements: slow, without a stack of open elements and without tables. Its contract is
+//! that what a thread shows is the meaning of its plan.
 #![tactic(auto)]
 
 mod children;
@@ -89,13 +89,16 @@ fn first_progress(
     ensures feeds { IfOk result (λ p. p.config.feeds ≡ feeds_of plan.now.elements (group_of plan.now thread)) }
     ensures items { IfOk result (λ p. p.items.items ≡ []) }
 {
+    let places = Places::first(alloc, plan)?;
+    let config = ConfigState::new(alloc, plan, thread)?;
+    let user = first_user(alloc, plan, thread, seed, props)?;
     Ok(Progress {
         alloc,
-        user: first_user(alloc, plan, thread, seed, props)?,
+        user,
         units: budget,
         rounds: 16_777_216,
-        places: Places::first(alloc, plan)?,
-        config: ConfigState::new(alloc, plan, thread)?,
+        places,
+        config,
         tally: Tally::none(),
         items: Vec::new(alloc),
     })
@@ -107,10 +110,9 @@ fn first_user(alloc: Global, plan: &Plan, thread: u16, seed: u64, props: &Props)
     ensures { IfOk result (λ user. (budget : ℕ) → user ≡ (first_of plan.now thread (record { seed = seed; props = props.now; budget = budget })).user) }
 {
     let number = plan.thread(thread).number;
-    Ok(UserState {
-        vars: Vars::new(alloc),
-        fns: FnState::new(alloc, props, number, u64::from(thread), seed)?,
-    })
+    let fns = FnState::new(alloc, props, number, u64::from(thread), seed)?;
+    let vars = Vars::new(alloc);
+    Ok(UserState { vars, fns })
 }
 
 // A pause of that many milliseconds, where there is one.

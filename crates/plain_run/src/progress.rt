@@ -1,28 +1,24 @@
 // How far a thread has come, and the steps of its run that are no recursion.
 
-ghost use Rattle.std.specs.Prelude.{◌≡◌, ◌≤◌, ◌<◌, ◌%◌, ℕ, [], IfOk, OnOk, OnErr, MatchResult};
+ghost use Rattle.std.specs.Prelude.{◌≡◌, ◌<◌, ℕ, IfOk, OnOk, MatchResult};
 ghost use Rattle.jm_base.specs.declared.types.End.TheVariants.{ValueLimit as PastValueLimit};
 ghost use Rattle.jm_base.specs.Run.{over};
-ghost use Rattle.jm_base.specs.Outside.{Account, Goes};
+ghost use Rattle.jm_base.specs.Outside.{Account};
 ghost use Rattle.config_elements.specs.RoundStart.{feeds_of};
-ghost use Rattle.jm_meaning.specs.State.{and_then, normal, place_of, put, text, with_round, with_unit};
-ghost use Rattle.jm_meaning.specs.Rounds.{set_index, round_start};
-ghost use Rattle.jm_meaning.specs.Choices.{moved_on};
+ghost use Rattle.jm_meaning.specs.State.{normal, with_round, with_unit};
+ghost use Rattle.jm_meaning.specs.Rounds.{round_start};
 ghost use Rattle.jm_meaning.specs.Beginning.{set_first};
 ghost use Rattle.jm_meaning.specs.Sampling.{sampling, given, after_sample};
-ghost use Rattle.plain_run.specs.Plays.{state_in, with_pause, Plays, IsUnderWay, Runs};
+ghost use Rattle.plain_run.specs.Plays.{with_pause, Plays, Runs};
 
 use config_elements::{ConfigState, begin_round};
 use element_tree::Plan;
-use jm_base::{End, M, NoMemory, Outside, Sample, Text};
+use jm_base::{End, M, NoMemory, Outside, Sample};
 use jm_meaning::{Item, Places, Signal, Tally, set_first};
-use logic_controllers::set_index;
 use sampler_pipeline::{Done, run_one};
 use scope_resolver::package;
 use std::alloc::Global;
-use template_text::Template;
-use var_changes::put_copy;
-use var_functions::{UserState, VarError, expand};
+use var_functions::{UserState, VarError};
 
 /// How far a thread has come.
 #[derive(Drop)]
@@ -44,8 +40,8 @@ pub struct Progress {
     pub items: Vec<Item>,
 }
 
-// A refusal past a limit stops the thread.
-fn refused(error: VarError) -> M<Signal>
+/// A refusal past a limit stops the thread.
+pub(crate) fn refused(error: VarError) -> M<Signal>
     ensures { MatchResult result (λ signal. (error ≡ VarError.ValueLimit) × (signal ≡ Signal.Stop PastValueLimit)) (λ e. error ≡ VarError.NoMemory) }
 {
     match error {
@@ -62,42 +58,6 @@ fn after_sample(ok: bool, at_failure: Signal) -> Signal
 }
 
 impl Progress {
-    /// The text of a template, or none past a limit.
-    pub fn text<O: Outside>(&mut self, template: &Template, outside: &mut O) -> M<Option<Text>>
-        ensures came { IfOk result (λ came. Goes (O.account outside.old) (text template.now self.old.user) []
-            (over (record { came = came; user = self.new.user })) (O.account outside.new)) }
-        ensures cut { OnErr result (IsUnderWay (O.account outside.old) (text template.now self.old.user) (O.account outside.new)) }
-        ensures same { self.new ≡ record self.old { user = self.new.user } }
-    {
-        match expand(self.alloc, template, &mut self.user, outside) {
-            Ok(text) => Ok(Some(text)),
-            Err(VarError::ValueLimit) => Ok(None),
-            Err(VarError::NoMemory) => Err(NoMemory),
-        }
-    }
-
-    /// Sets a variable.
-    pub fn put(&mut self, name: &[u8], value: &[u8]) -> M<Signal>
-        ensures plays { IfOk result (λ signal. (a : Account) → Plays a self.old (put name.now value.now) signal self.new a) }
-        ensures same { self.new ≡ record self.old { user = self.new.user } }
-    {
-        match put_copy(self.alloc, name, value, &mut self.user.vars) {
-            Ok(()) => Ok(Signal::Normal),
-            Err(error) => refused(error),
-        }
-    }
-
-    /// Sets the index variable of an element of this name.
-    pub fn set_index(&mut self, name: &[u8], index: u32) -> M<Signal>
-        ensures plays { IfOk result (λ signal. (a : Account) → Plays a self.old (set_index name.now index) signal self.new a) }
-        ensures same { self.new ≡ record self.old { user = self.new.user } }
-    {
-        match set_index(self.alloc, name, index, &mut self.user.vars) {
-            Ok(()) => Ok(Signal::Normal),
-            Err(error) => refused(error),
-        }
-    }
-
     /// Takes one of the rounds left.
     pub fn take_round(&mut self) -> Signal
         ensures plays { (a : Account) → Plays a self.old (λ s. with_round s (λ s. over (normal s))) result self.new a }
@@ -108,55 +68,6 @@ impl Progress {
         }
         self.rounds -= 1;
         Signal::Normal
-    }
-
-    /// Begins a round of a Loop or a While: it is taken from those left, and the index variable is set.
-    pub fn open_round(&mut self, name: &[u8], index: u32) -> M<Signal>
-        ensures plays { IfOk result (λ signal. (a : Account) → Plays a self.old (λ s. with_round s (set_index name.now index)) signal self.new a) }
-        ensures taken { IfOk result (λ signal. signal ≡ Signal.Normal → self.new.rounds < self.old.rounds) }
-    {
-        match self.take_round() {
-            Signal::Normal => {
-                let signal = self.set_index(name, index)?;
-                Ok(signal)
-            }
-            other => Ok(other),
-        }
-    }
-
-    /// Begins a round of a ForEach: after the index variable the value goes to the output.
-    pub fn open_each_round(
-        &mut self,
-        name: &[u8],
-        index: u32,
-        output: &[u8],
-        value: &[u8],
-    ) -> M<Signal>
-        ensures plays { IfOk result (λ signal. (a : Account) → Plays a self.old
-            (λ s. with_round s (λ s. and_then (set_index name.now index s) (put output.now value.now))) signal self.new a) }
-        ensures taken { IfOk result (λ signal. signal ≡ Signal.Normal → self.new.rounds < self.old.rounds) }
-    {
-        match self.open_round(name, index)? {
-            Signal::Normal => {
-                let signal = self.put(output, value)?;
-                Ok(signal)
-            }
-            other => Ok(other),
-        }
-    }
-
-    /// The Interleave Controller of this number moves on to the next of that many children, from the place that is
-    /// answered.
-    pub fn move_on(&mut self, number: u16, children: u16) -> u16
-        requires { 1 ≤ children }
-        ensures place { result ≡ place_of self.old.places number % children }
-        ensures moved { state_in self.new ≡ moved_on number children (state_in self.old) }
-        ensures same { self.new ≡ record self.old { places = self.new.places } }
-    {
-        let place = self.places.of(number);
-        let next = (u32::from(place) + 1) % u32::from(children);
-        self.places.set(number, next as u16);
-        place % children
     }
 
     /// Runs the sampler of this number with the elements that apply to it, where a unit is left.

@@ -31,7 +31,7 @@ returns-in_err-run_children g c =
     runs-cut _ _ _ _ c.from_residual-in_err-run_children.result c.from_residual-in_err-run_children.ensures.1
     (cut-round (g.O.Outside.account c.args.outside.now) (g.O.Outside.account c.rounds.outside) (g.O.Outside.account c.rounds.outside) c.args.progress.now c.rounds.progress c.rounds.progress turns body c.rounds.round c.rounds.invariant refl
     tt (loop-begins (g.O.Outside.account c.rounds.outside) c.args.loops c.rounds.round c.rounds.progress.user (sym c.round_begins.ensures ∙ c.rounds-test.true)) (g.O.Outside.account c.open_group_round.new.outside) (g.O.Outside.account c.run_children.new.outside) c.open_group_round.new.self c.in_ok-other.other
-    (c.in_ok-other.ensures.plays c.args.group (c.rounds.invariant.way.feeds ∙ c.requires.feeds)) c.in-Normal.is (in-bind (λ e. over (caught e)) c.in_err-run_children.ensures))
+    (c.in_ok-other.ensures.plays c.args.group (c.rounds.invariant.way.feeds ∙ c.requires.feeds)) c.in-Normal.is (in-bind (λ e. over (caught e)) (rw c.from.ensures at c.in_err-run_children.ensures)))
 
 pub returns : goal.returns
 returns g c =
@@ -56,7 +56,7 @@ returns-in_default-caught g c =
     let turns : Turns (Unit {0}) = group_turns c.args.loops (round_start c.args.level.plan.now.elements c.args.group) in
     last-round (g.O.Outside.account c.args.outside.now) (g.O.Outside.account c.rounds.outside) (g.O.Outside.account c.rounds.outside) c.args.progress.now c.rounds.progress c.rounds.progress turns body c.rounds.round c.rounds.invariant refl
     tt (loop-begins (g.O.Outside.account c.rounds.outside) c.args.loops c.rounds.round c.rounds.progress.user (sym c.round_begins.ensures ∙ c.rounds-test.true)) (g.O.Outside.account c.open_group_round.new.outside) (g.O.Outside.account c.run_children.new.outside) c.open_group_round.new.self c.run_children.new.progress c.in_ok-other.other c.caught.result
-    (c.in_ok-other.ensures.plays c.args.group (c.rounds.invariant.way.feeds ∙ c.requires.feeds)) c.in-Normal.is (plays-caught (in_order below c.rounds.round c.args.children.now) c.in_ok-run_children.ensures c.caught.result c.caught.ensures) c.in_default-caught.not-Normal
+    (c.in_ok-other.ensures.plays c.args.group (c.rounds.invariant.way.feeds ∙ c.requires.feeds)) c.in-Normal.is (plays-caught (in_order below c.rounds.round c.args.children.now) (rw c.from.ensures at c.in_ok-run_children.ensures) c.caught.result c.caught.ensures) c.in_default-caught.not-Normal
 
 pub rounds-preserved : goal.rounds-preserved
 rounds-preserved g c =
@@ -65,4 +65,4 @@ rounds-preserved g c =
     let turns : Turns (Unit {0}) = group_turns c.args.loops (round_start c.args.level.plan.now.elements c.args.group) in
     round-done (g.O.Outside.account c.args.outside.now) (g.O.Outside.account c.rounds.outside) (g.O.Outside.account c.rounds.outside) c.args.progress.now c.rounds.progress c.rounds.progress turns body c.rounds.round c.rounds.invariant refl
     tt (loop-begins (g.O.Outside.account c.rounds.outside) c.args.loops c.rounds.round c.rounds.progress.user (sym c.round_begins.ensures ∙ c.rounds-test.true)) (g.O.Outside.account c.open_group_round.new.outside) (g.O.Outside.account c.run_children.new.outside) c.open_group_round.new.self c.run_children.new.progress c.in_ok-other.other c.caught.result
-    (c.in_ok-other.ensures.plays c.args.group (c.rounds.invariant.way.feeds ∙ c.requires.feeds)) c.in-Normal.is (plays-caught (in_order below c.rounds.round c.args.children.now) c.in_ok-run_children.ensures c.caught.result c.caught.ensures) (c.in_ok-other.ensures.taken c.in-Normal.is) c.in-Normal-caught.is
+    (c.in_ok-other.ensures.plays c.args.group (c.rounds.invariant.way.feeds ∙ c.requires.feeds)) c.in-Normal.is (plays-caught (in_order below c.rounds.round c.args.children.now) (rw c.from.ensures at c.in_ok-run_children.ensures) c.caught.result c.caught.ensures) (c.in_ok-other.ensures.taken c.in-Normal.is) c.in-Normal-caught.is

@@ -1,9 +1,0 @@
-use Rattle.plain_run.proofs.StepLaws.{put-done, put-refused, refused-so}
-use Rattle.plain_run.proofs.progress.Progress.put.Goals as goal
-
-pub returns-in-Ok-clause-plays : goal.returns-in-Ok-clause-plays
-returns-in-Ok-clause-plays c = λ a. put-done a c.args.self.now c.args.name.now c.args.value.now c.put_copy.new.vars c.in-Ok.ensures.exact
-
-pub returns-in-Err-clause-plays : goal.returns-in-Err-clause-plays
-returns-in-Err-clause-plays c = refused-so c.refused.result c.in-Err.error _ c.refused.ensures
-    (λ is. λ a. put-refused a c.args.self.now c.args.name.now c.args.value.now c.put_copy.new.vars c.in-Err.error c.in-Err.ensures.exact is)
