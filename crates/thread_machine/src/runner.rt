@@ -40,7 +40,6 @@ use var_functions::{FnState, Props, UserState, VarError, Vars};
 /// runs them, the machine of moves, the units left of its sample budget, the sample that is still to be noted, the lock of the
 /// section that is still to be entered and of the one that is open, the end that comes after a section was left for a limit,
 /// and its trace.
-#[derive(Drop)]
 pub struct Runner<'p> {
     pub plan: &'p Plan,
     pub thread: u16,
@@ -60,6 +59,30 @@ pub struct Runner<'p> {
     pub alloc: Global,
 }
 
+// Written out, so that to let a thread go is one call wherever that is done, and not a call for each of its parts.
+impl<'p> Drop for Runner<'p> {
+    fn drop(self) {
+        let Self {
+            plan: _,
+            thread: _,
+            pause: _,
+            begun: _,
+            user: _user,
+            config: _config,
+            table: _table,
+            pipeline: _pipeline,
+            machine: _machine,
+            units: _,
+            owed: _owed,
+            entering: _,
+            section: _,
+            last: _,
+            trace: _trace,
+            alloc: _,
+        } = self;
+    }
+}
+
 impl<'p> Runner<'p> {
     /// A thread before its first step. `seed` is that of the run's random words, `budget` is how many units its samplers,
     /// transactions and sections may use.
@@ -76,25 +99,28 @@ impl<'p> Runner<'p> {
         ensures on { IfOk result GoesOn }
     {
         let number = plan.thread(thread).number;
+        let trace = Trace::new(alloc, budget)?;
+        let table = NodeTable::of(alloc, plan)?;
+        let config = ConfigState::new(alloc, plan, thread)?;
+        let fns = FnState::new(alloc, props, number, u64::from(thread), seed)?;
+        let machine = Machine::new(alloc, plan, thread)?;
+        let vars = Vars::new(alloc);
         Ok(Runner {
             plan,
             thread,
             pause: ramp_up_pause(plan, thread),
             begun: false,
+            user: UserState { vars, fns },
+            config,
+            table,
+            pipeline: Pipeline::new(alloc),
+            machine,
             units: budget,
             owed: None,
             entering: None,
             section: None,
             last: None,
-            pipeline: Pipeline::new(alloc),
-            trace: Trace::new(alloc, budget)?,
-            table: NodeTable::of(alloc, plan)?,
-            config: ConfigState::new(alloc, plan, thread)?,
-            user: UserState {
-                vars: Vars::new(alloc),
-                fns: FnState::new(alloc, props, number, u64::from(thread), seed)?,
-            },
-            machine: Machine::new(alloc, plan, thread)?,
+            trace,
             alloc,
         })
     }

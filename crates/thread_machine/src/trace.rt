@@ -5,6 +5,7 @@ ghost use Rattle.std.specs.Prelude.{◌≡◌, ◌∷◌, [], ◌++◌, ◌+◌,
 use jm_base::{End, M, Sample};
 use std::alloc::Global;
 use std::marker::Model;
+use std::mem;
 
 /// One item of a thread's trace.
 #[derive(Drop)]
@@ -89,10 +90,10 @@ impl Trace {
         &self.items
     }
 
-    /// The items themselves.
-    pub fn into_vec(self) -> Vec<TraceItem>
-        ensures { result.items ≡ self.items }
+    /// Takes the items out, and leaves none.
+    pub fn take(&mut self, alloc: Global) -> Vec<TraceItem>
+        ensures { result.items ≡ self.old.items }
     {
-        self.items
+        mem::replace(&mut self.items, Vec::new(alloc))
     }
 }

@@ -167,7 +167,9 @@ impl<'p> Worker<'p> {
         ensures sections { SectionsFrom None result.items self.entry.section }
         ensures closed { self.entry.ended ≡ true → self.entry.section ≡ None }
     {
-        self.runner.trace.into_vec()
+        let mut runner = self.runner;
+        let alloc = runner.alloc;
+        runner.trace.take(alloc)
     }
 }
 
