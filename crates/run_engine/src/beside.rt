@@ -107,6 +107,76 @@ fn report_at<'t, 'k, R: Wait, T: Ticker, K: Sink, F: Fn(&Report, u64) -> Verdict
     }
 }
 
+// Runs all workers in threads and the reporter at the desk, and joins the threads whatever became of the reports.
+fn gather<
+    'p,
+    's,
+    't,
+    'k,
+    R: Threads + Wait + Sync,
+    O: Outside + Send + Drop,
+    T: Ticker,
+    K: Sink,
+    F: Fn(&Report, u64) -> Verdict,
+>(
+    rt: &R,
+    alloc: Global,
+    recorder: &Recorder,
+    rules: &Rules<'_, F>,
+    jobs: Vec<Job<'p, 's, O>>,
+    seat: ReporterSeat,
+    desk: Desk<'t, 'k, T, K>,
+) -> Gathered<'p, 's, 't, 'k, O, T, K>
+    requires jobs { All (CanRun recorder.now) jobs.items }
+    requires may { MayReport recorder.now rules.now.plan.now seat desk.counts }
+    requires kept { Keeps F.Fn rules.now.reporter.now }
+    ensures jobs { AllRan O.account recorder.now jobs.entry.items result.jobs.items }
+    ensures reported { HasReported recorder.now rules.now.plan.now rules.now.limit
+        (record { ticks = T.ticks desk.entry.ticker.now; written = K.written desk.entry.sink.now; faults = K.faults desk.entry.sink.now })
+        (record { ticks = T.ticks result.end.desk.ticker.now; written = K.written result.end.desk.sink.now; faults = K.faults result.end.desk.sink.now })
+        seat (record { seat = result.end.seat; counts = result.end.desk.counts; answer = result.end.answer }) }
+    ensures ticker { result.end.desk.ticker.ghost_name ≡ desk.entry.ticker.ghost_name }
+    ensures sink { result.end.desk.sink.ghost_name ≡ desk.entry.sink.ghost_name }
+{
+    let ended = rules.ended;
+    thread::scope(
+        thread::scope_env(),
+        rt,
+        move |scope| -> Gathered<O, T, K>
+            requires { All (CanRun recorder.now) jobs.items × MayReport recorder.now rules.now.plan.now seat desk.counts
+                × Keeps F.Fn rules.now.reporter.now × IsSync R.row × IsSend O.row }
+            ensures { AllRan O.account recorder.entry.now jobs.entry.items result.jobs.items
+                × HasReported recorder.entry.now rules.entry.now.plan.now rules.entry.now.limit
+                (record { ticks = T.ticks desk.entry.ticker.now; written = K.written desk.entry.sink.now; faults = K.faults desk.entry.sink.now })
+                (record { ticks = T.ticks result.end.desk.ticker.now; written = K.written result.end.desk.sink.now; faults = K.faults result.end.desk.sink.now })
+                seat (record { seat = result.end.seat; counts = result.end.desk.counts; answer = result.end.answer })
+                × (result.end.desk.ticker.ghost_name ≡ desk.entry.ticker.ghost_name)
+                × (result.end.desk.sink.ghost_name ≡ desk.entry.sink.ghost_name) }
+        {
+            let promise = TeamOf {
+                recorder,
+                before: Snapshot::of(&jobs),
+            };
+            let work = move || -> Vec<Job<O>>
+                requires { All (CanRun recorder.now) jobs.items × IsSync R.row × IsSend O.row }
+                ensures { AllRan O.account recorder.entry.now jobs.entry.items result.items }
+            { team_thread(rt, recorder, ended, jobs) };
+            match scope.spawn_with(promise, work) {
+                Ok(handle) => {
+                    let end = report_at(rt, alloc, recorder, rules, seat, desk);
+                    let jobs = handle.join(rt);
+                    Gathered { jobs, end }
+                }
+                Err(refused) => {
+                    let jobs = (refused.value)();
+                    let end = report_at(rt, alloc, recorder, rules, seat, desk);
+                    Gathered { jobs, end }
+                }
+            }
+        },
+    )
+}
+
 /// Runs all workers in threads and the reporter on the caller's thread, and joins the threads whatever became of the reports.
 /// Where no thread can be started, the workers run first.
 pub fn run_beside<
@@ -142,48 +212,12 @@ pub fn run_beside<
         (record { ticks = T.ticks ticker.new; written = K.written sink.new; faults = K.faults sink.new })
         seat (record { seat = result.1; counts = result.3; answer = result.2 }) }
 {
-    let ended = rules.ended;
     let desk = Desk {
         ticker: &mut *ticker,
         sink: &mut *sink,
         counts,
     };
-    let Gathered { jobs, end } = thread::scope(
-        thread::scope_env(),
-        rt,
-        move |scope| -> Gathered<O, T, K>
-            requires { All (CanRun recorder.now) jobs.items × MayReport recorder.now rules.now.plan.now seat desk.counts
-                × Keeps F.Fn rules.now.reporter.now × IsSync R.row × IsSend O.row }
-            ensures { AllRan O.account recorder.entry.now jobs.entry.items result.jobs.items
-                × HasReported recorder.entry.now rules.entry.now.plan.now rules.entry.now.limit
-                (record { ticks = T.ticks desk.entry.ticker.now; written = K.written desk.entry.sink.now; faults = K.faults desk.entry.sink.now })
-                (record { ticks = T.ticks result.end.desk.ticker.now; written = K.written result.end.desk.sink.now; faults = K.faults result.end.desk.sink.now })
-                seat (record { seat = result.end.seat; counts = result.end.desk.counts; answer = result.end.answer })
-                × (result.end.desk.ticker.ghost_name ≡ desk.entry.ticker.ghost_name)
-                × (result.end.desk.sink.ghost_name ≡ desk.entry.sink.ghost_name) }
-        {
-            let promise = TeamOf {
-                recorder,
-                before: Snapshot::of(&jobs),
-            };
-            let work = move || -> Vec<Job<O>>
-                requires { All (CanRun recorder.now) jobs.items × IsSync R.row × IsSend O.row }
-                ensures { AllRan O.account recorder.entry.now jobs.entry.items result.items }
-            { team_thread(rt, recorder, ended, jobs) };
-            match scope.spawn_with(promise, work) {
-                Ok(handle) => {
-                    let end = report_at(rt, alloc, recorder, rules, seat, desk);
-                    let jobs = handle.join(rt);
-                    Gathered { jobs, end }
-                }
-                Err(refused) => {
-                    let jobs = (refused.value)();
-                    let end = report_at(rt, alloc, recorder, rules, seat, desk);
-                    Gathered { jobs, end }
-                }
-            }
-        },
-    );
+    let Gathered { jobs, end } = gather(rt, alloc, recorder, rules, jobs, seat, desk);
     let Reporting { seat, answer, desk } = end;
     let Desk {
         ticker,

@@ -9,7 +9,7 @@ use Rattle.std.proofs.Crossing.{Vec-send}
 use Rattle.recorder_core.proofs.places.Recorder.TheSendSync as recorder
 use Rattle.reporter_loop.proofs.ended.Ended.TheSendSync as ended
 use Rattle.run_engine.proofs.JobCrosses.{closure, job}
-use Rattle.run_engine.proofs.beside.fn.run_beside.scope.Goals as goal
+use Rattle.run_engine.proofs.beside.fn.gather.scope.Goals as goal
 
 pub returns-in-Ok : goal.returns-in-Ok
 returns-in-Ok g c =
