@@ -22,10 +22,19 @@ pub struct Feed {
 
 /// What a thread keeps of the Counters and data sets that advance in its rounds. It is used with the plan for which it was
 /// made.
-#[derive(Drop)]
 pub struct ConfigState {
     pub(crate) feeds: Vec<Feed>,
     pub(crate) places: Vec<u64>,
+}
+
+// Written out, so that other crates let a state go by one call.
+impl Drop for ConfigState {
+    fn drop(self) {
+        let Self {
+            feeds: _feeds,
+            places: _places,
+        } = self;
+    }
 }
 
 impl Model for ConfigState {

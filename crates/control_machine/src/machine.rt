@@ -28,9 +28,17 @@ use std::marker::Model;
 use var_functions::{UserState, VarError};
 
 /// A thread in its plan, between two of its moves. It is used with the plan for which it was made. Contracts see its position.
-#[derive(Drop)]
 pub struct Machine {
     position: Position,
+}
+
+// Written out, so that other crates let a machine go by one call.
+impl Drop for Machine {
+    fn drop(self) {
+        let Self {
+            position: _position,
+        } = self;
+    }
 }
 
 impl Model for Machine {

@@ -4,7 +4,6 @@ use std::marker::Model;
 
 /// The elements that take part in the samples of one sampler, by their numbers, each list in the order in which they act (the manual's
 /// "Execution order" and "Scoping Rules").
-#[derive(Drop)]
 pub struct Package {
     /// Configuration elements.
     pub config: Vec<u16>,
@@ -18,6 +17,20 @@ pub struct Package {
     pub assertions: Vec<u16>,
     /// Listeners.
     pub listeners: Vec<u16>,
+}
+
+// Written out, so that other crates let a package go by one call.
+impl Drop for Package {
+    fn drop(self) {
+        let Self {
+            config: _config,
+            pre: _pre,
+            timers: _timers,
+            post: _post,
+            assertions: _assertions,
+            listeners: _listeners,
+        } = self;
+    }
 }
 
 impl Model for Package {

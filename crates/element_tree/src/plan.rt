@@ -16,7 +16,6 @@ use std::marker::Model;
 const SAMPLE_LIMIT: u64 = 4_194_304;
 
 /// A plan that was accepted: its elements, numbered from 0 in tree order. The root is element 0.
-#[derive(Drop)]
 pub struct Plan {
     version: u8,
     elements: Vec<Element>,
@@ -25,6 +24,21 @@ pub struct Plan {
     locks: Items<Text>,
     lock_numbers: Items<u16>,
     threads: Items<Thread>,
+}
+
+// Written out, so that other crates let a plan go by one call.
+impl Drop for Plan {
+    fn drop(self) {
+        let Self {
+            version: _,
+            elements: _elements,
+            labels: _labels,
+            label_numbers: _label_numbers,
+            locks: _locks,
+            lock_numbers: _lock_numbers,
+            threads: _threads,
+        } = self;
+    }
 }
 
 impl Model for Plan {

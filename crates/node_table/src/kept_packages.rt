@@ -18,9 +18,17 @@ use std::marker::Model;
 
 /// The packages of all samplers of a plan: for each the elements that apply to it, class by class, in the order in which
 /// they act (the manual's "Scoping Rules" and "Execution order"). The elements above samplers have theirs too.
-#[derive(Drop)]
 pub struct NodeTable {
     packages: Vec<Option<Package>>,
+}
+
+// Written out, so that other crates let a table go by one call.
+impl Drop for NodeTable {
+    fn drop(self) {
+        let Self {
+            packages: _packages,
+        } = self;
+    }
 }
 
 impl Model for NodeTable {

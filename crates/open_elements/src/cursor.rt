@@ -17,7 +17,6 @@ use std::alloc::Global;
 use var_functions::{UserState, VarError};
 
 /// Where an open element stands.
-#[derive(Drop)]
 pub enum Cursor {
     /// In a Simple Controller.
     Simple(SimpleCursor),
@@ -43,6 +42,26 @@ pub enum Cursor {
     Transaction(OpenTransaction),
     /// In a critical section.
     Section(OpenSection),
+}
+
+// Written out, so that other crates let a cursor go by one call.
+impl Drop for Cursor {
+    fn drop(self) {
+        match self {
+            Cursor::Simple(_) => {}
+            Cursor::Once(_) => {}
+            Cursor::Loop(_) => {}
+            Cursor::If(_) => {}
+            Cursor::While(_) => {}
+            Cursor::Each(_each) => {}
+            Cursor::Interleave(_) => {}
+            Cursor::Random(_) => {}
+            Cursor::Order(_order) => {}
+            Cursor::Switch(_) => {}
+            Cursor::Transaction(_) => {}
+            Cursor::Section(_) => {}
+        }
+    }
 }
 
 // What an open controller does next.

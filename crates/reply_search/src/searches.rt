@@ -28,9 +28,15 @@ pub struct NextMatch {
 
 /// Where patterns are found, with what searches for each of them kept from text to text: to make it anew takes microseconds.
 /// At most 256 are kept. Contracts see nothing of what is kept, since no answer depends on it.
-#[derive(Drop)]
 pub struct Searches<'p> {
     kept: Vec<Option<Box<Search<'p>>>>,
+}
+
+// Written out, so that other crates let what is kept go by one call.
+impl<'p> Drop for Searches<'p> {
+    fn drop(self) {
+        let Self { kept: _kept } = self;
+    }
 }
 
 impl<'p> Model for Searches<'p> {

@@ -17,7 +17,6 @@ use std::marker::Model;
 ///
 /// A loop sets its index in each round, so the index that was set last stands beside the map: setting it again needs no
 /// search.
-#[derive(Drop)]
 pub struct Vars {
     table: Table,
     // The name of the element whose index was set last.
@@ -30,6 +29,20 @@ pub struct Vars {
     beside: bool,
     // Whether that may be an older one.
     ahead: bool,
+}
+
+// Written out, so that other crates let variables go by one call.
+impl Drop for Vars {
+    fn drop(self) {
+        let Self {
+            table: _table,
+            element: _element,
+            name: _name,
+            digits: _digits,
+            beside: _,
+            ahead: _,
+        } = self;
+    }
 }
 
 impl Model for Vars {

@@ -15,12 +15,23 @@ use thread_vars::Vars;
 
 /// What the functions of a thread keep: the properties of the run, the thread's number in its group, the count of
 /// `__counter`, and the generator of random words.
-#[derive(Drop)]
 pub struct FnState {
     props: Props,
     thread_num: u16,
     counted: u64,
     random: ChaCha8Rng,
+}
+
+// Written out, so that other crates let them go by one call.
+impl Drop for FnState {
+    fn drop(self) {
+        let Self {
+            props: _props,
+            thread_num: _,
+            counted: _,
+            random: _,
+        } = self;
+    }
 }
 
 impl Model for FnState {
