@@ -88,7 +88,10 @@ impl Position {
         ensures { TurnsOn plan.now (O.account outside.old) self.old state.old (O.account outside.new) self.new state.new result }
     {
         match self.signal {
-            Signal::Normal => self.go_on(alloc, plan, state, outside),
+            Signal::Normal => match self.stack.top() {
+                Some(_) => self.top_turn(alloc, plan, state, outside),
+                None => self.group_turn(alloc, plan, state, outside),
+            },
             Signal::NextLoop | Signal::Stop(_) => Ok(self.leave_one()),
         }
     }

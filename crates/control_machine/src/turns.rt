@@ -79,26 +79,8 @@ impl Position {
         Move::Iteration(u64::from(index))
     }
 
-    // The innermost open element comes next, or the group.
-    pub(crate) fn go_on<O: Outside>(
-        &mut self,
-        alloc: Global,
-        plan: &Plan,
-        state: &mut UserState,
-        outside: &mut O,
-    ) -> Result<Went, VarError>
-        requires stands { StandsIn plan.now self.old }
-        requires normal { self.old.signal ≡ Signal.Normal }
-        ensures { TurnsOn plan.now (O.account outside.old) self.old state.old (O.account outside.new) self.new state.new result }
-    {
-        match self.stack.top() {
-            Some(_) => self.top_turn(alloc, plan, state, outside),
-            None => self.group_turn(alloc, plan, state, outside),
-        }
-    }
-
     // The innermost open element comes next.
-    fn top_turn<O: Outside>(
+    pub(crate) fn top_turn<O: Outside>(
         &mut self,
         alloc: Global,
         plan: &Plan,
@@ -163,7 +145,7 @@ impl Position {
     }
 
     // With no element open the group comes next: its child, or its next round.
-    fn group_turn<O: Outside>(
+    pub(crate) fn group_turn<O: Outside>(
         &mut self,
         alloc: Global,
         plan: &Plan,
