@@ -42,10 +42,10 @@ pub pipeline_send : (a : NamedLft) → IsSend (Pipeline.the_row a)
 pipeline_send a = view_send (PipelineInside.the_row a) _ _ _ _ (declared_send (PipelineInside.the_type a) (search (crosses, sendable) depth 20, (searches_send a, tt)))
 
 pub runner : (a : NamedLft) → IsSend (Runner.the_row a)
-runner a = declared_send (Runner.the_type a) (shr_send _ _ _ plan, (search sendable depth 20, (search sendable depth 20, (search sendable depth 20, (search (user.the_field_send, sendable) depth 20, (config.the_send, (table.the_send, (pipeline_send a, (machine.the_send, (search sendable depth 20, (search (sample.the_send, crosses, sendable) depth 20, (search (crosses, sendable) depth 20, (search (crosses, sendable) depth 20, (search (crosses, sendable) depth 20, (trace.the_send, (search sendable depth 20, tt))))))))))))))))
+runner a = declared_send (Runner.the_type a) (shr_send _ _ _ plan, (search sendable depth 20, (search sendable depth 20, (search sendable depth 20, (search (user.the_field_send, sendable) depth 20, (config.the_send, (table.the_send, (machine.the_send, (search sendable depth 20, (search (sample.the_send, crosses, sendable) depth 20, (search (crosses, sendable) depth 20, (search (crosses, sendable) depth 20, (search (crosses, sendable) depth 20, (trace.the_send, (search sendable depth 20, tt)))))))))))))))
 
 pub worker : (a : NamedLft) → IsSend (Worker.the_row a)
-worker a = view_send (WorkerInside.the_row a) _ _ _ _ (declared_send (WorkerInside.the_type a) (runner a, (search sendable depth 20, tt)))
+worker a = view_send (WorkerInside.the_row a) _ _ _ _ (declared_send (WorkerInside.the_type a) (runner a, (pipeline_send a, (search sendable depth 20, tt))))
 
 pub job : (a b : NamedLft) (O : RattleType) → IsSend O → IsSend (Job.the_row a b O)
 job a b O s = declared_send (Job.the_type a b O) (search sendable depth 20, (writer.the_send, (place.the_send, (shr_send _ _ _ places.the_sync, (worker a, (as_row_send (row_field O) s, tt))))))

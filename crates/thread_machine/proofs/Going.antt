@@ -5,6 +5,7 @@ use Rattle.jm_base.specs.declared.types.End.{End}
 use Rattle.jm_base.specs.declared.types.Entry.{Entry}
 use Rattle.jm_base.specs.declared.types.Sample.{Sample}
 use Rattle.element_tree.specs.Tree.{Tree}
+use Rattle.var_functions.specs.declared.state.UserState.{UserState}
 use Rattle.config_elements.specs.RoundStart.{feeds_of}
 use Rattle.node_table.specs.KeptPackages.{packages_of}
 use Rattle.control_machine.specs.Hearing.{told}
@@ -79,6 +80,11 @@ goes_on n last entering room moves known = record {
   known = known;
   enters = enters_none n entering;
 }
+
+-- no end comes next
+pub none_last : (o : Option End) → ((end : End) → o ≡ Some end → ⊥) → o ≡ None
+none_last None h = refl
+none_last (Some end) h = absurd (h end refl)
 
 no_last : (end : End) (o : Option End) → o ≡ Some end → o ≡ None → ⊥
 no_last end o some none = let i : Some end ≡ None = sym some ∙ none in cc
@@ -207,56 +213,44 @@ module _ (w mid : Runner) (m : IsMoving w) (is : mid ≡ record w { begun = mid.
 -- ---- after a sampler and a transaction's sample
 
 module _ (w : Runner) (moving : IsMoving w) (begun : w.begun ≡ true) where
-  module _ (ran_on mid : Runner) (ran_is : ran_on ≡ record w { user = ran_on.user; units = w.units - 1 }) (mid_is : mid ≡ record ran_on { trace = mid.trace })
-      (less : ran_on.trace.room ≤ mid.trace.room + 1) where
-    mid_all : mid ≡ record w { user = ran_on.user; units = w.units - 1; trace = mid.trace }
-    mid_all = mid_is ∙ ap (λ (r : Runner). record r { trace = mid.trace }) ran_is
+  module _ (user : UserState) (t : Recorded) (less : w.trace.room ≤ t.room + 1) where
+    -- the sampler has run, and its pause is in the trace
+    abbrev mid : Runner
+    mid = record w { user = user; units = w.units - 1; trace = t }
 
-    room_left : 3 ≤ mid.trace.room
-    room_left = let same : ran_on.trace.room ≡ w.trace.room = ap (λ (r : Runner). r.trace.room) ran_is in omega (arith, moving.room, same, less)
+    room_left : 3 ≤ t.room
+    room_left = omega (arith, moving.room, less)
 
     -- a sample is owed
-    pub sampled_goes : (new : Runner) (sample : Sample) (entry : Entry) (step : Step) → step ≡ Sampled entry → new ≡ record mid { owed = Some sample; machine = told sample mid.machine }
-        → (StandsIn mid.plan.now mid.machine → StandsIn new.plan.now new.machine) → open_lock new.machine.stack.frames ≡ open_lock mid.machine.stack.frames → GoesOnAfter new step
-    sampled_goes new sample entry step step_is new_is stands lock =
-        let all : new ≡ record w { user = ran_on.user; units = w.units - 1; trace = mid.trace; owed = Some sample; machine = told sample w.machine } =
-        new_is ∙ ap (λ (r : Runner). record r { owed = Some sample; machine = told sample r.machine }) mid_all in
+    pub sampled_goes : (new : Runner) (sample : Sample) (entry : Entry) (step : Step) → step ≡ Sampled entry → new ≡ record mid { owed = Some sample; machine = told sample w.machine }
+        → (StandsIn w.plan.now w.machine → StandsIn w.plan.now new.machine) → open_lock new.machine.stack.frames ≡ open_lock w.machine.stack.frames → GoesOnAfter new step
+    sampled_goes new sample entry step step_is is stands lock =
         let next : IsNext w new = record {
-          plan = ap (λ r. r.plan.now) all;
-          section = ap (λ r. r.section) all;
-          entering = ap (λ r. r.entering) all;
-          last = ap (λ r. r.last) all;
-          feeds = ap (λ r. r.config.feeds) all;
-          group = ap (λ r. r.machine.group.element) all;
-          lock = lock ∙ ap (λ r. open_lock r.machine.stack.frames) mid_all;
+          plan = ap (λ r. r.plan.now) is;
+          section = ap (λ r. r.section) is;
+          entering = ap (λ r. r.entering) is;
+          last = ap (λ r. r.last) is;
+          feeds = ap (λ r. r.config.feeds) is;
+          group = ap (λ r. r.machine.group.element) is;
+          lock = lock;
         } in
-        let one : owed_count new.owed ≡ 1 = ap (λ r. owed_count r.owed) all in
-        let left : new.trace.room ≡ mid.trace.room = ap (λ r. r.trace.room) new_is in
-        let three : 3 ≤ mid.trace.room = room_left in
+        let one : owed_count new.owed ≡ 1 = ap (λ r. owed_count r.owed) is in
+        let left : new.trace.room ≡ t.room = ap (λ r. r.trace.room) is in
+        let three : 3 ≤ t.room = room_left in
         subst (GoesOnAfter new) (sym step_is) (goes_on new (next.last ∙ moving.last) (next.entering ∙ moving.entering) (omega (arith, one, left, three))
-        (moves_next w new next moving.entering (ap (λ r. r.begun) all ∙ begun) moving.moves (stands (subst (λ (r : Runner). StandsIn r.plan.now r.machine) (sym mid_all) moving.moves.stands))
-        (subst (λ (r : Runner). r.table ≡ packages_of r.plan.now.elements) (sym all) moving.moves.table))
+        (moves_next w new next moving.entering (ap (λ r. r.begun) is ∙ begun) moving.moves (subst (λ (p : Tree). StandsIn p new.machine) (sym next.plan) (stands moving.moves.stands))
+        (subst (λ (r : Runner). r.table ≡ packages_of r.plan.now.elements) (sym is) moving.moves.table))
         (known_on w new next.plan next.section moving.known))
 
     -- none is
-    pub null_goes : (t : Recorded) → mid.trace.room ≤ t.room + 1 → GoesOn (record mid { trace = t })
-    null_goes t less_yet =
-        let n : Runner = record mid { trace = t } in
-        let next : IsNext w n = record {
-          plan = ap (λ r. r.plan.now) mid_all;
-          section = ap (λ r. r.section) mid_all;
-          entering = ap (λ r. r.entering) mid_all;
-          last = ap (λ r. r.last) mid_all;
-          feeds = ap (λ r. r.config.feeds) mid_all;
-          group = ap (λ r. r.machine.group.element) mid_all;
-          lock = ap (λ r. open_lock r.machine.stack.frames) mid_all;
-        } in
-        let none : owed_count mid.owed ≡ 0 = ap (λ r. owed_count r.owed) mid_all ∙ ap owed_count moving.owed in
-        let three : 3 ≤ mid.trace.room = room_left in
-        goes_on n (next.last ∙ moving.last) (next.entering ∙ moving.entering) (omega (arith, none, less_yet, three))
-        (moves_next w n next moving.entering (ap (λ r. r.begun) mid_all ∙ begun) moving.moves (subst (λ (r : Runner). StandsIn r.plan.now r.machine) (sym mid_all) moving.moves.stands)
-        (subst (λ (r : Runner). r.table ≡ packages_of r.plan.now.elements) (sym mid_all) moving.moves.table))
-        (known_on w n next.plan next.section moving.known)
+    pub null_goes : (noted : Recorded) → t.room ≤ noted.room + 1 → GoesOn (record mid { trace = noted })
+    null_goes noted less_yet =
+        let n : Runner = record mid { trace = noted } in
+        let next : IsNext w n = record { plan = refl; section = refl; entering = refl; last = refl; feeds = refl; group = refl; lock = refl } in
+        let none : owed_count w.owed ≡ 0 = ap owed_count moving.owed in
+        let three : 3 ≤ t.room = room_left in
+        goes_on n moving.last moving.entering (omega (arith, none, less_yet, three)) (moves_next w n next moving.entering begun moving.moves moving.moves.stands moving.moves.table)
+        (known_on w n refl refl moving.known)
 
   -- a transaction's sample is owed
   pub summed_goes : (new : Runner) (sample : Sample) (entry : Entry) (step : Step) → step ≡ Sampled entry → new ≡ record w { units = w.units - 1; owed = Some sample } → GoesOnAfter new step

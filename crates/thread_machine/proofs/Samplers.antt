@@ -99,6 +99,11 @@ paused_goes {b = b} (suc ms) e run left g = goes-append g (goes-give b e left)
 at_some : {X : Type 0} (o : Option X) (x : X) (P : X → Type 0) → o ≡ Some x → IfSome o P → P x
 at_some o x P is h = subst (λ o. IfSome o P) is h
 
+-- the machine is told of a sample, which is owed
+pub told_owed : (w : Runner) (sample : Sample) (owed : Option Sample) (machine : Position) → owed ≡ Some sample → machine ≡ told sample w.machine
+    → record w { owed = owed; machine = machine } ≡ record w { owed = Some sample; machine = told sample w.machine }
+told_owed w sample owed machine owed_is machine_is = ap (λ o. record w { owed = o; machine = machine }) owed_is ∙ ap (λ m. record w { owed = Some sample; machine = m }) machine_is
+
 module _ (w : Runner) (number : ℕ) (r : IsSampler w.plan.now.elements number) where
   abbrev sampler_run : Run Ending
   sampler_run = moved w.plan.now w.machine (state_in (standing_of w false)) (RunSampler number)
@@ -172,12 +177,12 @@ module _ (w : Runner) (number : ℕ) (r : IsSampler w.plan.now.elements number) 
     sampler_of n is = record { element = r.element; there = r.there; kind_is = sampler_class r.element.kind r.of_kind; label_is = is ∙ label_is }
 
     -- a sample
-    pub gave_sample : (done : Done) (sample : Sample) (ran_on : Runner) (t : Recorded) (new : Runner) (step : Step) → w.pause ≡ 0 → w.last ≡ None → w.begun ≡ true → done.sample ≡ Some sample
+    pub gave_sample : (done : Done) (sample : Sample) (t : Recorded) (new : Runner) (step : Step) → w.pause ≡ 0 → w.last ≡ None → w.begun ≡ true → done.sample ≡ Some sample
         → IfSome done.sample (λ s. s.label ≡ label_at w.plan.now.elements number)
         → Goes a (piped w.user) [] (over (fine done user)) b → t.items ≡ trace_paused w.trace.items done.paused
         → new ≡ record w { user = user; units = w.units - 1; owed = Some sample; machine = told sample w.machine; trace = t }
         → step ≡ SampledStep (entry_of sample) → Gives a b (and_end sampler_run) (standing_of w false) (standing_of new (is_end step)) step
-    gave_sample done sample ran_on t new step paused last begun o_is labelled goes items new_is step_is =
+    gave_sample done sample t new step paused last begun o_is labelled goes items new_is step_is =
         let n : Runner = record w { user = user; units = w.units - 1; owed = Some sample; machine = told sample w.machine; trace = t } in
         let d : Done = record { sample = Some sample; paused = done.paused } in
         let same : done ≡ d = ap (λ o. record { sample = o; paused = done.paused }) o_is in
@@ -221,38 +226,11 @@ module _ (w : Runner) (number : ℕ) (r : IsSampler w.plan.now.elements number) 
         }
 
     -- a refusal
-    refused_there : (ran_on : Runner) (error : VarError) → CameTo {B = Done} a (piped w.user) b (λ done. over (fine done user)) (over (past_limit user)) (Err error)
+    pub refused_there : (error : VarError) → CameTo {B = Done} a (piped w.user) b (λ done. over (fine done user)) (over (past_limit user)) (Err error)
         → IsRefusedAt a sampler_run b w (record w { user = user; units = w.units - 1 }) error
-    refused_there ran_on error came = record {
+    refused_there error came = record {
       state = state_of user own;
       refused = ran (Err error) came;
       same = record { plan = refl; thread = refl; pause = refl; owed = refl; entering = refl; section = refl; last = refl; fewer = omega arith };
       trace = refl;
     }
-
-    -- ---- the same, by the thread between the calls of a step
-
-    module _ (done : Done) (ran_on mid : Runner) (ran_is : ran_on ≡ record w { user = user; units = w.units - 1 }) (items : mid.trace.items ≡ trace_paused ran_on.trace.items done.paused)
-        (mid_is : mid ≡ record ran_on { trace = mid.trace }) (goes : Goes a (piped w.user) [] (over (fine done user)) b) (paused : w.pause ≡ 0) (last : w.last ≡ None) (begun : w.begun ≡ true) where
-      items_are : mid.trace.items ≡ trace_paused w.trace.items done.paused
-      items_are = items ∙ ap (λ (r : Runner). trace_paused r.trace.items done.paused) ran_is
-
-      mid_all : mid ≡ record w { user = user; units = w.units - 1; trace = mid.trace }
-      mid_all = mid_is ∙ ap (λ (r : Runner). record r { trace = mid.trace }) ran_is
-
-      pub sampled_at : (sample : Sample) (new : Runner) (step : Step) → done.sample ≡ Some sample → IfSome done.sample (λ s. s.label ≡ label_at w.plan.now.elements number)
-          → new ≡ record mid { owed = Some sample; machine = told sample mid.machine } → step ≡ SampledStep (entry_of sample)
-          → Gives a b (and_end sampler_run) (standing_of w false) (standing_of new (is_end step)) step
-      sampled_at sample new step o_is labelled new_is step_is =
-          gave_sample done sample ran_on mid.trace new step paused last begun o_is labelled goes items_are
-          (new_is ∙ ap (λ (r : Runner). record r { owed = Some sample; machine = told sample r.machine }) mid_all) step_is
-
-      pub null_at : (t : Recorded) → w.machine.signal ≡ Normal → done.sample ≡ None → t.items ≡ mid.trace.items ++ NullItem number ∷ []
-          → GivesNone a b (and_end sampler_run) (standing_of w false) (standing_of (record mid { trace = t }) false)
-      null_at t calm o_is t_items =
-          subst (λ (r : Runner). GivesNone a b (and_end sampler_run) (standing_of w false) (standing_of (record r { trace = t }) false)) (sym mid_all)
-          (gave_none done t paused last begun calm o_is goes (t_items ∙ ap (λ xs. xs ++ NullItem number ∷ []) items_are))
-
-    pub refused_at : (ran_on : Runner) (error : VarError) → ran_on ≡ record w { user = user; units = w.units - 1 }
-        → CameTo {B = Done} a (piped w.user) b (λ done. over (fine done user)) (over (past_limit user)) (Err error) → IsRefusedAt a sampler_run b w ran_on error
-    refused_at ran_on error is came = subst (λ (r : Runner). IsRefusedAt a sampler_run b w r error) (sym is) (refused_there ran_on error came)

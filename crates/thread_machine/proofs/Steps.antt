@@ -422,16 +422,19 @@ cut_at_once a w new same items = record {
   cut = record { left = rest (standing_of w false); goes = goes-nothing a (rest (standing_of w false)); same = same; items = items };
 }
 
--- a thread that was cut after room was taken and the pause was made
-pub cut_later : {X E : Type 0} (a m b : Account) (w : Runner) (t : Recorded) (mid new : Runner) (r : Result X E) → t.items ≡ w.trace.items
-    → IsBegun a m (record w { trace = t }) mid → OnErr r (IsCutAt m b mid new) → OnErr r (IsCutAfter a b w new)
-cut_later a m b w t mid new (Ok x) same begun cut = tt
-cut_later a m b w t mid new (Err e) same begun cut = record {
-  begun = m;
-  between = mid;
-  begins = subst (λ xs. Begins a m (record (standing_of w false) { trace = xs }) (standing_of mid false)) same begun.begins;
-  cut = cut;
-}
+-- after room was taken and the pause was made: what begins there
+module _ (a m b : Account) (w : Runner) (t : Recorded) (mid new : Runner) where
+  begins_before : t.items ≡ w.trace.items → IsBegun a m (record w { trace = t }) mid → Begins a m (standing_of w false) (standing_of mid false)
+  begins_before same begun = subst (λ xs. Begins a m (record (standing_of w false) { trace = xs }) (standing_of mid false)) same begun.begins
+
+  -- a thread that has made its next move
+  pub begun_steps : (step : Step) → t.items ≡ w.trace.items → IsBegun a m (record w { trace = t }) mid → Gives m b (rest (standing_of mid false)) (standing_of mid false) (standing_of new (is_end step)) step
+      → Steps a b (standing_of w false) (standing_of new (is_end step)) step
+  begun_steps step same begun gives = record { begun = m; between = standing_of mid false; begins = begins_before same begun; gives = gives }
+
+  -- one that was cut
+  pub cut_later : t.items ≡ w.trace.items → IsBegun a m (record w { trace = t }) mid → IsCutAt m b mid new → IsCutAfter a b w new
+  cut_later same begun cut = record { begun = m; between = mid; begins = begins_before same begun; cut = cut }
 
 -- a thread that was cut has ended out of memory, and its open section was left
 pub cut_ended : (a b : Account) (w new : Runner) (t : Recorded) → IsCutAfter a b w new → t.items ≡ new.trace.items ++ (left_traced new.section ++ EndedItem EndNoMemory ∷ [])

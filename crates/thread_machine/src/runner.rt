@@ -36,10 +36,9 @@ use std::alloc::Global;
 use var_functions::{FnState, Props, UserState, VarError, Vars};
 
 /// A thread: its plan and number, the pause before its first variables that is still to come, whether those are set, its
-/// variables and what functions keep, what it keeps of Counters and data sets, the packages of the plan's samplers and what
-/// runs them, the machine of moves, the units left of its sample budget, the sample that is still to be noted, the lock of the
-/// section that is still to be entered and of the one that is open, the end that comes after a section was left for a limit,
-/// and its trace.
+/// variables and what functions keep, what it keeps of Counters and data sets, the packages of the plan's samplers, the machine
+/// of moves, the units left of its sample budget, the sample that is still to be noted, the lock of the section that is still to
+/// be entered and of the one that is open, the end that comes after a section was left for a limit, and its trace.
 pub struct Runner<'p> {
     pub plan: &'p Plan,
     pub thread: u16,
@@ -48,7 +47,6 @@ pub struct Runner<'p> {
     pub user: UserState,
     pub config: ConfigState,
     pub table: NodeTable,
-    pub pipeline: Pipeline<'p>,
     pub machine: Machine,
     pub units: u32,
     pub owed: Option<Sample>,
@@ -70,7 +68,6 @@ impl<'p> Drop for Runner<'p> {
             user: _user,
             config: _config,
             table: _table,
-            pipeline: _pipeline,
             machine: _machine,
             units: _,
             owed: _owed,
@@ -113,7 +110,6 @@ impl<'p> Runner<'p> {
             user: UserState { vars, fns },
             config,
             table,
-            pipeline: Pipeline::new(alloc),
             machine,
             units: budget,
             owed: None,
@@ -125,8 +121,9 @@ impl<'p> Runner<'p> {
         })
     }
 
-    /// A step. Out of memory, the thread stays as it was cut, with room for a section that is left and for its end.
-    pub fn try_step<O: Outside>(&mut self, outside: &mut O) -> M<Step>
+    /// A step, in which `samplers` runs the sampler that comes next. A limit ends the thread. Out of memory, it stays as it was
+    /// cut, with room for a section that is left and for its end.
+    pub fn try_step<O: Outside>(&mut self, samplers: &mut Pipeline<'p>, outside: &mut O) -> M<Step>
         requires owed { self.old.owed ≡ None }
         requires entering { self.old.entering ≡ None }
         requires on { GoesOn self.old }
@@ -136,9 +133,15 @@ impl<'p> Runner<'p> {
         ensures cut { OnErr result (IsCutAfter (O.account outside.old) (O.account outside.new) self.old self.new) }
         ensures room { OnErr result (2 ≤ self.new.trace.room) }
     {
-        match self.last {
-            Some(end) => Ok(self.finish(end)),
-            None => self.next_step(outside),
+        if let Some(end) = self.last {
+            return Ok(self.trace.finish(end));
+        }
+        self.trace.make_room()?;
+        self.pause_first(outside)?;
+        match self.move_on(samplers, outside) {
+            Ok(step) => Ok(step),
+            Err(VarError::ValueLimit) => Ok(self.end_by(End::ValueLimit)),
+            Err(VarError::NoMemory) => Err(NoMemory),
         }
     }
 
@@ -150,28 +153,12 @@ impl<'p> Runner<'p> {
     {
         match self.section {
             Some(lock) => {
-                let _left = self.leave(lock);
+                self.section = None;
+                let _left = self.trace.leave(lock);
                 self.trace.put(TraceItem::Ended(end));
             }
             None => self.trace.put(TraceItem::Ended(end)),
         }
-    }
-
-    // A step of a thread that makes more moves.
-    fn next_step<O: Outside>(&mut self, outside: &mut O) -> M<Step>
-        requires owed { self.old.owed ≡ None }
-        requires entering { self.old.entering ≡ None }
-        requires last { self.old.last ≡ None }
-        requires on { GoesOn self.old }
-        ensures steps { IfOk result (λ step. Steps (O.account outside.old) (O.account outside.new)
-            (standing_of self.old false) (standing_of self.new (is_end step)) step) }
-        ensures on { IfOk result (GoesOnAfter self.new) }
-        ensures cut { OnErr result (IsCutAfter (O.account outside.old) (O.account outside.new) self.old self.new) }
-        ensures room { OnErr result (2 ≤ self.new.trace.room) }
-    {
-        self.trace.make_room()?;
-        self.pause_first(outside)?;
-        self.go_on(outside)
     }
 
     // The pause before the first variables, if it is still to come.
@@ -192,22 +179,6 @@ impl<'p> Runner<'p> {
         Ok(())
     }
 
-    // What comes next after the pause: a sampler runs, or the thread ends. A limit ends it.
-    fn go_on<O: Outside>(&mut self, outside: &mut O) -> M<Step>
-        requires { IsMoving self.old }
-        ensures gives { IfOk result (λ step. Gives (O.account outside.old) (O.account outside.new) (rest (standing_of self.old false))
-            (standing_of self.old false) (standing_of self.new (is_end step)) step) }
-        ensures on { IfOk result (GoesOnAfter self.new) }
-        ensures cut { OnErr result (IsCutAt (O.account outside.old) (O.account outside.new) self.old self.new) }
-        ensures room { OnErr result (2 ≤ self.new.trace.room) }
-    {
-        match self.move_on(outside) {
-            Ok(step) => Ok(step),
-            Err(VarError::ValueLimit) => Ok(self.end_by(End::ValueLimit)),
-            Err(VarError::NoMemory) => Err(NoMemory),
-        }
-    }
-
     // A limit ends the thread: where a section is open it is left, and the end comes next.
     fn end_by(&mut self, end: End) -> Step
         requires room { 1 ≤ self.old.trace.room }
@@ -216,41 +187,21 @@ impl<'p> Runner<'p> {
     {
         match self.section {
             Some(lock) => {
+                self.section = None;
                 self.last = Some(end);
-                self.leave(lock)
+                self.trace.leave(lock)
             }
-            None => self.finish(end),
+            None => self.trace.finish(end),
         }
-    }
-
-    // The open section is left, and the trace says so.
-    fn leave(&mut self, lock: u16) -> Step
-        requires room { 1 ≤ self.old.trace.room }
-        ensures step { result ≡ Step.Leave lock }
-        ensures items { self.new.trace.items ≡ self.old.trace.items ++ TraceItem.Left lock ∷ [] }
-        ensures room { self.old.trace.room ≤ self.new.trace.room + 1 }
-        ensures kept { self.new ≡ record self.old { section = None; trace = self.new.trace } }
-    {
-        self.section = None;
-        self.trace.put(TraceItem::Left { lock });
-        Step::Leave(lock)
-    }
-
-    // The thread ends, and its trace says so.
-    fn finish(&mut self, end: End) -> Step
-        requires room { 1 ≤ self.old.trace.room }
-        ensures step { result ≡ Step.Ended end }
-        ensures items { self.new.trace.items ≡ self.old.trace.items ++ TraceItem.Ended end ∷ [] }
-        ensures room { self.old.trace.room ≤ self.new.trace.room + 1 }
-        ensures kept { self.new ≡ record self.old { trace = self.new.trace } }
-    {
-        self.trace.put(TraceItem::Ended(end));
-        Step::Ended(end)
     }
 
     // The next move is made: a sampler runs, a transaction gives its sample, a section is entered or left, or the thread's
     // rounds are over.
-    fn move_on<O: Outside>(&mut self, outside: &mut O) -> Result<Step, VarError>
+    fn move_on<O: Outside>(
+        &mut self,
+        samplers: &mut Pipeline<'p>,
+        outside: &mut O,
+    ) -> Result<Step, VarError>
         requires { IsMoving self.old }
         ensures gives { IfOk result (λ step. Gives (O.account outside.old) (O.account outside.new) (and_end (left_to self.old))
             (standing_of self.old false) (standing_of self.new (is_end step)) step) }
@@ -258,11 +209,14 @@ impl<'p> Runner<'p> {
         ensures refused { IfErr result (IsRefusedAt (O.account outside.old) (left_to self.old) (O.account outside.new) self.old self.new) }
     {
         match self.next_move(outside) {
-            Ok(Move::RunSampler(number)) => self.sample(number, outside),
+            Ok(Move::RunSampler(number)) => self.sample(number, samplers, outside),
             Ok(Move::TransactionSample { element, tally }) => self.sum_up(element, tally),
             Ok(Move::EnterSection(lock)) => Ok(self.enter(lock)),
-            Ok(Move::LeaveSection(lock)) => Ok(self.leave(lock)),
-            Ok(Move::Finished(end)) => Ok(self.finish(end)),
+            Ok(Move::LeaveSection(lock)) => {
+                self.section = None;
+                Ok(self.trace.leave(lock))
+            }
+            Ok(Move::Finished(end)) => Ok(self.trace.finish(end)),
             Ok(_) => unreachable!(),
             Err(error) => Err(error),
         }
@@ -313,7 +267,12 @@ impl<'p> Runner<'p> {
     }
 
     // A unit is used, and the sampler of this number runs.
-    fn sample<O: Outside>(&mut self, number: u16, outside: &mut O) -> Result<Step, VarError>
+    fn sample<O: Outside>(
+        &mut self,
+        number: u16,
+        samplers: &mut Pipeline<'p>,
+        outside: &mut O,
+    ) -> Result<Step, VarError>
         requires moving { IsMoving self.old }
         requires begun { self.old.begun ≡ true }
         requires normal { IsNormalAt (Move.RunSampler number) self.old.machine.signal }
@@ -330,11 +289,20 @@ impl<'p> Runner<'p> {
             return Ok(self.end_by(End::SampleLimit));
         }
         self.units -= 1;
-        match self.run_sampler(number, outside) {
+        match samplers.run(
+            self.plan,
+            self.table.package(number),
+            number,
+            &mut self.user,
+            outside,
+        ) {
             Ok(Done { sample, paused }) => {
-                self.put_pause(paused);
+                self.trace.put_pause(paused);
                 match sample {
-                    Some(sample) => Ok(self.tell(sample)),
+                    Some(sample) => {
+                        self.machine.after(&sample);
+                        Ok(owe(&mut self.owed, sample))
+                    }
                     None => {
                         self.trace.put(TraceItem::Null { sampler: number });
                         Ok(Step::Null)
@@ -343,57 +311,6 @@ impl<'p> Runner<'p> {
             }
             Err(error) => Err(error),
         }
-    }
-
-    // The sampler of this number runs with the elements that apply to it.
-    fn run_sampler<O: Outside>(&mut self, number: u16, outside: &mut O) -> Result<Done, VarError>
-        requires there { IsSampler self.old.plan.now.elements number }
-        requires table { self.old.table ≡ packages_of self.old.plan.now.elements }
-        ensures came { CameTo (O.account outside.old) (pipeline self.old.plan.now.elements (scope_of self.old.plan.now.elements number) number self.old.user)
-            (O.account outside.new) (λ done. over (fine done self.new.user)) (over (past_limit self.new.user)) result }
-        ensures label { IfOk result (λ done. IfSome done.sample (λ s. s.label ≡ label_at self.old.plan.now.elements number)) }
-        ensures kept { self.new ≡ record self.old { user = self.new.user } }
-    {
-        self.pipeline.run(
-            self.plan,
-            self.table.package(number),
-            number,
-            &mut self.user,
-            outside,
-        )
-    }
-
-    // A pause of that many milliseconds is put into the trace, if it is any.
-    fn put_pause(&mut self, ms: u32)
-        requires room { 1 ≤ self.old.trace.room }
-        ensures items { self.new.trace.items ≡ trace_paused self.old.trace.items ms }
-        ensures room { self.old.trace.room ≤ self.new.trace.room + 1 }
-        ensures kept { self.new ≡ record self.old { trace = self.new.trace } }
-    {
-        if ms > 0 {
-            self.trace.put(TraceItem::Paused(ms));
-        }
-    }
-
-    // The machine is told of a sampler's sample, which is owed to the trace.
-    fn tell(&mut self, sample: Sample) -> Step
-        ensures step { result ≡ Step.Sampled (entry_of sample) }
-        ensures new { self.new ≡ record self.old { owed = Some sample; machine = told sample self.old.machine } }
-        ensures stands { StandsIn self.old.plan.now self.old.machine → StandsIn self.new.plan.now self.new.machine }
-        ensures lock { open_lock self.new.machine.stack.frames ≡ open_lock self.old.machine.stack.frames }
-    {
-        self.machine.after(&sample);
-        self.owe(sample)
-    }
-
-    // A sample is owed to the trace.
-    fn owe(&mut self, sample: Sample) -> Step
-        ensures step { result ≡ Step.Sampled (entry_of sample) }
-        ensures new { self.new ≡ record self.old { owed = Some sample } }
-    {
-        let entry = sample.entry();
-        self.owed = Some(sample);
-        Step::Sampled(entry)
     }
 
     // A unit is used, and the transaction of this number gives its sample.
@@ -413,11 +330,11 @@ impl<'p> Runner<'p> {
             return Ok(self.end_by(End::SampleLimit));
         }
         let label = self.plan.label_of(element);
-        let Ok(sample) = tally.sample(self.alloc, label) else {
+        let Ok(sum) = tally.sample(self.alloc, label) else {
             return Err(VarError::NoMemory);
         };
         self.units -= 1;
-        Ok(self.owe(sample))
+        Ok(owe(&mut self.owed, sum))
     }
 
     // A unit is used, and the section of this lock is to be entered.
@@ -429,12 +346,22 @@ impl<'p> Runner<'p> {
         ensures on { GoesOnAfter self.new result }
     {
         if self.units == 0 {
-            return self.finish(End::SampleLimit);
+            return self.trace.finish(End::SampleLimit);
         }
         self.units -= 1;
         self.entering = Some(lock);
         Step::Enter(lock)
     }
+}
+
+// A sample is owed to the trace.
+fn owe(owed: &mut Option<Sample>, sample: Sample) -> Step
+    ensures step { result ≡ Step.Sampled (entry_of sample) }
+    ensures owed { owed.new ≡ Some sample }
+{
+    let entry = sample.entry();
+    *owed = Some(sample);
+    Step::Sampled(entry)
 }
 
 // Goes on from move to move, up to one that is not the begin of a round of the group.

@@ -1,7 +1,9 @@
 // The trace of a thread, with room for what must still be said.
 
 ghost use Rattle.std.specs.Prelude.{◌≡◌, ◌∷◌, [], ◌++◌, ◌+◌, ◌-◌, ◌<◌, ◌≤◌, OnOk, IfOk};
+ghost use Rattle.thread_machine.specs.Stepped.{trace_paused};
 
+use crate::step::Step;
 use jm_base::{End, M, Sample};
 use std::alloc::Global;
 use std::marker::Model;
@@ -81,6 +83,39 @@ impl Trace {
         if pushed.is_err() {
             unreachable!();
         }
+    }
+
+    /// Appends a pause of that many milliseconds, if it is any.
+    pub fn put_pause(&mut self, ms: u32)
+        requires { 0 < self.old.room }
+        ensures items { self.new.items ≡ trace_paused self.old.items ms }
+        ensures room { self.old.room ≤ self.new.room + 1 }
+    {
+        if ms > 0 {
+            self.put(TraceItem::Paused(ms));
+        }
+    }
+
+    /// Says that the open section, which is of this lock, is left.
+    pub fn leave(&mut self, lock: u16) -> Step
+        requires { 0 < self.old.room }
+        ensures step { result ≡ Step.Leave lock }
+        ensures items { self.new.items ≡ self.old.items ++ TraceItem.Left lock ∷ [] }
+        ensures room { self.old.room ≤ self.new.room + 1 }
+    {
+        self.put(TraceItem::Left { lock });
+        Step::Leave(lock)
+    }
+
+    /// Says how the thread ends.
+    pub fn finish(&mut self, end: End) -> Step
+        requires { 0 < self.old.room }
+        ensures step { result ≡ Step.Ended end }
+        ensures items { self.new.items ≡ self.old.items ++ TraceItem.Ended end ∷ [] }
+        ensures room { self.old.room ≤ self.new.room + 1 }
+    {
+        self.put(TraceItem::Ended(end));
+        Step::Ended(end)
     }
 
     /// The items, from the first.

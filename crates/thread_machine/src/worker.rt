@@ -19,6 +19,7 @@ use crate::step::Step;
 use crate::trace::TraceItem;
 use element_tree::Plan;
 use jm_base::{End, M, Outside};
+use sampler_pipeline::Pipeline;
 use std::alloc::Global;
 use std::marker::Model;
 use var_functions::Props;
@@ -28,6 +29,8 @@ use var_functions::Props;
 #[derive(Drop)]
 pub struct Worker<'p> {
     runner: Runner<'p>,
+    // What runs its samplers. It stands beside the runner, whose other parts have nothing to do with it.
+    pipeline: Pipeline<'p>,
     ended: bool,
 }
 
@@ -65,6 +68,7 @@ impl<'p> Worker<'p> {
     {
         Ok(Worker {
             runner: Runner::new(alloc, plan, number, seed, props, budget)?,
+            pipeline: Pipeline::new(alloc),
             ended: false,
         })
     }
@@ -91,7 +95,7 @@ impl<'p> Worker<'p> {
         // Samples and sections use units, those that are still owed to the trace too.
         ensures units { uses_in self.new + self.new.units ≤ uses_in self.old + self.old.units }
     {
-        match self.runner.try_step(outside) {
+        match self.runner.try_step(&mut self.pipeline, outside) {
             Ok(step) => {
                 self.ended = is_end(&step);
                 step

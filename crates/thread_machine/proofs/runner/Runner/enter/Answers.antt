@@ -1,4 +1,4 @@
-use Rattle.std.proofs.Common.{◌-◌, ap}
+use Rattle.std.proofs.Common.{◌-◌, refl}
 use Rattle.jm_base.specs.declared.types.End.TheVariants.{SampleLimit}
 use Rattle.thread_machine.proofs.Going.{has_settled, enters_goes}
 use Rattle.thread_machine.proofs.Steps.{enters_none, enters_one}
@@ -6,12 +6,11 @@ use Rattle.thread_machine.proofs.runner.Runner.enter.Goals as goal
 
 pub returns-then-self-eq0-clause-gives : goal.returns-then-self-eq0-clause-gives
 returns-then-self-eq0-clause-gives c = λ a.
-    enters_none c.args.self.now c.args.lock a c.requires.there c.requires.none_open c.finish.new.self c.finish.result c.if-self-eq0.true c.finish.ensures.kept c.finish.ensures.items c.finish.ensures.step
+    enters_none c.args.self.now c.args.lock a c.requires.there c.requires.none_open (record c.args.self.now { trace = c.finish.new.self }) c.finish.result c.if-self-eq0.true refl c.finish.ensures.items c.finish.ensures.step
 
 pub returns-then-self-eq0-clause-on : goal.returns-then-self-eq0-clause-on
 returns-then-self-eq0-clause-on c =
-    let kept = c.finish.ensures.kept in
-    has_settled c.args.self.now c.finish.new.self c.finish.result SampleLimit c.finish.ensures.step (ap (λ r. r.owed) kept) (ap (λ r. r.entering) kept) (ap (λ r. r.section) kept)
+    has_settled c.args.self.now (record c.args.self.now { trace = c.finish.new.self }) c.finish.result SampleLimit c.finish.ensures.step refl refl refl
     c.requires.owed c.requires.entering c.requires.none_open
 
 pub returns-clause-gives : goal.returns-clause-gives

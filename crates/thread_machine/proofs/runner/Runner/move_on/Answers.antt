@@ -1,4 +1,4 @@
-use Rattle.std.proofs.Common.{◌∙◌, ap, subst, false}
+use Rattle.std.proofs.Common.{ap, subst, refl, None, false}
 use Rattle.std.proofs.lemmas.Result.{IfOk-weaker, IfErr-weaker}
 use Rattle.control_machine.specs.declared.moves.Move.TheVariants.{RunSampler, TransactionSample, EnterSection}
 use Rattle.control_machine.specs.Left.{IsLock}
@@ -51,25 +51,24 @@ returns-in-Ok-EnterSection-clause-gives g c =
 pub returns-in-Ok-LeaveSection-clause-gives : goal.returns-in-Ok-LeaveSection-clause-gives
 returns-in-Ok-LeaveSection-clause-gives g c =
     let e = c.in-Ok-LeaveSection.ensures in
-    left_section _ _ c.args.self.now c.next_move.new.self c.leave.new.self c.in-Ok-LeaveSection.lock c.in-Ok-LeaveSection.field-0 c.leave.result c.in-Ok-LeaveSection.field-0-is
+    left_section _ _ c.args.self.now c.next_move.new.self (record c.next_move.new.self { section = None; trace = c.leave.new.self }) c.in-Ok-LeaveSection.lock c.in-Ok-LeaveSection.field-0 c.leave.result c.in-Ok-LeaveSection.field-0-is
     (subst (λ r. IsLock r.plan.now.elements c.in-Ok-LeaveSection.lock) e.kept (rw c.in-Ok-LeaveSection.field-0-is at e.moved.given))
-    (rw c.in-Ok-LeaveSection.field-0-is at e.moved.lock).0 c.requires.pause c.requires.last e.came e.kept e.begun c.leave.ensures.kept c.leave.ensures.items c.leave.ensures.step
+    (rw c.in-Ok-LeaveSection.field-0-is at e.moved.lock).0 c.requires.pause c.requires.last e.came e.kept e.begun refl c.leave.ensures.items c.leave.ensures.step
 
 pub returns-in-Ok-LeaveSection-clause-on : goal.returns-in-Ok-LeaveSection-clause-on
 returns-in-Ok-LeaveSection-clause-on g c =
     let e = c.in-Ok-LeaveSection.ensures in
-    left_goes c.args.self.now c.next_move.new.self c.leave.new.self c.in-Ok-LeaveSection.lock c.leave.result c.leave.ensures.step c.requires
-    e.kept e.begun c.leave.ensures.kept c.leave.ensures.room e.moved.stands e.moved.feeds (rw c.in-Ok-LeaveSection.field-0-is at e.moved.lock).1
+    left_goes c.args.self.now c.next_move.new.self (record c.next_move.new.self { section = None; trace = c.leave.new.self }) c.in-Ok-LeaveSection.lock c.leave.result c.leave.ensures.step c.requires
+    e.kept e.begun refl c.leave.ensures.room e.moved.stands e.moved.feeds (rw c.in-Ok-LeaveSection.field-0-is at e.moved.lock).1
 
 pub returns-in-Ok-Finished-clause-gives : goal.returns-in-Ok-Finished-clause-gives
 returns-in-Ok-Finished-clause-gives g c =
-    finished _ _ c.args.self.now c.next_move.new.self c.finish.new.self (state_in (standing_of c.next_move.new.self false)) c.in-Ok-Finished.end c.in-Ok-Finished.field-0 c.finish.result
+    finished _ _ c.args.self.now c.next_move.new.self (record c.next_move.new.self { trace = c.finish.new.self }) (state_in (standing_of c.next_move.new.self false)) c.in-Ok-Finished.end c.in-Ok-Finished.field-0 c.finish.result
     c.in-Ok-Finished.field-0-is (rw c.in-Ok-Finished.field-0-is at c.in-Ok-Finished.ensures.moved.given) (rw c.in-Ok-Finished.field-0-is at c.in-Ok-Finished.ensures.moved.lock).0
-    c.in-Ok-Finished.ensures.came c.in-Ok-Finished.ensures.kept c.finish.ensures.kept c.finish.ensures.items c.finish.ensures.step
+    c.in-Ok-Finished.ensures.came c.in-Ok-Finished.ensures.kept refl c.finish.ensures.items c.finish.ensures.step
 
 pub returns-in-Ok-Finished-clause-on : goal.returns-in-Ok-Finished-clause-on
 returns-in-Ok-Finished-clause-on g c =
     let kept = c.in-Ok-Finished.ensures.kept in
-    let done = c.finish.ensures.kept in
-    has_settled c.args.self.now c.finish.new.self c.finish.result c.in-Ok-Finished.end c.finish.ensures.step (ap (λ r. r.owed) done ∙ ap (λ r. r.owed) kept) (ap (λ r. r.entering) done ∙ ap (λ r. r.entering) kept)
-    (ap (λ r. r.section) done ∙ ap (λ r. r.section) kept) c.requires.owed c.requires.entering (rw c.in-Ok-Finished.field-0-is at c.in-Ok-Finished.ensures.moved.lock).0
+    has_settled c.args.self.now (record c.next_move.new.self { trace = c.finish.new.self }) c.finish.result c.in-Ok-Finished.end c.finish.ensures.step (ap (λ r. r.owed) kept) (ap (λ r. r.entering) kept)
+    (ap (λ r. r.section) kept) c.requires.owed c.requires.entering (rw c.in-Ok-Finished.field-0-is at c.in-Ok-Finished.ensures.moved.lock).0

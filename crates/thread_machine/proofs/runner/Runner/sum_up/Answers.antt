@@ -1,4 +1,4 @@
-use Rattle.std.proofs.Common.{◌<◌, length, arith}
+use Rattle.std.proofs.Common.{◌<◌, ◌-◌, length, ap, arith}
 use Rattle.std.proofs.lemmas.Option.{slice_get_within}
 use Rattle.jm_base.specs.declared.types.End.TheVariants.{SampleLimit}
 use Rattle.thread_machine.specs.Stepped.{entry_of}
@@ -25,10 +25,10 @@ returns-in_default-clause-refused c = λ a. sum_wanting c.args.self.now c.args.e
 
 pub returns-clause-gives : goal.returns-clause-gives
 returns-clause-gives c = λ a.
-    gave_sum c.args.self.now c.args.element c.args.tally c.requires.there c.if-self-eq0.false a c.in-Ok.sample c.label_of-label.result c.owe.new.self c.owe.result
-    c.requires.moving.pause c.requires.moving.last c.requires.begun c.in-Ok.ensures c.label_of-label.ensures c.owe.ensures.new c.owe.ensures.step
+    gave_sum c.args.self.now c.args.element c.args.tally c.requires.there c.if-self-eq0.false a c.in-Ok.sum c.label_of-label.result (record c.args.self.now { units = c.args.self.now.units - 1; owed = c.owe.new.owed }) c.owe.result
+    c.requires.moving.pause c.requires.moving.last c.requires.begun c.in-Ok.ensures c.label_of-label.ensures (ap (λ o. record c.args.self.now { units = c.args.self.now.units - 1; owed = o }) c.owe.ensures.owed) c.owe.ensures.step
 
 pub returns-clause-on : goal.returns-clause-on
 returns-clause-on c =
     summed_goes c.args.self.now c.requires.moving c.requires.begun
-    c.owe.new.self c.in-Ok.sample (entry_of c.in-Ok.sample) c.owe.result c.owe.ensures.step c.owe.ensures.new
+    (record c.args.self.now { units = c.args.self.now.units - 1; owed = c.owe.new.owed }) c.in-Ok.sum (entry_of c.in-Ok.sum) c.owe.result c.owe.ensures.step (ap (λ o. record c.args.self.now { units = c.args.self.now.units - 1; owed = o }) c.owe.ensures.owed)
