@@ -7,18 +7,13 @@ use Rattle.std.proofs.lemmas.List.{drop_all}
 use Rattle.jm_base.specs.Run.{over}
 use Rattle.jm_base.specs.Outside.{Account}
 use Rattle.element_tree.specs.declared.kinds.Element.{Element}
-use Rattle.jm_meaning.specs.declared.signal.Signal.{Signal}
 use Rattle.jm_meaning.specs.declared.signal.Signal.TheVariants.{Normal}
 use Rattle.jm_meaning.specs.State.{State, Part, normal, and_then}
 use Rattle.jm_meaning.specs.Children.{Below, in_order}
 use Rattle.jm_meaning.specs.Meaning.{Here, meaning, kind_meaning}
 use Rattle.plain_run.specs.declared.progress.Progress.{Progress}
 use Rattle.plain_run.specs.Plays.{state_in, Plays}
-use Rattle.plain_run.proofs.Ways.{OnWay, way-start, way-as, way-end, way-over}
-
--- a part that is another one where the thread stands
-pub plays-as : {a b : Account} {p q : Progress} {signal : Signal} (part part' : Part) → Plays a p part' signal q b → part (state_in p) ≡ part' (state_in p) → Plays a p part signal q b
-plays-as {a} {p = p} part part' plays is = way-end (way-as part' (way-start a p part) is) plays
+use Rattle.plain_run.proofs.Ways.{OnWay, way-start, way-over}
 
 pub plays-nothing : (a : Account) (p : Progress) (part : Part) → part (state_in p) ≡ over (normal (state_in p)) → Plays a p part Normal p a
 plays-nothing a p part is = way-over Normal (way-start a p part) is

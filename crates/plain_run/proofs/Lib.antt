@@ -12,3 +12,4 @@ mod TransactionLaws
 mod TransactionWays
 mod SectionWays
 mod WorkedPlans
+mod ChildLaws

@@ -1,5 +1,5 @@
 -- The steps of a thread that are no recursion.
-use Rattle.std.proofs.Common.{◌≡◌, ℕ, zero, suc, ◌-◌, Bool, true, false, List, [], ◌∷◌, ◌++◌, Option, Some, None, refl, sym, ap, ◌∙◌, subst, arith}
+use Rattle.std.proofs.Common.{◌≡◌, ℕ, zero, suc, ◌-◌, ◌<◌, Bool, true, false, List, [], ◌∷◌, ◌++◌, Option, Some, None, refl, sym, ap, ◌∙◌, subst, arith}
 use Rattle.std.specs.Prelude.{Result, Ok, Err, IfOk, MatchResult}
 use Rattle.jm_base.specs.declared.errors.NoMemory.{NoMemory}
 use Rattle.jm_base.specs.declared.types.Sample.{Sample}
@@ -27,8 +27,8 @@ use Rattle.jm_meaning.specs.Transactions.{with_sample}
 use Rattle.jm_meaning.proofs.PartLaws.{no-rounds, one-round, no-units, one-unit}
 use Rattle.plain_run.specs.declared.progress.Progress.{Progress}
 use Rattle.plain_run.specs.Plays.{state_in, with_pause, Plays, IsUnderWay, Runs}
-use Rattle.plain_run.proofs.Ways.{OnWay, way-start, way-silent, way-move, way-give, way-end, way-over, way-then, way-stop, way-tried, way-past}
-use Rattle.plain_run.proofs.UnderWay.{where-left, in-bind, on-way-tried, on-way-then, way-shows}
+use Rattle.plain_run.proofs.Ways.{OnWay, way-start, way-silent, way-move, way-give, way-over, way-then, way-stop, way-tried, way-past}
+use Rattle.plain_run.proofs.UnderWay.{where-left, in-bind, on-way-tried, way-runs, way-shows}
 use Rattle.plain_run.proofs.RoundWays.{split}
 
 -- a refusal past a limit has come to the limit
@@ -74,15 +74,15 @@ one-taken a p some =
     (one-round (state_in p) (λ s. over (normal s)) (p.rounds - 1) is) refl refl (omega arith) refl) refl
 
 -- what is done with a round that was taken
-pub taken-then : {a b c : Account} {p q r : Progress} {first signal : Signal} (f g : Part) → Plays a p (λ s. with_round s f) first q b → first ≡ Normal → Plays b q g signal r c
-    → Plays a p (λ s. with_round s (λ s. and_then (f s) g)) signal r c
-taken-then {a} {p = p} f g plays normal next =
-    way-end (way-then (λ s. with_round s f) g (way-start a p (λ s. with_round s (λ s. and_then (f s) g))) (split p.rounds (state_in p) f g) plays normal) next
+pub taken-goes : {a b : Account} {p q : Progress} {first : Signal} (f g : Part) (c : Account) (r : Progress) (result : Result Signal NoMemory) → Plays a p (λ s. with_round s f) first q b → first ≡ Normal → Runs b q g result r c
+    → Runs a p (λ s. with_round s (λ s. and_then (f s) g)) result r c
+taken-goes {a} {p = p} f g c r result plays normal runs =
+    way-runs c r result (way-then (λ s. with_round s f) g (way-start a p (λ s. with_round s (λ s. and_then (f s) g))) (split p.rounds (state_in p) f g) plays normal) runs
 
-pub taken-cut : {a b c : Account} {p q : Progress} {first : Signal} (f g : Part) → Plays a p (λ s. with_round s f) first q b → first ≡ Normal → IsUnderWay b (g (state_in q)) c
-    → IsUnderWay a (with_round (state_in p) (λ s. and_then (f s) g)) c
-taken-cut {a} {p = p} f g plays normal at =
-    on-way-then (way-then (λ s. with_round s f) g (way-start a p (λ s. with_round s (λ s. and_then (f s) g))) (split p.rounds (state_in p) f g) plays normal) at
+-- what comes next gives no round back
+pub still-taken : (result : Result Signal NoMemory) (old : ℕ) (p q : Progress) → q ≡ record p { user = q.user; config = q.config } → p.rounds < old → IfOk result (λ signal. signal ≡ Normal → q.rounds < old)
+still-taken (Ok signal) old p q same less = λ h. subst (λ n. n < old) (sym (ap (λ r. r.rounds) same)) less
+still-taken (Err e) old p q same less = tt
 
 pub not-taken : {a b : Account} {p q : Progress} {signal : Signal} (f g : Part) → Plays a p (λ s. with_round s f) signal q b → (signal ≡ Normal → ⊥)
     → Plays a p (λ s. with_round s (λ s. and_then (f s) g)) signal q b

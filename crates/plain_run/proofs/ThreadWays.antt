@@ -1,6 +1,7 @@
 -- How a thread comes through its group, and to its end.
 use Rattle.std.proofs.Common.{◌≡◌, ℕ, List, [], ◌∷◌, ◌++◌, Some, None, refl, sym, ap, ◌∙◌, subst}
-use Rattle.std.specs.Prelude.{slice_get}
+use Rattle.std.specs.Prelude.{slice_get, Result}
+use Rattle.jm_base.specs.declared.errors.NoMemory.{NoMemory}
 use Rattle.jm_base.specs.declared.types.End.{End}
 use Rattle.jm_base.specs.Run.{Run, over, give, Ended}
 use Rattle.jm_base.specs.Outside.{Account}
@@ -25,11 +26,11 @@ use Rattle.jm_meaning.specs.Meaning.{meaning, group_part, group_meaning, here_at
 use Rattle.jm_meaning.specs.RampUp.{pause_of}
 use Rattle.jm_meaning.specs.TraceShown.{Shows}
 use Rattle.plain_run.specs.declared.progress.Progress.{Progress}
-use Rattle.plain_run.specs.Plays.{state_in, ended, Tells, Plays, IsUnderWay, here_of, caught_signal}
+use Rattle.plain_run.specs.Plays.{state_in, ended, Tells, Plays, IsUnderWay, Runs, here_of, caught_signal}
 use Rattle.plain_run.proofs.ShowsLaws.{shows-append, shows-bind, shows-give}
 use Rattle.plain_run.proofs.TellsLaws.{tells-bind}
-use Rattle.plain_run.proofs.Ways.{way-start, way-end, way-then, way-stop}
-use Rattle.plain_run.proofs.UnderWay.{in-bind, on-way-then}
+use Rattle.plain_run.proofs.Ways.{way-start, way-then, way-stop}
+use Rattle.plain_run.proofs.UnderWay.{in-bind, way-runs}
 
 -- ---- a round of the group
 
@@ -75,16 +76,11 @@ nothing-there plan group s none = ap (λ o. group_part (here_of plan (failure_of
 
 -- ---- the thread
 
-pub thread-runs : {a b c : Account} {p q r : Progress} {first signal : Signal} (plan : Tree) (group : ℕ) → Plays a p (set_first plan.elements) first q b → first ≡ Normal
-    → Plays b q (group_part (here_at plan group) group (slice_get plan.elements group)) signal r c → Plays a p (thread_part plan group) signal r c
-thread-runs {a} {p = p} plan group plays normal next =
-    way-end (way-then (set_first plan.elements) (group_part (here_at plan group) group (slice_get plan.elements group)) (way-start a p (thread_part plan group)) refl plays normal) next
-
--- out of memory in the rounds of its group
-pub thread-cut : {a b c : Account} {p q : Progress} {first : Signal} (plan : Tree) (group : ℕ) → Plays a p (set_first plan.elements) first q b → first ≡ Normal
-    → IsUnderWay b (group_part (here_at plan group) group (slice_get plan.elements group) (state_in q)) c → IsUnderWay a (thread_part plan group (state_in p)) c
-thread-cut {a} {p = p} plan group plays normal at =
-    on-way-then (way-then (set_first plan.elements) (group_part (here_at plan group) group (slice_get plan.elements group)) (way-start a p (thread_part plan group)) refl plays normal) at
+-- its first variables, and then the rounds of its group
+pub thread-goes : {a b : Account} {p q : Progress} {first : Signal} (plan : Tree) (group : ℕ) (c : Account) (r : Progress) (result : Result Signal NoMemory) → Plays a p (set_first plan.elements) first q b → first ≡ Normal
+    → Runs b q (group_part (here_at plan group) group (slice_get plan.elements group)) result r c → Runs a p (thread_part plan group) result r c
+thread-goes {a} {p = p} plan group c r result plays normal runs =
+    way-runs c r result (way-then (set_first plan.elements) (group_part (here_at plan group) group (slice_get plan.elements group)) (way-start a p (thread_part plan group)) refl plays normal) runs
 
 pub thread-stops : {a b : Account} {p q : Progress} {signal : Signal} (plan : Tree) (group : ℕ) → Plays a p (set_first plan.elements) signal q b → (signal ≡ Normal → ⊥)
     → Plays a p (thread_part plan group) signal q b

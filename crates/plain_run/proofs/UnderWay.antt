@@ -27,9 +27,6 @@ after-nothing {a = a} run told = ([], run, goes-tells_nothing (goes-nothing a ru
 pub in-bind : {A B : Type 0} {a b : Account} {run : Run A} (next : A → Run B) → IsUnderWay a run b → IsUnderWay a (run >>= next) b
 in-bind next at = (at.0, at.1 >>= next, goes-bind next at.2)
 
-pub in-other : {A : Type 0} {a b : Account} {run other : Run A} → other ≡ run → IsUnderWay a run b → IsUnderWay a other b
-in-other {a = a} {b = b} is at = subst (λ r. IsUnderWay a r b) (sym is) at
-
 -- a pause was made, and is not shown yet
 pub after-pausing : {a b : Account} (ms : ℕ) → (ms ≡ 0 → ⊥) → Goes {A = Unit {0}} a (wait ms (over tt)) [] (over tt) b → (run : Run (Unit {0})) → IsUnderWay a (after_pause ms run) b
 after-pausing zero some goes run = absurd (some refl)

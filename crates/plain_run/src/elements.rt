@@ -11,7 +11,7 @@ ghost use Rattle.open_elements.specs.Cursors.{cursor_left, begun_of, FitsKind};
 ghost use Rattle.plain_run.specs.Levels.{at_level};
 ghost use Rattle.plain_run.specs.Plays.{Runs, here_of};
 
-use crate::children::children_of;
+use crate::children::{child_at, children_of};
 use crate::progress::{Progress, refused};
 use crate::transaction::{give_sum, joined};
 use cursor_steps::run_count;
@@ -28,19 +28,22 @@ pub struct Level<'p> {
     pub depth: u8,
 }
 
-// Runs an element of this level in a round of its nearest looping ancestor.
+// Runs an element of this level in a round of its nearest looping ancestor, where there is one.
 #[cycle(elements)]
 fn run_element<O: Outside>(
     level: Level<'_>,
-    number: u16,
+    number: Option<u16>,
     round: u64,
     progress: &mut Progress,
     outside: &mut O,
 ) -> M<Signal>
     requires { progress.old.rounds ≤ max_rounds }
     ensures { Runs (O.account outside.old) progress.old
-        (at_level level.entry number round) result progress.new (O.account outside.new) }
+        (one_of (at_level level.entry) round number) result progress.new (O.account outside.new) }
 {
+    let Some(number) = number else {
+        return Ok(Signal::Normal);
+    };
     if level.depth == 0 {
         return Ok(Signal::Normal);
     }
@@ -180,10 +183,9 @@ fn run_turns<O: Outside>(
                 other => return Ok(other),
             },
             Ok(Turn::Child(place)) => {
-                match run_child(
+                match run_element(
                     level,
-                    children,
-                    place,
+                    child_at(children, place),
                     cursor.round(round),
                     progress,
                     outside,
@@ -194,26 +196,6 @@ fn run_turns<O: Outside>(
             }
             Err(error) => return refused(error),
         }
-    }
-}
-
-// Runs the child at a place, where there is one.
-#[cycle(elements)]
-fn run_child<O: Outside>(
-    level: Level<'_>,
-    children: &[u16],
-    place: u16,
-    round: u64,
-    progress: &mut Progress,
-    outside: &mut O,
-) -> M<Signal>
-    requires { progress.old.rounds ≤ max_rounds }
-    ensures { Runs (O.account outside.old) progress.old
-        (one_of (at_level level.entry) round (slice_get children.now place)) result progress.new (O.account outside.new) }
-{
-    match children.get(usize::from(place)) {
-        Some(child) => run_element(level, *child, round, progress, outside),
-        None => Ok(Signal::Normal),
     }
 }
 
@@ -232,7 +214,7 @@ pub fn run_children<O: Outside>(
         result progress.new (O.account outside.new) }
 {
     for child in children {
-        match run_element(level, *child, round, progress, outside)? {
+        match run_element(level, Some(*child), round, progress, outside)? {
             Signal::Normal => {}
             other => return Ok(other),
         }

@@ -11,10 +11,10 @@ ghost use Rattle.plain_run.specs.Plays.{Runs, caught_signal};
 
 use crate::children::children_of;
 use crate::elements::{Level, run_children};
-use crate::progress::Progress;
+use crate::progress::{Progress, refused};
 use element_tree::{Kind, Loops, Plan};
 use jm_base::{M, Outside};
-use jm_meaning::{Signal, signal_of};
+use jm_meaning::{Signal, set_first, signal_of};
 use logic_controllers::round_begins;
 
 /// Sets the first variables, and runs the rounds of the group at this element, for which the thread keeps Counters and data
@@ -30,12 +30,9 @@ pub fn run_thread<O: Outside>(
     ensures { Runs (O.account outside.old) progress.old
         (thread_part plan.now group) result progress.new (O.account outside.new) }
 {
-    match progress.set_first(plan, outside)? {
-        Signal::Normal => {
-            let signal = run_group(plan, group, progress, outside)?;
-            Ok(signal)
-        }
-        other => Ok(other),
+    match set_first(progress.alloc, plan, &mut progress.user, outside) {
+        Ok(()) => run_group(plan, group, progress, outside),
+        Err(error) => refused(error),
     }
 }
 
@@ -68,8 +65,7 @@ fn run_group<O: Outside>(
         at_failure: signal_of(*on_error),
         depth: 30,
     };
-    let signal = run_rounds(level, group, *loops, children.as_slice(), progress, outside)?;
-    Ok(signal)
+    run_rounds(level, group, *loops, children.as_slice(), progress, outside)
 }
 
 // The rounds of the group at this element, over its children, which are of this level.

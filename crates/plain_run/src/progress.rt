@@ -7,14 +7,13 @@ ghost use Rattle.jm_base.specs.Outside.{Account};
 ghost use Rattle.config_elements.specs.RoundStart.{feeds_of};
 ghost use Rattle.jm_meaning.specs.State.{normal, with_round, with_unit};
 ghost use Rattle.jm_meaning.specs.Rounds.{round_start};
-ghost use Rattle.jm_meaning.specs.Beginning.{set_first};
 ghost use Rattle.jm_meaning.specs.Sampling.{sampling, given, after_sample};
 ghost use Rattle.plain_run.specs.Plays.{with_pause, Plays, Runs};
 
 use config_elements::{ConfigState, begin_round};
 use element_tree::Plan;
 use jm_base::{End, M, NoMemory, Outside, Sample};
-use jm_meaning::{Item, Places, Signal, Tally, set_first};
+use jm_meaning::{Item, Places, Signal, Tally};
 use sampler_pipeline::{Done, run_one};
 use scope_resolver::package;
 use std::alloc::Global;
@@ -85,17 +84,20 @@ impl Progress {
             return Ok(Signal::Stop(End::SampleLimit));
         }
         self.units -= 1;
-        let scope = package(self.alloc, plan, number)?;
-        let mut order = Vec::new(self.alloc);
-        match run_one(
-            self.alloc,
-            plan,
-            &scope,
-            number,
-            &mut self.user,
-            outside,
-            &mut order,
-        ) {
+        let came = {
+            let scope = package(self.alloc, plan, number)?;
+            let mut order = Vec::new(self.alloc);
+            run_one(
+                self.alloc,
+                plan,
+                &scope,
+                number,
+                &mut self.user,
+                outside,
+                &mut order,
+            )
+        };
+        match came {
             Ok(Done { sample, paused }) => self.show(number, at_failure, paused, sample),
             Err(error) => refused(error),
         }
@@ -138,20 +140,8 @@ impl Progress {
         Ok(())
     }
 
-    /// Counters and data sets advance at the start of a round of the thread's group. Where no row is left the thread stops.
-    pub fn feed<O: Outside>(&mut self, plan: &Plan, outside: &mut O) -> M<Signal>
-        ensures plays { (group : ℕ) → self.old.config.feeds ≡ feeds_of plan.now.elements group
-            → Runs (O.account outside.old) self.old (round_start plan.now.elements group) result self.new (O.account outside.new) }
-        ensures same { self.new ≡ record self.old { user = self.new.user; config = self.new.config } }
-    {
-        match begin_round(self.alloc, &mut self.config, plan, &mut self.user, outside) {
-            Ok(true) => Ok(Signal::Normal),
-            Ok(false) => Ok(Signal::Stop(End::StopThread)),
-            Err(error) => refused(error),
-        }
-    }
-
-    /// Begins a round of the thread's group: it is taken from those left, and then Counters and data sets advance.
+    /// Begins a round of the thread's group: it is taken from those left, and then Counters and data sets advance. Where no row
+    /// is left the thread stops.
     pub fn open_group_round<O: Outside>(&mut self, plan: &Plan, outside: &mut O) -> M<Signal>
         ensures plays { (group : ℕ) → self.old.config.feeds ≡ feeds_of plan.now.elements group
             → Runs (O.account outside.old) self.old
@@ -160,20 +150,13 @@ impl Progress {
     {
         match self.take_round() {
             Signal::Normal => {
-                let signal = self.feed(plan, outside)?;
-                Ok(signal)
+                match begin_round(self.alloc, &mut self.config, plan, &mut self.user, outside) {
+                    Ok(true) => Ok(Signal::Normal),
+                    Ok(false) => Ok(Signal::Stop(End::StopThread)),
+                    Err(error) => refused(error),
+                }
             }
             other => Ok(other),
-        }
-    }
-
-    /// Sets the first variables.
-    pub fn set_first<O: Outside>(&mut self, plan: &Plan, outside: &mut O) -> M<Signal>
-        ensures { Runs (O.account outside.old) self.old (set_first plan.now.elements) result self.new (O.account outside.new) }
-    {
-        match set_first(self.alloc, plan, &mut self.user, outside) {
-            Ok(()) => Ok(Signal::Normal),
-            Err(error) => refused(error),
         }
     }
 }

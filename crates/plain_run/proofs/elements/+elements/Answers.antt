@@ -1,6 +1,6 @@
 use Rattle.std.proofs.Common.{ℕ, ◌+◌, ◌-◌, ◌<◌, List, length, drop, refl, sym, ap, ◌∙◌, arith}
 use Rattle.std.proofs.Math.ListN.{get_or}
-use Rattle.std.proofs.lemmas.Option.{slice_get_within, slice_get_past}
+use Rattle.std.proofs.lemmas.Option.{slice_get_within}
 use Rattle.jm_meaning.specs.State.{on_normal}
 use Rattle.jm_meaning.specs.Children.{Below, in_order, one_of}
 use Rattle.jm_meaning.specs.Meaning.{Here, meaning, kind_meaning}
@@ -50,17 +50,22 @@ pub run_children-returns : goal.run_children-returns
 run_children-returns g t c =
     children-over (at_level c.args.level) c.args.round c.args.children.now c.loop-child.child-index c.loop-child.invariant (omega (arith, c.loop-child-test.false))
 
+pub run_element-returns-in_default : goal.run_element-returns-in_default
+run_element-returns-in_default g t c = plays-nothing _ _ _ (ap (λ o. one_of (at_level c.args.level) c.args.round o (state_in c.args.progress.now)) c.in_default.is)
+
 pub run_element-returns-then-level-eq0 : goal.run_element-returns-then-level-eq0
-run_element-returns-then-level-eq0 g t c = plays-nothing _ _ _ (meaning-flat (here_of c.args.level.plan.now c.args.level.at_failure) c.args.level.depth c.args.number c.args.round (state_in c.args.progress.now) c.if-level-eq0.true)
+run_element-returns-then-level-eq0 g t c = plays-nothing _ _ _
+    (ap (λ o. one_of (at_level c.args.level) c.args.round o (state_in c.args.progress.now)) c.in-Some.is ∙ meaning-flat (here_of c.args.level.plan.now c.args.level.at_failure) c.args.level.depth c.in-Some.number c.args.round (state_in c.args.progress.now) c.if-level-eq0.true)
 
 pub run_element-returns-in-None : goal.run_element-returns-in-None
-run_element-returns-in-None g t c = plays-nothing _ _ _ (meaning-none (here_of c.args.level.plan.now c.args.level.at_failure) c.args.level.depth c.args.number c.args.round (state_in c.args.progress.now) (sym c.in-None.ensures))
+run_element-returns-in-None g t c = plays-nothing _ _ _
+    (ap (λ o. one_of (at_level c.args.level) c.args.round o (state_in c.args.progress.now)) c.in-Some.is ∙ meaning-none (here_of c.args.level.plan.now c.args.level.at_failure) c.args.level.depth c.in-Some.number c.args.round (state_in c.args.progress.now) (sym c.in-None.ensures))
 
-pub run_element-returns-in-Some : goal.run_element-returns-in-Some
-run_element-returns-in-Some g t c =
+pub run_element-returns-in-Some-element : goal.run_element-returns-in-Some-element
+run_element-returns-in-Some-element g t c =
     let here : Here = here_of c.args.level.plan.now c.args.level.at_failure in
-    runs-as _ _ _ _ _ (meaning here c.args.level.depth c.args.number c.args.round) (kind_meaning here (meaning here (c.args.level.depth - 1)) c.args.number c.in-Some.element.now c.in-Some.element.now.kind c.args.round) c.run_kind.ensures
-    (meaning-at here c.args.level.depth c.args.number c.args.round (state_in c.args.progress.now) c.in-Some.element.now c.if-level-eq0.false (sym c.in-Some.ensures))
+    runs-as _ _ _ _ _ (one_of (at_level c.args.level) c.args.round c.args.number) (kind_meaning here (meaning here (c.args.level.depth - 1)) c.in-Some.number c.in-Some-element.element.now c.in-Some-element.element.now.kind c.args.round) c.run_kind.ensures
+    (ap (λ o. one_of (at_level c.args.level) c.args.round o (state_in c.args.progress.now)) c.in-Some.is ∙ meaning-at here c.args.level.depth c.in-Some.number c.args.round (state_in c.args.progress.now) c.in-Some-element.element.now c.if-level-eq0.false (sym c.in-Some-element.ensures))
 
 pub run_kind-label_of-requires : goal.run_kind-label_of-requires
 run_kind-label_of-requires g t c = slice_get_within c.args.level.plan.now.elements c.args.number c.args.element.now c.requires.there
@@ -106,10 +111,6 @@ pub run_kind-returns-in-CriticalSection : goal.run_kind-returns-in-CriticalSecti
 run_kind-returns-in-CriticalSection g t c =
     section-runs _ _ _ _ (here_of c.args.level.plan.now c.args.level.at_failure) (at_level c.args.level) c.args.number c.args.element.now c.args.round c.in-CriticalSection.lock c.lock_of.result
     c.as_slice-children.result.now c.run_section.result c.requires.there c.in-CriticalSection.is c.lock_of.ensures (c.as_slice-children.ensures.value ∙ c.in_ok-children.ensures) c.run_section.ensures
-
-pub run_child-returns-in-None : goal.run_child-returns-in-None
-run_child-returns-in-None g t c = plays-nothing _ _ _
-    (ap (λ o. one_of (at_level c.args.level) c.args.round o (state_in c.args.progress.now)) (slice_get_past c.args.children.now c.args.place (omega (arith, c.from.ensures, c.in-None.ensures.lookup.3))))
 
 pub run_entered-returns-in-Ok-Nothing : goal.run_entered-returns-in-Ok-Nothing
 run_entered-returns-in-Ok-Nothing g t c =
@@ -162,19 +163,19 @@ run_turns-returns-in_err-other-in-Ok-Child g t c =
     runs-cut _ _ _ _ c.from_residual.result c.from_residual.ensures.1
     (turn-cut _ _ _ c.args.progress.now c.turns.progress c.args.level.plan.now (at_level c.args.level) c.args.round c.args.number c.args.element.now c.args.cursor.now c.turns.cursor c.next.new.self c.next.new.state
     c.requires.there c.turns.invariant c.in-Ok-Child.field-0 c.in-Ok-Child.ensures.answers c.in-Ok-Child.place c.round.result c.args.children.now c.in-Ok-Child.field-0-is c.round.ensures c.requires.children _
-    c.in_err-other-in-Ok-Child.ensures)
+    (rw c.child_at.ensures at c.in_err-other-in-Ok-Child.ensures))
 
 pub run_turns-turns-preserved : goal.run_turns-turns-preserved
 run_turns-turns-preserved g t c =
     turn-done _ _ _ c.args.progress.now c.turns.progress c.args.level.plan.now (at_level c.args.level) c.args.round c.args.number c.args.element.now c.args.cursor.now c.turns.cursor c.next.new.self c.next.new.state
     c.requires.there c.turns.invariant c.in-Ok-Child.field-0 c.in-Ok-Child.ensures.answers c.in-Ok-Child.place c.round.result c.args.children.now c.in-Ok-Child.field-0-is c.round.ensures c.requires.children _
-    c.run_child.new.progress c.in_ok-other-in-Ok-Child.other c.in_ok-other-in-Ok-Child.ensures c.in-Normal-2.is
+    c.run_element.new.progress c.in_ok-other-in-Ok-Child.other (rw c.child_at.ensures at c.in_ok-other-in-Ok-Child.ensures) c.in-Normal-2.is
 
 pub run_turns-returns-in_default-2 : goal.run_turns-returns-in_default-2
 run_turns-returns-in_default-2 g t c =
     turn-last _ _ _ c.args.progress.now c.turns.progress c.args.level.plan.now (at_level c.args.level) c.args.round c.args.number c.args.element.now c.args.cursor.now c.turns.cursor c.next.new.self c.next.new.state
     c.requires.there c.turns.invariant c.in-Ok-Child.field-0 c.in-Ok-Child.ensures.answers c.in-Ok-Child.place c.round.result c.args.children.now c.in-Ok-Child.field-0-is c.round.ensures c.requires.children _
-    c.run_child.new.progress c.in_ok-other-in-Ok-Child.other c.in_ok-other-in-Ok-Child.ensures c.in_default-2.not-Normal
+    c.run_element.new.progress c.in_ok-other-in-Ok-Child.other (rw c.child_at.ensures at c.in_ok-other-in-Ok-Child.ensures) c.in_default-2.not-Normal
 
 pub run_turns-returns-in-Err : goal.run_turns-returns-in-Err
 run_turns-returns-in-Err g t c =

@@ -9,9 +9,6 @@ use Rattle.plain_run.proofs.elements.+elements.Given as goal
 abbrev pub decreases-run_element : goal.decreases-run_element
 decreases-run_element g l = 5 * l.level.depth
 
-abbrev pub decreases-run_child : goal.decreases-run_child
-decreases-run_child g l = 5 * l.level.depth + 1
-
 abbrev pub decreases-run_children : goal.decreases-run_children
 decreases-run_children g l = 5 * l.level.depth + 1
 

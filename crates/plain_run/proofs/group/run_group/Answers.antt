@@ -5,9 +5,9 @@ use Rattle.jm_meaning.specs.Rounds.{rounds, group_turns, round_of_group, round_s
 use Rattle.jm_meaning.specs.Children.{in_order}
 use Rattle.jm_meaning.specs.Meaning.{meaning, group_part, here_at}
 use Rattle.plain_run.specs.Plays.{state_in, here_of}
-use Rattle.plain_run.proofs.ElementLaws.{plays-as, plays-nothing}
+use Rattle.plain_run.proofs.ElementLaws.{plays-nothing}
 use Rattle.plain_run.proofs.ThreadWays.{group-is, no-group, nothing-there}
-use Rattle.plain_run.proofs.UnderWay.{at-start, in-other, runs-cut}
+use Rattle.plain_run.proofs.UnderWay.{at-start, runs-as, runs-cut}
 use Rattle.plain_run.proofs.group.run_group.Goals as goal
 
 pub returns-in_default : goal.returns-in_default
@@ -20,17 +20,10 @@ returns-in_default-kind g c =
 pub returns-in_err-children : goal.returns-in_err-children
 returns-in_err-children g c = runs-cut _ _ _ _ c.from_residual.result c.from_residual.ensures.1 (at-start _ _)
 
-pub returns-in_err-signal : goal.returns-in_err-signal
-returns-in_err-signal g c = runs-cut _ _ _ _ c.from_residual-in_err-signal.result c.from_residual-in_err-signal.ensures.1
-    (in-other
-    (group-is c.args.plan.now c.args.group c.in-Some.element.now c.in-ThreadGroup.loops c.in-ThreadGroup.on_error c.in-ThreadGroup.ramp_ms c.in-ThreadGroup.threads c.as_slice.result.now c.signal_of.result
-    (state_in c.args.progress.now) (sym c.in-Some.ensures) c.in-ThreadGroup.is (c.as_slice.ensures.value ∙ c.in_ok-children.ensures) c.signal_of.ensures)
-    c.in_err-signal.ensures)
-
 pub returns : goal.returns
 returns g c =
-    plays-as (group_part (here_at c.args.plan.now c.args.group) c.args.group (slice_get c.args.plan.now.elements c.args.group))
+    runs-as _ _ _ _ _ (group_part (here_at c.args.plan.now c.args.group) c.args.group (slice_get c.args.plan.now.elements c.args.group))
     (rounds max_rounds (group_turns c.in-ThreadGroup.loops (round_start c.args.plan.now.elements c.args.group)) (λ i s. round_of_group (in_order (meaning (here_of c.args.plan.now c.signal_of.result) 30) i c.as_slice.result.now s)) 0)
-    c.in_ok-signal.ensures
+    c.run_rounds.ensures
     (group-is c.args.plan.now c.args.group c.in-Some.element.now c.in-ThreadGroup.loops c.in-ThreadGroup.on_error c.in-ThreadGroup.ramp_ms c.in-ThreadGroup.threads c.as_slice.result.now c.signal_of.result
     (state_in c.args.progress.now) (sym c.in-Some.ensures) c.in-ThreadGroup.is (c.as_slice.ensures.value ∙ c.in_ok-children.ensures) c.signal_of.ensures)

@@ -10,12 +10,12 @@ returns-in_err-scope g c = runs-cut _ _ _ _ c.from_residual.result c.from_residu
 
 pub returns-in-Ok : goal.returns-in-Ok
 returns-in-Ok g c =
-    sampler-runs _ _ c.args.self.now c.args.plan.now.elements c.args.number c.args.at_failure c.if-self-eq0.false c.run_one.new.state c.in-Ok.field-0
+    sampler-runs _ _ c.args.self.now c.args.plan.now.elements c.args.number c.args.at_failure c.if-self-eq0.false c.run_one-came.new.state c.in-Ok.field-0
     (rw c.in_ok-scope.ensures.package at c.in-Ok.ensures.came) c.show.new.self c.show.result c.show.ensures
 
-pub returns : goal.returns
-returns g c = refused-runs c.refused.result c.in-Err.error c.refused.ensures
-    (λ is. sampler-refused _ _ c.args.self.now c.args.plan.now.elements c.args.number c.args.at_failure c.if-self-eq0.false c.run_one.new.state c.in-Err.error
+pub returns-in-Err : goal.returns-in-Err
+returns-in-Err g c = refused-runs c.refused.result c.in-Err.error c.refused.ensures
+    (λ is. sampler-refused _ _ c.args.self.now c.args.plan.now.elements c.args.number c.args.at_failure c.if-self-eq0.false c.run_one-came.new.state c.in-Err.error
     (rw c.in_ok-scope.ensures.package at c.in-Err.ensures.came) is)
-    (λ is. sampler-cut _ _ c.args.self.now c.args.plan.now.elements c.args.number c.args.at_failure c.if-self-eq0.false c.run_one.new.state c.in-Err.error
+    (λ is. sampler-cut _ _ c.args.self.now c.args.plan.now.elements c.args.number c.args.at_failure c.if-self-eq0.false c.run_one-came.new.state c.in-Err.error
     (rw c.in_ok-scope.ensures.package at c.in-Err.ensures.came) is)
