@@ -5,7 +5,6 @@ ghost use Rattle.element_tree.specs.Tree.{Tree, threads_of, group_of};
 ghost use Rattle.var_functions.specs.Came.{CameTo};
 ghost use Rattle.var_functions.specs.FunctionState.{IsLater};
 ghost use Rattle.jm_meaning.specs.State.{Own, state_of};
-ghost use Rattle.jm_meaning.specs.Sampling.{after_sample};
 ghost use Rattle.jm_meaning.specs.Sections.{leaving_open};
 ghost use Rattle.jm_meaning.specs.Meaning.{group_part, here_at, failure_of};
 ghost use Rattle.jm_meaning.specs.Beginning.{max_rounds, first_places};
@@ -21,7 +20,7 @@ use crate::stack::Stack;
 use cursor_steps::Pass;
 use element_tree::{Kind, Plan};
 use jm_base::{End, M, Outside, Sample};
-use jm_meaning::{Places, Signal, signal_of};
+use jm_meaning::{Places, Signal, after_sample, signal_of};
 use node_table::Links;
 use std::alloc::Global;
 use std::marker::Model;
@@ -140,7 +139,7 @@ impl Machine {
         ensures lock { open_lock self.new.stack.frames ≡ open_lock self.old.stack.frames }
     {
         self.position.stack.hear(sample);
-        self.position.signal = signal_after(sample.ok, self.position.at_failure);
+        self.position.signal = after_sample(sample.ok, self.position.at_failure);
     }
 
     /// Makes the next moves those of a way out.
@@ -150,13 +149,6 @@ impl Machine {
     {
         self.position.signal = signal_left(how);
     }
-}
-
-// The signal after a sample.
-fn signal_after(ok: bool, at_failure: Signal) -> Signal
-    ensures { result ≡ after_sample ok at_failure }
-{
-    if ok { Signal::Normal } else { at_failure }
 }
 
 // The signal of a way out.

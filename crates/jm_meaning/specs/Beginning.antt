@@ -7,6 +7,7 @@ use Rattle.element_tree.specs.declared.kinds.Element.{Element}
 use Rattle.element_tree.specs.declared.kinds.Kind.{Kind}
 use Rattle.element_tree.specs.declared.kinds.Kind.TheVariants.{UserVariables}
 use Rattle.element_tree.specs.Tree.{Tree, threads_of}
+use Rattle.var_functions.specs.declared.state.UserState.{UserState}
 use Rattle.var_functions.specs.FunctionState.{first_functions}
 use Rattle.config_elements.specs.RoundStart.{first_config}
 pub use Rattle.sampler_pipeline.specs.SamplerPipeline.{last_sample_ok}
@@ -30,10 +31,14 @@ number_in_group plan thread = unwrap_or (option_map (λ t. t.number) (slice_get 
 abbrev pub first_places : List Element → List ℕ
 first_places elements = replicate (length elements) 0
 
+-- no variable is set, and no function was called
+abbrev pub first_user : Tree → ℕ → ℕ → List (List ℕ × List ℕ) → UserState
+first_user plan thread seed props = record { vars = []; fns = first_functions props (number_in_group plan thread) thread seed }
+
 -- before anything is set
 abbrev pub first_of : Tree → ℕ → Options → State
 first_of plan thread options = record {
-  user = record { vars = []; fns = first_functions options.props (number_in_group plan thread) thread options.seed };
+  user = first_user plan thread options.seed options.props;
   own = record { units = options.budget; rounds = max_rounds; places = first_places plan.elements; config = first_config plan.elements };
 }
 

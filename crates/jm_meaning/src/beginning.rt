@@ -1,20 +1,33 @@
-// The first variables of a thread.
+// What a thread begins with, and its first variables.
 
-ghost use Rattle.std.specs.Prelude.{OnErr};
+ghost use Rattle.std.specs.Prelude.{◌≡◌, ◌<◌, length, IfOk, OnErr};
 ghost use Rattle.jm_base.specs.Run.{over};
+ghost use Rattle.element_tree.specs.Tree.{threads_of};
 ghost use Rattle.jm_base.specs.declared.types.End.TheVariants.{ValueLimit as PastValueLimit};
 ghost use Rattle.var_functions.specs.Came.{CameTo};
 ghost use Rattle.var_functions.specs.FunctionState.{IsLater};
 ghost use Rattle.jm_meaning.specs.State.{Own, state_of, normal, stopped};
-ghost use Rattle.jm_meaning.specs.Beginning.{set_first, set_all, user_variables};
+ghost use Rattle.jm_meaning.specs.Beginning.{first_user, set_first, set_all, user_variables};
 ghost use Rattle.jm_meaning.specs.Cut.{SetsPrefix};
 
 use element_tree::{Element, Kind, Plan};
-use jm_base::Outside;
+use jm_base::{M, Outside};
 use std::alloc::Global;
 use trials::set_pairs;
 use var_changes::put_copy;
-use var_functions::{UserState, VarError};
+use var_functions::{FnState, Props, UserState, VarError, Vars};
+
+/// What the templates of a thread read and change, before anything is set. Threads are numbered from 0 over all groups; each
+/// takes a copy of the properties, and its random words are a stream of their own of this seed.
+pub fn first_user(alloc: Global, plan: &Plan, thread: u16, seed: u64, props: &Props) -> M<UserState>
+    requires { thread < length (threads_of plan.now) }
+    ensures { IfOk result (λ user. user ≡ first_user plan.now thread seed props.now) }
+{
+    let number = plan.thread(thread).number;
+    let fns = FnState::new(alloc, props, number, u64::from(thread), seed)?;
+    let vars = Vars::new(alloc);
+    Ok(UserState { vars, fns })
+}
 
 /// Sets the user defined variables of a plan, wherever they stand, in tree order: each value is expanded when its turn
 /// comes, and a later one of the same name wins (the manual's "User Defined Variables"). After them it sets

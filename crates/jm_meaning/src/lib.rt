@@ -9,9 +9,9 @@ mod ramp_up;
 mod signal;
 mod transaction;
 
-pub use beginning::set_first;
+pub use beginning::{first_user, set_first};
 pub use item::Item;
 pub use places::Places;
 pub use ramp_up::ramp_up_pause;
-pub use signal::{Signal, signal_of};
+pub use signal::{Signal, after_sample, signal_of};
 pub use transaction::{Tally, gives_sample};

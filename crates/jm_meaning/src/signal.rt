@@ -2,6 +2,7 @@
 
 ghost use Rattle.std.specs.Prelude.{◌≡◌};
 ghost use Rattle.jm_meaning.specs.Meaning.{signal_of};
+ghost use Rattle.jm_meaning.specs.Sampling.{after_sample};
 
 use element_tree::OnError;
 use jm_base::End;
@@ -27,4 +28,11 @@ pub fn signal_of(on_error: OnError) -> Signal
         OnError::StopThread => Signal::Stop(End::StopThread),
         OnError::StopTest => Signal::Stop(End::StopTest),
     }
+}
+
+/// The signal after a sample: Normal where it succeeded, and else what a failed sample leads to.
+pub fn after_sample(ok: bool, at_failure: Signal) -> Signal
+    ensures { result ≡ after_sample ok at_failure }
+{
+    if ok { Signal::Normal } else { at_failure }
 }

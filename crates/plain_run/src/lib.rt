@@ -22,9 +22,9 @@ use crate::progress::Progress;
 use config_elements::ConfigState;
 use element_tree::Plan;
 use jm_base::{End, M, Outside};
-use jm_meaning::{Item, Places, Signal, Tally, ramp_up_pause};
+use jm_meaning::{Item, Places, Signal, Tally, first_user, ramp_up_pause};
 use std::alloc::Global;
-use var_functions::{FnState, Props, UserState, Vars};
+use var_functions::Props;
 
 /// What a thread of the plan does over this outside, from its ramp-up pause to its end, by recursion on the elements: what
 /// its trace shows, but for interval numbers and places.
@@ -102,17 +102,6 @@ fn first_progress(
         tally: Tally::none(),
         items: Vec::new(alloc),
     })
-}
-
-// The variables and what functions keep, before anything is set.
-fn first_user(alloc: Global, plan: &Plan, thread: u16, seed: u64, props: &Props) -> M<UserState>
-    requires { thread < length (threads_of plan.now) }
-    ensures { IfOk result (λ user. (budget : ℕ) → user ≡ (first_of plan.now thread (record { seed = seed; props = props.now; budget = budget })).user) }
-{
-    let number = plan.thread(thread).number;
-    let fns = FnState::new(alloc, props, number, u64::from(thread), seed)?;
-    let vars = Vars::new(alloc);
-    Ok(UserState { vars, fns })
 }
 
 // A pause of that many milliseconds, where there is one.

@@ -7,13 +7,13 @@ ghost use Rattle.jm_base.specs.Outside.{Account};
 ghost use Rattle.config_elements.specs.RoundStart.{feeds_of};
 ghost use Rattle.jm_meaning.specs.State.{normal, with_round, with_unit};
 ghost use Rattle.jm_meaning.specs.Rounds.{round_start};
-ghost use Rattle.jm_meaning.specs.Sampling.{sampling, given, after_sample};
+ghost use Rattle.jm_meaning.specs.Sampling.{sampling, given};
 ghost use Rattle.plain_run.specs.Plays.{with_pause, Plays, Runs};
 
 use config_elements::{ConfigState, begin_round};
 use element_tree::Plan;
 use jm_base::{End, M, NoMemory, Outside, Sample};
-use jm_meaning::{Item, Places, Signal, Tally};
+use jm_meaning::{Item, Places, Signal, Tally, after_sample};
 use sampler_pipeline::{Done, run_one};
 use scope_resolver::package;
 use std::alloc::Global;
@@ -47,13 +47,6 @@ pub(crate) fn refused(error: VarError) -> M<Signal>
         VarError::ValueLimit => Ok(Signal::Stop(End::ValueLimit)),
         VarError::NoMemory => Err(NoMemory),
     }
-}
-
-// The signal after a sample.
-fn after_sample(ok: bool, at_failure: Signal) -> Signal
-    ensures { result ≡ after_sample ok at_failure }
-{
-    if ok { Signal::Normal } else { at_failure }
 }
 
 impl Progress {

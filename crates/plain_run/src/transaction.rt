@@ -3,12 +3,13 @@
 ghost use Rattle.std.specs.Prelude.{◌≡◌, ◌==◌, ◌&&◌, nat_lt, [], List, IfOk, if◌then◌else◌};
 ghost use Rattle.jm_base.specs.Run.{Event};
 ghost use Rattle.jm_base.specs.Outside.{Account};
+ghost use Rattle.jm_meaning.specs.Transactions;
 ghost use Rattle.jm_meaning.specs.Transactions.{counted, summed, tally_of};
 ghost use Rattle.plain_run.specs.Plays.{Plays};
 
 use crate::progress::Progress;
 use jm_base::{End, M};
-use jm_meaning::{Item, Signal, Tally};
+use jm_meaning::{Item, Signal, Tally, gives_sample};
 
 /// What is counted over two parts of a run, the second after the first.
 pub fn joined(first: Tally, second: Tally) -> Tally
@@ -35,14 +36,10 @@ fn first_stamp(first: Tally, second: Tally) -> u64
 }
 
 // Whether a transaction that has counted this gives its sample after this signal.
-fn gives_sample(signal: Signal, tally: Tally) -> bool
-    ensures { result ≡ (Rattle.jm_meaning.specs.Transactions.gives_sample signal && nat_lt 0 tally.samples) }
+fn is_given(signal: Signal, tally: Tally) -> bool
+    ensures { result ≡ (Transactions.gives_sample signal && nat_lt 0 tally.samples) }
 {
-    match signal {
-        Signal::Normal | Signal::NextLoop => tally.samples > 0,
-        Signal::Stop(End::StopThread) | Signal::Stop(End::StopTest) => tally.samples > 0,
-        Signal::Stop(_) => false,
-    }
+    gives_sample(signal) && tally.samples > 0
 }
 
 /// Gives the sample of a transaction of this label that has counted this and has ended so, where it gives one and a
@@ -51,7 +48,7 @@ pub fn give_sum(progress: &mut Progress, label: u16, tally: Tally, signal: Signa
     ensures { IfOk result (λ ended. (a : Account) → Plays a progress.old
         (λ s. summed label tally (record { state = s; signal = signal })) ended progress.new a) }
 {
-    if !gives_sample(signal, tally) {
+    if !is_given(signal, tally) {
         return Ok(signal);
     }
     if progress.units == 0 {

@@ -5,7 +5,7 @@ use Rattle.control_machine.proofs.machine.Machine.after.Goals as goal
 
 pub returns-clause-stands : goal.returns-clause-stands
 returns-clause-stands c = λ plan stands.
-    rw (c.hear.ensures, c.signal_after-self-inside.ensures) (told_stands plan c.args.sample.now c.self.inside.position (subst (StandsIn plan) (sym c.self.view_is) stands))
+    rw (c.hear.ensures, c.after_sample-self-inside.ensures) (told_stands plan c.args.sample.now c.self.inside.position (subst (StandsIn plan) (sym c.self.view_is) stands))
 
 pub returns-clause-lock : goal.returns-clause-lock
 returns-clause-lock c = rw c.hear.ensures
