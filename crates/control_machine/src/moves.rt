@@ -4,7 +4,7 @@ use jm_base::End;
 use jm_meaning::Tally;
 
 /// The next move of a thread.
-#[derive(Clone, Copy, PartialEq, Eq, Debug)]
+#[derive(Clone, Copy, Debug)]
 pub enum Move {
     /// The round of the thread group of this index, from 0, has begun. Its Counters and data sets are to advance before the
     /// next move is asked for.
@@ -22,7 +22,7 @@ pub enum Move {
 }
 
 /// A way out of all open elements (the manual's "Action to be taken after a Sampler error").
-#[derive(Clone, Copy, PartialEq, Eq, Debug)]
+#[derive(Clone, Copy)]
 pub enum Leave {
     /// The thread goes on with its next round.
     NextLoop,

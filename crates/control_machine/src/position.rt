@@ -49,7 +49,7 @@ pub struct Position {
 }
 
 /// What a turn comes to: the next turn, or a move.
-#[derive(Drop)]
+#[derive(Clone, Copy)]
 pub enum Went {
     On,
     To(Move),

@@ -3,7 +3,7 @@
 use jm_base::{End, Entry};
 
 /// What a step has done, and what its caller owes the worker now.
-#[derive(Drop)]
+#[derive(Clone, Copy)]
 pub enum Step {
     /// A sample was made. The caller owes `Worker::noted`.
     Sampled(Entry),
