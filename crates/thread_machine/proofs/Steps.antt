@@ -1,7 +1,6 @@
 -- What the parts of a step make of a thread.
 use Rattle.std.proofs.Common.{◌≡◌, inl, inr, ℕ, zero, suc, ◌-◌, ◌≤◌, Bool, true, false, List, [], ◌∷◌, ◌++◌, Option, Some, None, refl, sym, ap, ◌∙◌, subst, arith}
-use Rattle.std.specs.Prelude.{slice_get, unwrap_or, Result, Ok, Err, OnErr, IfSome, if◌then◌else◌}
-use Rattle.std.specs.Option.{option_map}
+use Rattle.std.specs.Prelude.{slice_get, Result, Ok, Err, OnErr, IfSome, if◌then◌else◌}
 use Rattle.jm_base.specs.declared.types.End.{End}
 use Rattle.jm_base.specs.declared.types.End.TheVariants.{Completed, StopThread, StopTest, Stopped, SampleLimit, RoundLimit, ValueLimit as PastValueLimit, NoMemory as EndNoMemory}
 use Rattle.jm_base.specs.Run.{Run, over, give, wait, Waited, Entered, Left, Ended}
@@ -10,18 +9,15 @@ use Rattle.jm_base.proofs.RunLaws.{goes-append, goes-bind, goes-give, goes-nothi
 use Rattle.thread_vars.specs.declared.error.VarError.{VarError}
 use Rattle.thread_vars.specs.declared.error.VarError.TheVariants.{ValueLimit, NoMemory}
 use Rattle.var_functions.specs.declared.state.UserState.{UserState}
-use Rattle.thread_vars.specs.Vars.{Variables}
-use Rattle.var_functions.specs.FunctionState.{Functions, first_functions}
 use Rattle.var_functions.specs.Came.{CameTo, Refused, by_limit, by_memory}
 use Rattle.var_functions.proofs.CameLaws.{came-bind, refused-first}
-use Rattle.element_tree.specs.declared.threads.Thread.{Thread}
 use Rattle.element_tree.specs.declared.kinds.Element.{Element}
-use Rattle.element_tree.specs.Tree.{Tree, threads_of, group_of}
+use Rattle.element_tree.specs.Tree.{Tree, group_of}
 use Rattle.jm_meaning.specs.State.{State, Own, Ending, Part, state_of, normal, stopped, on_normal, and_then}
 use Rattle.jm_meaning.specs.Sections.{leaving_open}
 use Rattle.jm_meaning.proofs.PartLaws.{no-units, one-unit}
 use Rattle.config_elements.specs.RoundStart.{Config, first_config, begin_round}
-use Rattle.jm_meaning.specs.Beginning.{Options, max_rounds, first_places, first_of, set_first}
+use Rattle.jm_meaning.specs.Beginning.{Options, max_rounds, first_places, first_user, first_of, set_first}
 use Rattle.jm_meaning.specs.RampUp.{pause_of}
 use Rattle.jm_meaning.specs.Meaning.{and_end, after_pause, end_of, events, thread_part, group_part, here_at}
 use Rattle.open_elements.specs.Moves.{past}
@@ -453,18 +449,10 @@ cut_ended a b w new t h items = record {
 
 -- ---- a thread before its first step
 
-pub first_is : (plan : Tree) (thread : ℕ) (options : Options) (t : Thread) (vars : Variables) (fns : Functions) (stream rounds : ℕ) (places config : List ℕ) → slice_get (threads_of plan) thread ≡ Some t
-    → vars ≡ [] → fns ≡ first_functions options.props t.number stream options.seed → stream ≡ thread → rounds ≡ max_rounds → places ≡ first_places plan.elements → config ≡ first_config plan.elements
-    → state_of (record { vars = vars; fns = fns }) (record { units = options.budget; rounds = rounds; places = places; config = config }) ≡ first_of plan thread options
-first_is plan thread options t vars fns stream rounds places config there vars_are fns_are stream_is rounds_are places_are config_is =
-    let number : unwrap_or (option_map (λ (t : Thread). t.number) (slice_get (threads_of plan) thread)) 0 ≡ t.number = ap (λ o. unwrap_or (option_map (λ (t : Thread). t.number) o) 0) there in
-    ap (λ vs. state_of (record { vars = vs; fns = fns }) (record { units = options.budget; rounds = rounds; places = places; config = config })) vars_are
-    ∙ ap (λ f. state_of (record { vars = []; fns = f }) (record { units = options.budget; rounds = rounds; places = places; config = config })) fns_are
-    ∙ ap (λ n. state_of (record { vars = []; fns = first_functions options.props t.number n options.seed }) (record { units = options.budget; rounds = rounds; places = places; config = config })) stream_is
-    ∙ ap (λ n. state_of (record { vars = []; fns = first_functions options.props t.number thread options.seed }) (record { units = options.budget; rounds = n; places = places; config = config })) rounds_are
-    ∙ ap (λ ps. state_of (record { vars = []; fns = first_functions options.props t.number thread options.seed }) (record { units = options.budget; rounds = max_rounds; places = ps; config = config })) places_are
-    ∙ ap (λ cs. state_of (record { vars = []; fns = first_functions options.props t.number thread options.seed }) (record { units = options.budget; rounds = max_rounds; places = first_places plan.elements; config = cs })) config_is
-    ∙ ap (λ n. state_of (record { vars = []; fns = first_functions options.props n thread options.seed }) (record { units = options.budget; rounds = max_rounds; places = first_places plan.elements; config = first_config plan.elements })) (sym number)
+pub first_is : (plan : Tree) (thread : ℕ) (options : Options) (user : UserState) (rounds : ℕ) (places config : List ℕ) → user ≡ first_user plan thread options.seed options.props → rounds ≡ max_rounds
+    → places ≡ first_places plan.elements → config ≡ first_config plan.elements
+    → state_of user (record { units = options.budget; rounds = rounds; places = places; config = config }) ≡ first_of plan thread options
+first_is plan thread options user rounds places config u r p c = rw (u, r, p, c) refl
 
 module _ (w : Runner) (options : Options) (pause : w.pause ≡ pause_of w.plan.now w.thread) (begun : w.begun ≡ false)
     (first : state_in (standing_of w false) ≡ first_of w.plan.now w.thread options)

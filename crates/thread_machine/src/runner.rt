@@ -29,11 +29,11 @@ use config_elements::{ConfigState, begin_round};
 use control_machine::{Leave, Machine, Move, Tally};
 use element_tree::Plan;
 use jm_base::{End, M, NoMemory, Outside, Sample};
-use jm_meaning::{Signal, ramp_up_pause, set_first};
+use jm_meaning::{Signal, first_user, ramp_up_pause, set_first};
 use node_table::NodeTable;
 use sampler_pipeline::{Done, Pipeline};
 use std::alloc::Global;
-use var_functions::{FnState, Props, UserState, VarError, Vars};
+use var_functions::{Props, UserState, VarError};
 
 /// A thread: its plan and number, the pause before its first variables that is still to come, whether those are set, its
 /// variables and what functions keep, what it keeps of Counters and data sets, the packages of the plan's samplers, the machine
@@ -95,19 +95,17 @@ impl<'p> Runner<'p> {
         ensures start { IfOk result (λ r. IsAtStart plan.now thread (record { seed = seed; props = props.now; budget = budget }) (standing_of r false)) }
         ensures on { IfOk result GoesOn }
     {
-        let number = plan.thread(thread).number;
         let trace = Trace::new(alloc, budget)?;
         let table = NodeTable::of(alloc, plan)?;
         let config = ConfigState::new(alloc, plan, thread)?;
-        let fns = FnState::new(alloc, props, number, u64::from(thread), seed)?;
+        let user = first_user(alloc, plan, thread, seed, props)?;
         let machine = Machine::new(alloc, plan, thread)?;
-        let vars = Vars::new(alloc);
         Ok(Runner {
             plan,
             thread,
             pause: ramp_up_pause(plan, thread),
             begun: false,
-            user: UserState { vars, fns },
+            user,
             config,
             table,
             machine,
@@ -364,7 +362,8 @@ fn owe(owed: &mut Option<Sample>, sample: Sample) -> Step
     Step::Sampled(entry)
 }
 
-// Goes on from move to move, up to one that is not the begin of a round of the group.
+// Goes on from move to move, up to one that is not the begin of a round of the group. At such a begin Counters and data sets
+// advance; where no row is left the thread is to stop.
 fn walk<O: Outside>(
     machine: &mut Machine,
     alloc: Global,
@@ -384,45 +383,14 @@ fn walk<O: Outside>(
     'moves: loop {
         match machine.next(alloc, plan, user, outside) {
             Ok(next) => match next {
-                Move::Iteration(_) => match feed(machine, alloc, plan, config, user, outside) {
-                    Ok(()) => {}
+                Move::Iteration(_) => match begin_round(alloc, config, plan, user, outside) {
+                    Ok(true) => {}
+                    Ok(false) => machine.leave(Leave::StopThread),
                     Err(error) => return Err(error),
                 },
                 _ => return Ok(next),
             },
             Err(error) => return Err(error),
         }
-    }
-}
-
-// Counters and data sets advance at the start of a round of the group. Where no row is left the thread is to stop.
-fn feed<O: Outside>(
-    machine: &mut Machine,
-    alloc: Global,
-    plan: &Plan,
-    config: &mut ConfigState,
-    user: &mut UserState,
-    outside: &mut O,
-) -> Result<(), VarError>
-    requires feeds { config.old.feeds ≡ feeds_of plan.now.elements machine.old.group.element }
-    requires normal { machine.old.signal ≡ Signal.Normal }
-    requires stands { StandsIn plan.now machine.old }
-    ensures came { (units : ℕ)
-        → CameTo (O.account outside.old)
-        (left_after plan.now machine.old (round_start plan.now.elements machine.old.group.element (state_at machine.old (record { units = units; config = config.old.places }) user.old)))
-        (O.account outside.new)
-        (λ u. left_of plan.now machine.new (state_at machine.new (record { units = units; config = config.new.places }) user.new))
-        (leaving_open (open_lock machine.old.stack.frames) (past (state_at machine.new (record { units = units; config = config.new.places }) user.new))) result }
-    ensures stands { StandsIn plan.now machine.new }
-    ensures feeds { config.new.feeds ≡ config.old.feeds }
-    ensures kept { machine.new ≡ record machine.old { signal = machine.new.signal } }
-{
-    match begin_round(alloc, config, plan, user, outside) {
-        Ok(true) => Ok(()),
-        Ok(false) => {
-            machine.leave(Leave::StopThread);
-            Ok(())
-        }
-        Err(error) => Err(error),
     }
 }

@@ -5,10 +5,10 @@ use Rattle.thread_machine.proofs.runner.Runner.new.Goals as goal
 
 pub returns-clause-start : goal.returns-clause-start
 returns-clause-start c =
-    starts (record { plan = c.args.plan; thread = c.args.thread; pause = c.ramp_up_pause.result; begun = false; user = record { vars = c.new-vars.result; fns = c.in_ok-fns.fns }; config = c.in_ok-config.config; table = c.in_ok-table.table; machine = c.in_ok-machine.machine; units = c.args.budget; owed = None; entering = None; section = None; last = None; trace = c.in_ok-trace.trace; alloc = c.args.alloc })
+    starts (record { plan = c.args.plan; thread = c.args.thread; pause = c.ramp_up_pause.result; begun = false; user = c.in_ok-user.user; config = c.in_ok-config.config; table = c.in_ok-table.table; machine = c.in_ok-machine.machine; units = c.args.budget; owed = None; entering = None; section = None; last = None; trace = c.in_ok-trace.trace; alloc = c.args.alloc })
     (record { seed = c.args.seed; props = c.args.props.now; budget = c.args.budget }) c.ramp_up_pause.ensures refl
-    (first_is c.args.plan.now c.args.thread (record { seed = c.args.seed; props = c.args.props.now; budget = c.args.budget }) c.thread-number.result c.new-vars.result c.in_ok-fns.fns c.from.result c.in_ok-machine.machine.rounds c.in_ok-machine.machine.places c.in_ok-config.config.places
-    c.thread-number.ensures.thread c.new-vars.ensures c.in_ok-fns.ensures (omega arith) c.in_ok-machine.ensures.rounds c.in_ok-machine.ensures.places c.in_ok-config.ensures.places)
+    (first_is c.args.plan.now c.args.thread (record { seed = c.args.seed; props = c.args.props.now; budget = c.args.budget }) c.in_ok-user.user c.in_ok-machine.machine.rounds c.in_ok-machine.machine.places c.in_ok-config.config.places
+    c.in_ok-user.ensures c.in_ok-machine.ensures.rounds c.in_ok-machine.ensures.places c.in_ok-config.ensures.places)
     c.in_ok-machine.ensures.whole refl refl refl refl c.in_ok-trace.ensures.0
 
 pub returns-clause-on : goal.returns-clause-on
