@@ -104,3 +104,33 @@ returns-in_default g c = record {
   stands = stands_same c.args.state.now;
   places = tt;
 }
+
+pub enter_as-requires : goal.enter_as-requires
+enter_as-requires g c = record { there = (c.in-Some.element.now, sym c.in-Some.ensures, c.in-Simple.is); counted = c.requires.counted }
+
+pub enter_as-requires-in-OnceOnly : goal.enter_as-requires-in-OnceOnly
+enter_as-requires-in-OnceOnly g c = record { there = (c.in-Some.element.now, sym c.in-Some.ensures, c.in-OnceOnly.is); counted = c.requires.counted }
+
+pub enter_as-requires-in-Loop : goal.enter_as-requires-in-Loop
+enter_as-requires-in-Loop g c = record { there = (c.in-Some.element.now, sym c.in-Some.ensures, (c.in-Loop.loops, c.in-Loop.is)); counted = c.requires.counted }
+
+pub enter_as-requires-in-If : goal.enter_as-requires-in-If
+enter_as-requires-in-If g c = record { there = (c.in-Some.element.now, sym c.in-Some.ensures, (c.in-If.all, c.in-If.condition, c.in-If.is)); counted = c.requires.counted }
+
+pub enter_as-requires-in-While : goal.enter_as-requires-in-While
+enter_as-requires-in-While g c = record { there = (c.in-Some.element.now, sym c.in-Some.ensures, (c.in-While.condition, c.in-While.is)); counted = c.requires.counted }
+
+pub enter_as-requires-in-Random : goal.enter_as-requires-in-Random
+enter_as-requires-in-Random g c = record { there = (c.in-Some.element.now, sym c.in-Some.ensures, c.in-Random.is); counted = c.requires.counted }
+
+pub enter_as-requires-in-RandomOrder : goal.enter_as-requires-in-RandomOrder
+enter_as-requires-in-RandomOrder g c = record { there = (c.in-Some.element.now, sym c.in-Some.ensures, c.in-RandomOrder.is); counted = c.requires.counted }
+
+pub enter_as-requires-in-Switch : goal.enter_as-requires-in-Switch
+enter_as-requires-in-Switch g c = record { there = (c.in-Some.element.now, sym c.in-Some.ensures, (c.in-Switch.value, c.in-Switch.is)); counted = c.requires.counted }
+
+pub enter_interleave-requires : goal.enter_interleave-requires
+enter_interleave-requires g c = record { there = (c.in-Some.element.now, record { there = sym c.in-Some.ensures; of_kind = c.in-Interleave.is }); counted = c.requires.counted }
+
+pub returns-in-Interleave : goal.returns-in-Interleave
+returns-in-Interleave g c = c.enter_interleave.ensures
