@@ -1,11 +1,11 @@
 // A thread: its first variables, and the rounds of its group.
 
-ghost use Rattle.std.specs.Prelude.{◌≡◌, ◌≤◌, slice_get};
+ghost use Rattle.std.specs.Prelude.{◌≡◌, ◌≤◌};
 ghost use Rattle.jm_meaning.specs.Beginning.{max_rounds};
 ghost use Rattle.config_elements.specs.RoundStart.{feeds_of};
 ghost use Rattle.jm_meaning.specs.Rounds.{rounds, group_turns, round_of_group, round_start};
 ghost use Rattle.jm_meaning.specs.Children.{in_order};
-ghost use Rattle.jm_meaning.specs.Meaning.{group_part, here_at, thread_part};
+ghost use Rattle.jm_meaning.specs.Meaning.{thread_part};
 ghost use Rattle.plain_run.specs.Levels.{at_level};
 ghost use Rattle.plain_run.specs.Plays.{Runs, caught_signal};
 
@@ -17,8 +17,8 @@ use jm_base::{M, Outside};
 use jm_meaning::{Signal, set_first, signal_of};
 use logic_controllers::round_begins;
 
-/// Sets the first variables, and runs the rounds of the group at this element, for which the thread keeps Counters and data
-/// sets.
+/// Sets the first variables, and runs the rounds of the group at this element, below which elements nest at most 30 deep. The
+/// thread keeps Counters and data sets for the group.
 pub fn run_thread<O: Outside>(
     plan: &Plan,
     group: u16,
@@ -31,23 +31,9 @@ pub fn run_thread<O: Outside>(
         (thread_part plan.now group) result progress.new (O.account outside.new) }
 {
     match set_first(progress.alloc, plan, &mut progress.user, outside) {
-        Ok(()) => run_group(plan, group, progress, outside),
-        Err(error) => refused(error),
+        Ok(()) => {}
+        Err(error) => return refused(error),
     }
-}
-
-// Runs the rounds of the group at this element, below which elements nest at most 30 deep.
-fn run_group<O: Outside>(
-    plan: &Plan,
-    group: u16,
-    progress: &mut Progress,
-    outside: &mut O,
-) -> M<Signal>
-    requires rounds { progress.old.rounds ≤ max_rounds }
-    requires feeds { progress.old.config.feeds ≡ feeds_of plan.now.elements group }
-    ensures { Runs (O.account outside.old) progress.old
-        (group_part (here_at plan.now group) group (slice_get plan.now.elements group)) result progress.new (O.account outside.new) }
-{
     let Some(element) = plan.element(group) else {
         return Ok(Signal::Normal);
     };
