@@ -18,7 +18,8 @@ use var_changes::put_copy;
 use var_functions::{FnState, Props, UserState, VarError, Vars};
 
 /// What the templates of a thread read and change, before anything is set. Threads are numbered from 0 over all groups; each
-/// takes a copy of the properties, and its random words are a stream of their own of this seed.
+/// takes a copy of the properties, and its random words are a stream of their own of this seed. It is refused only out of
+/// memory.
 pub fn first_user(alloc: Global, plan: &Plan, thread: u16, seed: u64, props: &Props) -> M<UserState>
     requires { thread < length (threads_of plan.now) }
     ensures { IfOk result (λ user. user ≡ first_user plan.now thread seed props.now) }
