@@ -89,7 +89,10 @@ impl Position {
     {
         match self.signal {
             Signal::Normal => match self.stack.top() {
-                Some(_) => self.top_turn(alloc, plan, state, outside),
+                Some(_) => match self.stack.answer(alloc, plan, state, outside) {
+                    Ok(turn) => self.follow(turn, alloc, plan, state, outside),
+                    Err(error) => Err(error),
+                },
                 None => self.group_turn(alloc, plan, state, outside),
             },
             Signal::NextLoop | Signal::Stop(_) => Ok(self.leave_one()),

@@ -79,27 +79,8 @@ impl Position {
         Move::Iteration(u64::from(index))
     }
 
-    // The innermost open element comes next.
-    pub(crate) fn top_turn<O: Outside>(
-        &mut self,
-        alloc: Global,
-        plan: &Plan,
-        state: &mut UserState,
-        outside: &mut O,
-    ) -> Result<Went, VarError>
-        requires stands { StandsIn plan.now self.old }
-        requires normal { self.old.signal ≡ Signal.Normal }
-        requires top { (f : Frame) × (rest : List Frame) × (self.old.stack.frames ≡ f ∷ rest) }
-        ensures { TurnsOn plan.now (O.account outside.old) self.old state.old (O.account outside.new) self.new state.new result }
-    {
-        match self.stack.answer(alloc, plan, state, outside) {
-            Ok(turn) => self.follow(turn, alloc, plan, state, outside),
-            Err(error) => Err(error),
-        }
-    }
-
     // What the innermost open element answered is followed.
-    fn follow<O: Outside>(
+    pub(crate) fn follow<O: Outside>(
         &mut self,
         turn: Turn,
         alloc: Global,
@@ -205,36 +186,20 @@ impl Position {
         ) {
             Ok(Entered::Nothing) => Ok(Went::On),
             Ok(Entered::Sampler) => Ok(Went::To(Move::RunSampler(child))),
-            Ok(Entered::Open(cursor)) => self.push(child, round, depth, cursor),
+            Ok(Entered::Open(cursor)) => {
+                let went = opening_move(&cursor);
+                let frame = Frame {
+                    element: child,
+                    round,
+                    depth: depth - 1,
+                    cursor,
+                };
+                match self.stack.push(frame) {
+                    Ok(()) => Ok(went),
+                    Err(_) => Err(VarError::NoMemory),
+                }
+            }
             Err(error) => Err(error),
-        }
-    }
-
-    // A cursor that was entered is open.
-    fn push(
-        &mut self,
-        element: u16,
-        round: u64,
-        depth: u8,
-        cursor: Cursor,
-    ) -> Result<Went, VarError>
-        requires { 1 ≤ depth }
-        ensures pushed { MatchResult result
-            (λ w. (w ≡ opening_move (shut_of cursor)) × (self.new.stack.frames ≡ record { element = element; round = round; depth = depth - 1; cursor = cursor } ∷ self.old.stack.frames))
-            (λ e. e ≡ VarError.NoMemory) }
-        ensures rest { SameRest self.old self.new }
-        ensures places { self.new.places ≡ self.old.places }
-    {
-        let went = opening_move(&cursor);
-        let frame = Frame {
-            element,
-            round,
-            depth: depth - 1,
-            cursor,
-        };
-        match self.stack.push(frame) {
-            Ok(()) => Ok(went),
-            Err(_) => Err(VarError::NoMemory),
         }
     }
 }
