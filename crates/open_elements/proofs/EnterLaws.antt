@@ -1,6 +1,10 @@
 -- What an element means goes on as its cursor's entry says.
 use Rattle.std.proofs.Common.{◌≡◌, ℕ, Bool, true, false, List, length, refl, sym, subst, arith}
-use Rattle.std.specs.Prelude.{if◌then◌else◌}
+use Rattle.std.specs.Prelude.{if◌then◌else◌, Result, IfOk}
+use Rattle.std.proofs.lemmas.Result.{IfOk-weaker}
+use Rattle.element_tree.specs.Types.{is_section}
+use Rattle.thread_vars.specs.declared.error.VarError.{VarError}
+use Rattle.open_elements.proofs.OpenLaws.{kind_is}
 use Rattle.jm_base.specs.Run.{over, ◌>>=◌}
 use Rattle.template_text.specs.Pieces.{Pieces}
 use Rattle.element_tree.specs.declared.kinds.Kind.{Kind}
@@ -167,3 +171,13 @@ pub no_lock : (elements : List Element) (n count : ℕ) (k : Kind) (x : Entered)
 no_lock elements n count k Nothing fits other = tt
 no_lock elements n count k Sampler fits other = tt
 no_lock elements n count k (Open c) fits other = by_cursor elements n count k c fits.0 other
+
+-- no lock is entered where the element that is entered is no critical section
+pub no_lock_at : (plan : Tree) (n : ℕ) (d : Element) (res : Result Entered VarError) → Some d ≡ slice_get plan.elements n → is_section d.kind ≡ false
+    → IfOk res (λ x. (e : Element) → slice_get plan.elements n ≡ Some e → EnteredFits n (length (children_of plan.elements e)) e.kind x)
+    → IfOk res (λ x. (e : Element) → slice_get plan.elements n ≡ Some e → EntersLock plan.elements e.kind x)
+no_lock_at plan n d res at free fits = IfOk-weaker res _ _ (λ x fits e there.
+    no_lock plan.elements n (length (children_of plan.elements e)) e.kind x (fits e there)
+    (λ name is. free_of d.kind name free (kind_is plan.elements n e d (kinds.CriticalSection name) (sym there) (sym at) is))) fits where
+      free_of : (k : Kind) (name : List ℕ) → is_section k ≡ false → k ≡ kinds.CriticalSection name → ⊥
+      free_of k name free is = let b : true ≡ false = subst (λ k. is_section k ≡ false) is free in cc

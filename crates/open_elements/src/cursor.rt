@@ -115,7 +115,7 @@ impl Cursor {
         ensures later { IsLater state.old.fns state.new.fns }
     {
         match self {
-            Cursor::Simple(cursor) => next_as(cursor, alloc, plan, round, state, outside),
+            Cursor::Simple(cursor) => Ok(cursor.take_turn()),
             Cursor::Once(cursor) => next_as(cursor, alloc, plan, round, state, outside),
             Cursor::Loop(cursor) => next_as(cursor, alloc, plan, round, state, outside),
             Cursor::If(cursor) => next_as(cursor, alloc, plan, round, state, outside),

@@ -125,8 +125,10 @@ fn enter_section(plan: &Plan, child: u16, children: u16) -> Entered
     }))
 }
 
-// Enters an element that is no critical section.
-fn enter_other<O: Outside>(
+/// Enters the element of this number, of which this many children are run: a Loop, a Switch or an If without `all` expands
+/// its text, and the controllers that choose choose their child, by which an Interleave's place moves on. A critical section
+/// is named by the number of its lock. No variable is set. A refusal leaves the places as they were.
+pub fn enter<O: Outside>(
     alloc: Global,
     plan: &Plan,
     child: u16,
@@ -135,9 +137,9 @@ fn enter_other<O: Outside>(
     state: &mut UserState,
     outside: &mut O,
 ) -> Result<Entered, VarError>
-    requires other { (e : Element) → slice_get plan.now.elements child ≡ Some e → (name : List ℕ) → e.kind ≡ Kind.CriticalSection name → ⊥ }
     requires counted { (e : Element) → slice_get plan.now.elements child ≡ Some e → children ≡ run_count plan.now.elements e }
-    ensures { HasEntered plan.now child (O.account outside.old) state.old places.old (O.account outside.new) state.new places.new result }
+    ensures has_entered { HasEntered plan.now child (O.account outside.old) state.old places.old (O.account outside.new) state.new places.new result }
+    ensures lock { IfOk result (λ x. (e : Element) → slice_get plan.now.elements child ≡ Some e → EntersLock plan.now.elements e.kind x) }
 {
     let Some(element) = plan.element(child) else {
         return Ok(Entered::Nothing);
@@ -166,31 +168,7 @@ fn enter_other<O: Outside>(
             alloc, plan, child, children, state, outside,
         ),
         Kind::Transaction => Ok(enter_transaction(child, children)),
-        _ => Ok(Entered::Nothing),
-    }
-}
-
-/// Enters the element of this number, of which this many children are run: a Loop, a Switch or an If without `all` expands
-/// its text, and the controllers that choose choose their child, by which an Interleave's place moves on. A critical section
-/// is named by the number of its lock. No variable is set. A refusal leaves the places as they were.
-pub fn enter<O: Outside>(
-    alloc: Global,
-    plan: &Plan,
-    child: u16,
-    children: u16,
-    places: &mut Places,
-    state: &mut UserState,
-    outside: &mut O,
-) -> Result<Entered, VarError>
-    requires counted { (e : Element) → slice_get plan.now.elements child ≡ Some e → children ≡ run_count plan.now.elements e }
-    ensures has_entered { HasEntered plan.now child (O.account outside.old) state.old places.old (O.account outside.new) state.new places.new result }
-    ensures lock { IfOk result (λ x. (e : Element) → slice_get plan.now.elements child ≡ Some e → EntersLock plan.now.elements e.kind x) }
-{
-    let Some(element) = plan.element(child) else {
-        return Ok(Entered::Nothing);
-    };
-    match &element.kind {
         Kind::CriticalSection { .. } => Ok(enter_section(plan, child, children)),
-        _ => enter_other(alloc, plan, child, children, places, state, outside),
+        _ => Ok(Entered::Nothing),
     }
 }

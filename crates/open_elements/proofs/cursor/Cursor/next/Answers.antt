@@ -10,17 +10,26 @@ use Rattle.open_elements.proofs.PassLaws.{passes_fewer}
 use Rattle.open_elements.proofs.CursorCalls.{came-step}
 use Rattle.open_elements.proofs.cursor.Cursor.next.Goals as goal
 
-pub next_as-requires : goal.next_as-requires
-next_as-requires g c = rw c.in-Simple.is at c.requires
-
 pub returns-in-Simple-clause-answers : goal.returns-in-Simple-clause-answers
-returns-in-Simple-clause-answers g c = rw c.in-Simple.is c.next_as.ensures.answers
+returns-in-Simple-clause-answers g c = rw c.in-Simple.is (record {
+  came = λ e n below own there fits bound.
+      came-step (g.O.Outside.account c.args.outside.now) (g.O.Outside.account c.args.outside.now) below (λ d. c.args.round) (children_of c.args.plan.now.elements e) (simple_left below c.args.round (children_of c.args.plan.now.elements e)) own _ _ c.take_turn.new.self c.args.state.now (Ok c.take_turn.result)
+      (simple-law below c.args.round (children_of c.args.plan.now.elements e) c.in-Simple.cursor (state_of c.args.state.now own) fits.2) (goes-same _ _ _ (sym (c.take_turn.ensures.goes c.args.state.now)));
+  begun = omega arith;
+  pass = passes_fewer c.in-Simple.cursor.pass c.take_turn.new.self.pass c.take_turn.result c.take_turn.ensures.turned.pass;
+  shut = refl;
+  fits = λ e n there fits. (c.take_turn.ensures.same ∙ fits.0, fits.1, rw c.take_turn.ensures.turned.children fits.2);
+  cut = λ e n there fits. tt;
+})
 
-pub next_as-requires-in-Once : goal.next_as-requires-in-Once
-next_as-requires-in-Once g c = rw c.in-Once.is at c.requires
+pub returns-in-Simple-clause-later : goal.returns-in-Simple-clause-later
+returns-in-Simple-clause-later g c = later_same _
+
+pub next_as-requires : goal.next_as-requires
+next_as-requires g c = rw c.in-Once.is at c.requires
 
 pub returns-in-Once-clause-answers : goal.returns-in-Once-clause-answers
-returns-in-Once-clause-answers g c = rw c.in-Once.is c.next_as-in-Once.ensures.answers
+returns-in-Once-clause-answers g c = rw c.in-Once.is c.next_as.ensures.answers
 
 pub next_as-requires-in-Loop : goal.next_as-requires-in-Loop
 next_as-requires-in-Loop g c = rw c.in-Loop.is at c.requires
@@ -73,12 +82,12 @@ returns-in-Switch-clause-answers g c = rw c.in-Switch.is c.next_as-in-Switch.ens
 pub returns-in-Transaction-clause-answers : goal.returns-in-Transaction-clause-answers
 returns-in-Transaction-clause-answers g c = rw c.in-Transaction.is (record {
   came = λ e n below own there fits bound.
-      came-step (g.O.Outside.account c.args.outside.now) (g.O.Outside.account c.args.outside.now) below (λ d. c.args.round) (children_of c.args.plan.now.elements e) (simple_left below c.args.round (children_of c.args.plan.now.elements e)) own _ _ c.take_turn.new.self c.args.state.now (Ok c.take_turn.result)
-      (simple-law below c.args.round (children_of c.args.plan.now.elements e) c.in-Transaction.open.children (state_of c.args.state.now own) fits.2) (goes-same _ _ _ (sym (c.take_turn.ensures.goes c.args.state.now)));
+      came-step (g.O.Outside.account c.args.outside.now) (g.O.Outside.account c.args.outside.now) below (λ d. c.args.round) (children_of c.args.plan.now.elements e) (simple_left below c.args.round (children_of c.args.plan.now.elements e)) own _ _ c.take_turn-in-Transaction.new.self c.args.state.now (Ok c.take_turn-in-Transaction.result)
+      (simple-law below c.args.round (children_of c.args.plan.now.elements e) c.in-Transaction.open.children (state_of c.args.state.now own) fits.2) (goes-same _ _ _ (sym (c.take_turn-in-Transaction.ensures.goes c.args.state.now)));
   begun = omega arith;
-  pass = passes_fewer c.in-Transaction.open.children.pass c.take_turn.new.self.pass c.take_turn.result c.take_turn.ensures.turned.pass;
+  pass = passes_fewer c.in-Transaction.open.children.pass c.take_turn-in-Transaction.new.self.pass c.take_turn-in-Transaction.result c.take_turn-in-Transaction.ensures.turned.pass;
   shut = refl;
-  fits = λ e n there fits. (c.take_turn.ensures.same ∙ fits.0, fits.1, rw c.take_turn.ensures.turned.children fits.2);
+  fits = λ e n there fits. (c.take_turn-in-Transaction.ensures.same ∙ fits.0, fits.1, rw c.take_turn-in-Transaction.ensures.turned.children fits.2);
   cut = λ e n there fits. tt;
 })
 
