@@ -4,5 +4,4 @@ pub mod Load
 pub mod Turns
 pub mod Hearing
 pub mod MachineCut
-pub mod NextMove
 pub mod Answers

@@ -15,7 +15,7 @@ ghost use Rattle.control_machine.specs.Hearing.{told};
 ghost use Rattle.control_machine.specs.MachineCut.{IsCut};
 
 use crate::moves::{Leave, Move};
-use crate::position::{Group, Position};
+use crate::position::{Group, Position, Went};
 use crate::stack::Stack;
 use cursor_steps::Pass;
 use element_tree::{Kind, Plan};
@@ -128,7 +128,13 @@ impl Machine {
         ensures later { IsLater state.old.fns state.new.fns }
         ensures cut { OnErr result (IsCut plan.now (O.account outside.old) (λ beside. left_of plan.now self.old (state_at self.old beside state.old)) (O.account outside.new) state.new) }
     {
-        self.position.next(alloc, plan, state, outside)
+        'turns: loop {
+            match self.position.turn(alloc, plan, state, outside) {
+                Ok(Went::On) => {}
+                Ok(Went::To(next)) => return Ok(next),
+                Err(error) => return Err(error),
+            }
+        }
     }
 
     /// Tells of the sample of the sampler that the last move named: the open transactions count it, and where it failed the

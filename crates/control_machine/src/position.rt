@@ -2,7 +2,6 @@
 
 ghost use Rattle.control_machine.specs.Left.{StandsIn};
 ghost use Rattle.control_machine.specs.Turns.{TurnsOn};
-ghost use Rattle.control_machine.specs.NextMove.{NextMove};
 
 use crate::moves::Move;
 use crate::stack::Stack;
@@ -56,28 +55,8 @@ pub enum Went {
 }
 
 impl Position {
-    // The next move, after as many turns as it takes.
-    pub(crate) fn next<O: Outside>(
-        &mut self,
-        alloc: Global,
-        plan: &Plan,
-        state: &mut UserState,
-        outside: &mut O,
-    ) -> Result<Move, VarError>
-        requires { StandsIn plan.now self.old }
-        ensures { NextMove plan.now (O.account outside.old) self.old state.old (O.account outside.new) self.new state.new result }
-    {
-        'turns: loop {
-            match self.turn(alloc, plan, state, outside) {
-                Ok(Went::On) => {}
-                Ok(Went::To(next)) => return Ok(next),
-                Err(error) => return Err(error),
-            }
-        }
-    }
-
     // One turn: a child is opened, a round begun, or an element left.
-    fn turn<O: Outside>(
+    pub(crate) fn turn<O: Outside>(
         &mut self,
         alloc: Global,
         plan: &Plan,

@@ -1,6 +1,6 @@
 // The turns of a machine.
 
-ghost use Rattle.std.specs.Prelude.{◌≡◌, is_some, ◌+◌, ◌-◌, ◌≤◌, ◌<◌, slice_get, Some, List, [], ◌∷◌, IfOk, MatchResult};
+ghost use Rattle.std.specs.Prelude.{◌≡◌, is_some, ◌+◌, ◌-◌, ◌≤◌, ◌<◌, slice_get, Some, List, [], ◌∷◌, IfOk};
 ghost use Rattle.element_tree.specs.declared.kinds.Element.{Element};
 ghost use Rattle.element_tree.specs.Tree.{Tree, Nests, Apart};
 ghost use Rattle.var_functions.specs.FunctionState.{IsLater};

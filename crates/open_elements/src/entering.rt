@@ -1,17 +1,14 @@
 // Elements that are entered.
 
-ghost use Rattle.std.specs.Prelude.{◌≡◌, ◌<◌, slice_get, length, Some, ℕ, List, IfOk, OnErr};
+ghost use Rattle.std.specs.Prelude.{◌≡◌, ◌<◌, slice_get, length, Some, ℕ, List, IfOk};
 ghost use Rattle.element_tree.specs.declared.kinds.Element.{Element};
 ghost use Rattle.element_tree.specs.Tree.{Tree};
-ghost use Rattle.var_functions.specs.Came.{CameTo};
 ghost use Rattle.cursor_steps.specs.CursorStep.{IsThere};
 ghost use Rattle.cursor_steps.specs.RunningChildren.{run_count};
-ghost use Rattle.jm_meaning.specs.State.{Own, State, state_of, at_places};
+ghost use Rattle.jm_meaning.specs.State.{State};
 ghost use Rattle.jm_meaning.specs.Children.{Below, children_of};
 ghost use Rattle.jm_meaning.specs.Meaning.{kind_meaning};
-ghost use Rattle.jm_meaning.specs.Cut.{StandsLater};
 ghost use Rattle.jm_meaning.specs.declared.signal.Signal.{Signal};
-ghost use Rattle.open_elements.specs.Moves.{past};
 ghost use Rattle.open_elements.specs.Entering.{here_with, entered, EnteredFits, EntersLock, HasEntered};
 
 use crate::cursor::Cursor;
