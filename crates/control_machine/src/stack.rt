@@ -7,7 +7,7 @@ ghost use Rattle.control_machine.specs.Answers.{TopAnswers};
 ghost use Rattle.control_machine.specs.Hearing.{all_hearing};
 
 use element_tree::{Plan, Turn};
-use jm_base::{M, NoMemory, Outside, Sample};
+use jm_base::{M, Outside, Sample};
 use open_elements::Cursor;
 use std::alloc::Global;
 use std::marker::Model;
@@ -56,10 +56,8 @@ impl Stack {
         ensures ok { OnOk result (self.new.frames ≡ frame ∷ self.old.frames) }
         ensures err { OnErr result (self.new.frames ≡ self.old.frames) }
     {
-        match self.frames.push(frame) {
-            Ok(()) => Ok(()),
-            Err(_) => Err(NoMemory),
-        }
+        self.frames.push(frame)?;
+        Ok(())
     }
 
     /// Takes the innermost open element out.
