@@ -1,16 +1,21 @@
 -- How a thread comes through a transaction.
-use Rattle.std.proofs.Common.{◌≡◌, ℕ, suc, ◌-◌, true, false, List, [], ◌∷◌, ◌++◌, Result, refl, sym, ap, ◌∙◌, subst, arith}
-use Rattle.std.specs.Prelude.{IfOk, ◌&&◌, nat_lt, if◌then◌else◌}
+use Rattle.std.proofs.Common.{◌≡◌, ℕ, suc, ◌-◌, true, false, List, [], ◌∷◌, ◌++◌, Some, Result, refl, sym, ap, ◌∙◌, subst, arith}
+use Rattle.std.specs.Prelude.{IfOk, IfSome, slice_get, ◌&&◌, nat_lt, if◌then◌else◌}
 use Rattle.jm_base.specs.declared.errors.NoMemory.{NoMemory}
 use Rattle.jm_base.specs.declared.types.End.TheVariants.{SampleLimit}
 use Rattle.jm_base.specs.declared.types.Sample.{Sample}
 use Rattle.jm_base.specs.Run.{over, give, Event, Sampled, Transaction}
 use Rattle.jm_base.specs.Outside.{Account, Goes}
+use Rattle.element_tree.specs.Names.{label_of}
+use Rattle.element_tree.specs.declared.kinds.Element.{Element}
+use Rattle.element_tree.specs.declared.kinds.Kind.TheVariants.{Transaction as TransactionKind}
 use Rattle.jm_meaning.specs.declared.item.Item.TheVariants.{Sampled as SampledItem}
 use Rattle.jm_meaning.specs.declared.signal.Signal.{Signal}
 use Rattle.jm_meaning.specs.declared.signal.Signal.TheVariants.{Stop}
 use Rattle.jm_meaning.specs.declared.transaction.Tally.{Tally}
 use Rattle.jm_meaning.specs.State.{Ending, Part, state_of, with_unit}
+use Rattle.jm_meaning.specs.Children.{Below, in_order}
+use Rattle.jm_meaning.specs.Meaning.{Here, kind_meaning, children_in}
 use Rattle.jm_meaning.specs.Transactions.{gives_sample, sample_by, summed, with_own_sample, transaction, tally_of, tallied, transaction_from, counted}
 use Rattle.jm_meaning.proofs.PartLaws.{no-units, one-unit}
 use Rattle.jm_meaning.proofs.TransactionLaws.{by-tally, goes-inside}
@@ -93,3 +98,13 @@ module _ (a : Account) (p : Progress) (label : ℕ) (tally : Tally) (signal : Si
         way-over signal (way-give (λ s. over (record { state = s; signal = signal })) q (Sampled Transaction (sample_by label tally))
         (way-move sum_given (record p { units = p.units - 1 }) in_sum (one-unit (state_in p) sum_given (p.units - 1) unit) refl refl (omega arith) refl)
         (ap (λ s. sum_given s) (sym is)) (items ∙ ap (λ y. p.items.items ++ SampledItem y ∷ []) so) tallies (omega (arith, ap (λ s. s.own.rounds) is)) feeds) refl
+
+-- an element of this kind
+pub transaction-of-kind : (a b : Account) (p q : Progress) (here : Here) (below : Below) (number : ℕ) (e : Element) (round n : ℕ) (cs : List ℕ) (result : Result Signal NoMemory) → slice_get here.plan.elements number ≡ Some e
+    → e.kind ≡ TransactionKind → IfSome (slice_get here.plan.elements number) (λ e. n ≡ label_of here.plan.elements e.name) → cs ≡ children_in here e
+    → Runs a p (transaction n (in_order below round cs)) result q b → Runs a p (kind_meaning here below number e e.kind round) result q b
+transaction-of-kind a b p q here below number e round n cs result there is at cs_are runs =
+    let named : n ≡ label_of here.plan.elements e.name = subst (λ o. IfSome o (λ e. n ≡ label_of here.plan.elements e.name)) there at in
+    subst (λ k. Runs a p (kind_meaning here below number e k round) result q b) (sym is)
+    (subst (λ m. Runs a p (transaction m (in_order below round (children_in here e))) result q b) named
+    (subst (λ l. Runs a p (transaction n (in_order below round l)) result q b) cs_are runs))

@@ -28,7 +28,8 @@ pub struct Level<'p> {
     pub depth: u8,
 }
 
-// Runs an element of this level in a round of its nearest looping ancestor, where there is one.
+// Runs an element of this level by its kind, in a round of its nearest looping ancestor, where there is one. Its children are of
+// the level below.
 #[cycle(elements)]
 fn run_element<O: Outside>(
     level: Level<'_>,
@@ -47,43 +48,18 @@ fn run_element<O: Outside>(
     if level.depth == 0 {
         return Ok(Signal::Normal);
     }
-    match level.plan.element(number) {
-        Some(element) => run_kind(
-            Level {
-                depth: level.depth - 1,
-                ..level
-            },
-            number,
-            element,
-            round,
-            progress,
-            outside,
-        ),
-        None => Ok(Signal::Normal),
-    }
-}
-
-// Runs an element by its kind, over its children, which are of this level.
-#[cycle(elements)]
-fn run_kind<O: Outside>(
-    level: Level<'_>,
-    number: u16,
-    element: &Element,
-    round: u64,
-    progress: &mut Progress,
-    outside: &mut O,
-) -> M<Signal>
-    requires rounds { progress.old.rounds ≤ max_rounds }
-    requires there { slice_get level.plan.now.elements number ≡ Some element.now }
-    ensures { Runs (O.account outside.old) progress.old
-        (kind_meaning (here_of level.entry.plan.now level.entry.at_failure) (at_level level.entry) number element.now element.now.kind round)
-        result progress.new (O.account outside.new) }
-{
+    let Some(element) = level.plan.element(number) else {
+        return Ok(Signal::Normal);
+    };
     let children = children_of(progress.alloc, level.plan, element)?;
     let children = children.as_slice();
+    let below = Level {
+        depth: level.depth - 1,
+        ..level
+    };
     match &element.kind {
         Kind::Transaction => run_transaction(
-            level,
+            below,
             level.plan.label_of(number),
             children,
             round,
@@ -91,14 +67,14 @@ fn run_kind<O: Outside>(
             outside,
         ),
         Kind::CriticalSection { .. } => run_section(
-            level,
+            below,
             level.plan.lock_of(number),
             children,
             round,
             progress,
             outside,
         ),
-        _ => run_entered(level, number, element, children, round, progress, outside),
+        _ => run_entered(below, number, element, children, round, progress, outside),
     }
 }
 

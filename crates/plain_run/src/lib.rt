@@ -24,6 +24,7 @@ use element_tree::Plan;
 use jm_base::{End, M, Outside};
 use jm_meaning::{Item, Places, Signal, Tally, first_user, ramp_up_pause};
 use std::alloc::Global;
+use std::mem;
 use var_functions::Props;
 
 /// What a thread of the plan does over this outside, from its ramp-up pause to its end, by recursion on the elements: what
@@ -49,30 +50,29 @@ pub fn run_plainly<O: Outside>(
         (events plan.now thread (record { seed = seed; props = props.now; budget = budget })) (O.account outside.new)) }
 {
     let mut progress = first_progress(alloc, plan, thread, seed, props, budget)?;
-    run_begun(plan, thread, &mut progress, outside)?;
-    Ok(progress.items)
+    run_begun(plan, thread, &mut progress, outside)
 }
 
-// What the thread does from its first event on.
+// What the thread does from its first event on: what its trace shows is taken out.
 fn run_begun<O: Outside>(
     plan: &Plan,
     thread: u16,
     progress: &mut Progress,
     outside: &mut O,
-) -> M<()>
+) -> M<Vec<Item>>
     requires thread { thread < length (threads_of plan.now) }
     requires rounds { progress.old.rounds ≤ max_rounds }
     requires feeds { progress.old.config.feeds ≡ feeds_of plan.now.elements (group_of plan.now thread) }
     requires items { progress.old.items.items ≡ [] }
-    ensures shows { OnOk result ((options : Options) → state_in progress.old ≡ first_of plan.now thread options
-        → Shows (O.account outside.old) [] (events plan.now thread options) (over tt) progress.new.items.items (O.account outside.new)) }
+    ensures shows { IfOk result (λ items. (options : Options) → state_in progress.old ≡ first_of plan.now thread options
+        → Shows (O.account outside.old) [] (events plan.now thread options) (over tt) items.items (O.account outside.new)) }
     ensures cut { OnErr result ((options : Options) → state_in progress.old ≡ first_of plan.now thread options
         → IsUnderWay (O.account outside.old) (events plan.now thread options) (O.account outside.new)) }
 {
     pause(ramp_up_pause(plan, thread), outside, &mut progress.items)?;
     let signal = run_thread(plan, plan.group_of(thread), progress, outside)?;
     progress.items.push(Item::Ended(end_of(signal)))?;
-    Ok(())
+    Ok(mem::replace(&mut progress.items, Vec::new(progress.alloc)))
 }
 
 // The thread before its first event.

@@ -19,7 +19,7 @@ returns-in_err-push-clause-cut g c = cut-always c.from_residual-in_err-push.resu
     c.requires.items c.group_of.ensures.number c.ramp_up_pause.ensures start c.in_ok-pause.ensures.shows c.run_thread.new.progress c.in_ok-signal.signal c.in_ok-signal.ensures)
 
 pub returns-clause-shows : goal.returns-clause-shows
-returns-clause-shows g c = λ options start. rw c.in_ok-push.ensures.items
+returns-clause-shows g c = λ options start. rw (c.replace.ensures.value, c.in_ok-push.ensures.items)
     (thread-shows c.args.plan.now c.args.thread c.group_of.result c.ramp_up_pause.result options _ _ _ c.args.progress.now.items.items
     (record c.args.progress.now { items = c.pause.new.items })
     c.requires.items c.group_of.ensures.number c.ramp_up_pause.ensures start

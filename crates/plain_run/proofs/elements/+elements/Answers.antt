@@ -1,17 +1,19 @@
 use Rattle.std.proofs.Common.{ℕ, ◌+◌, ◌-◌, ◌<◌, List, length, drop, refl, sym, ap, ◌∙◌, arith}
+use Rattle.std.specs.Prelude.{slice_get}
 use Rattle.std.proofs.Math.ListN.{get_or}
 use Rattle.std.proofs.lemmas.Option.{slice_get_within}
+use Rattle.element_tree.specs.declared.kinds.Element.{Element}
 use Rattle.jm_meaning.specs.State.{on_normal}
-use Rattle.jm_meaning.specs.Children.{Below, in_order, one_of}
-use Rattle.jm_meaning.specs.Meaning.{Here, meaning, kind_meaning}
+use Rattle.jm_meaning.specs.Children.{Below, children_of, in_order, one_of}
+use Rattle.jm_meaning.specs.Meaning.{Here, meaning}
 use Rattle.plain_run.specs.Plays.{state_in, here_of}
 use Rattle.plain_run.specs.Levels.{at_level}
 use Rattle.plain_run.proofs.Ways.{way-start, way-then, way-stop}
-use Rattle.plain_run.proofs.UnderWay.{at-start, on-way-in, runs-cut, runs-as}
+use Rattle.plain_run.proofs.UnderWay.{at-start, on-way-in, runs-cut}
 use Rattle.plain_run.proofs.StepLaws.{refused-runs}
-use Rattle.plain_run.proofs.ElementLaws.{plays-nothing, meaning-at, meaning-none, meaning-flat, next-child, children-over}
+use Rattle.plain_run.proofs.ElementLaws.{plays-nothing, element-runs, meaning-none, meaning-flat, next-child, children-over}
 use Rattle.plain_run.proofs.CursorWays.{turning-start, turns-over, turn-taken, turn-not-taken, turn-cut, turn-done, turn-last, turn-past, turn-out, nothing-entered, sampler-entered, controller-entered, enter-past, enter-out, round-lighter}
-use Rattle.plain_run.proofs.TransactionWays.{transaction-cut, transaction-runs}
+use Rattle.plain_run.proofs.TransactionWays.{transaction-cut, transaction-of-kind, transaction-runs}
 use Rattle.plain_run.proofs.SectionWays.{no-unit-for-section, section-cut, section-unleft, section-plays, section-runs}
 use Rattle.plain_run.proofs.elements.+elements.Goals as goal
 
@@ -33,7 +35,7 @@ run_children-returns-in_err-other g t c =
     let i : ℕ = c.loop-child.child-index in
     let cs : List ℕ = c.args.children.now in
     let within : i < length cs = omega arith in
-    runs-cut _ _ _ _ c.from_residual.result c.from_residual.ensures.1
+    runs-cut c.args.progress.now c.run_element.new.progress (in_order below c.args.round cs) _ c.from_residual.result c.from_residual.ensures.1
     (on-way-in (below (get_or cs i 0) c.args.round (state_in c.loop-child.progress)) (on_normal (in_order below c.args.round (drop (i + 1) cs))) c.loop-child.invariant
     (next-child below c.args.round cs i (state_in c.loop-child.progress) within) c.in_err-other.ensures)
 
@@ -57,21 +59,43 @@ pub run_element-returns-then-level-eq0 : goal.run_element-returns-then-level-eq0
 run_element-returns-then-level-eq0 g t c = plays-nothing _ _ _
     (ap (λ o. one_of (at_level c.args.level) c.args.round o (state_in c.args.progress.now)) c.in-Some.is ∙ meaning-flat (here_of c.args.level.plan.now c.args.level.at_failure) c.args.level.depth c.in-Some.number c.args.round (state_in c.args.progress.now) c.if-level-eq0.true)
 
-pub run_element-returns-in-None : goal.run_element-returns-in-None
-run_element-returns-in-None g t c = plays-nothing _ _ _
-    (ap (λ o. one_of (at_level c.args.level) c.args.round o (state_in c.args.progress.now)) c.in-Some.is ∙ meaning-none (here_of c.args.level.plan.now c.args.level.at_failure) c.args.level.depth c.in-Some.number c.args.round (state_in c.args.progress.now) (sym c.in-None.ensures))
+pub run_element-returns-in_default-element : goal.run_element-returns-in_default-element
+run_element-returns-in_default-element g t c = plays-nothing _ _ _
+    (ap (λ o. one_of (at_level c.args.level) c.args.round o (state_in c.args.progress.now)) c.in-Some.is ∙ meaning-none (here_of c.args.level.plan.now c.args.level.at_failure) c.args.level.depth c.in-Some.number c.args.round (state_in c.args.progress.now) (sym c.in_default-element.ensures))
 
-pub run_element-returns-in-Some-element : goal.run_element-returns-in-Some-element
-run_element-returns-in-Some-element g t c =
+pub run_element-label_of-requires : goal.run_element-label_of-requires
+run_element-label_of-requires g t c = slice_get_within c.args.level.plan.now.elements c.in-Some.number c.in-Some-element.element.now (sym {b = slice_get c.args.level.plan.now.elements c.in-Some.number} c.in-Some-element.ensures)
+
+pub run_element-lock_of-requires : goal.run_element-lock_of-requires
+run_element-lock_of-requires g t c = slice_get_within c.args.level.plan.now.elements c.in-Some.number c.in-Some-element.element.now (sym {b = slice_get c.args.level.plan.now.elements c.in-Some.number} c.in-Some-element.ensures)
+
+pub run_element-returns-in_err-children : goal.run_element-returns-in_err-children
+run_element-returns-in_err-children g t c = runs-cut _ _ _ _ c.from_residual.result c.from_residual.ensures.1 (at-start _ _)
+
+pub run_element-returns-in-Transaction : goal.run_element-returns-in-Transaction
+run_element-returns-in-Transaction g t c =
     let here : Here = here_of c.args.level.plan.now c.args.level.at_failure in
-    runs-as _ _ _ _ _ (one_of (at_level c.args.level) c.args.round c.args.number) (kind_meaning here (meaning here (c.args.level.depth - 1)) c.in-Some.number c.in-Some-element.element.now c.in-Some-element.element.now.kind c.args.round) c.run_kind.ensures
-    (ap (λ o. one_of (at_level c.args.level) c.args.round o (state_in c.args.progress.now)) c.in-Some.is ∙ meaning-at here c.args.level.depth c.in-Some.number c.args.round (state_in c.args.progress.now) c.in-Some-element.element.now c.if-level-eq0.false (sym c.in-Some-element.ensures))
+    let below : Below = meaning here (c.args.level.depth - 1) in
+    let e : Element = c.in-Some-element.element.now in
+    element-runs _ _ c.args.progress.now _ c.run_transaction.result here c.args.level.depth c.in-Some.number c.args.round c.args.number e c.in-Some.is c.if-level-eq0.false c.in-Some-element.ensures
+    (transaction-of-kind _ _ _ _ here below c.in-Some.number e c.args.round c.label_of.result
+    c.as_slice-children.result.now c.run_transaction.result (sym {b = slice_get c.args.level.plan.now.elements c.in-Some.number} c.in-Some-element.ensures) c.in-Transaction.is c.label_of.ensures (◌∙◌ {c = children_of c.args.level.plan.now.elements c.in-Some-element.element.now} c.as_slice-children.ensures.value c.in_ok-children.ensures) c.run_transaction.ensures)
 
-pub run_kind-label_of-requires : goal.run_kind-label_of-requires
-run_kind-label_of-requires g t c = slice_get_within c.args.level.plan.now.elements c.args.number c.args.element.now c.requires.there
+pub run_element-returns-in-CriticalSection : goal.run_element-returns-in-CriticalSection
+run_element-returns-in-CriticalSection g t c =
+    let here : Here = here_of c.args.level.plan.now c.args.level.at_failure in
+    let below : Below = meaning here (c.args.level.depth - 1) in
+    let e : Element = c.in-Some-element.element.now in
+    element-runs _ _ c.args.progress.now _ c.run_section.result here c.args.level.depth c.in-Some.number c.args.round c.args.number e c.in-Some.is c.if-level-eq0.false c.in-Some-element.ensures
+    (section-runs _ _ _ _ here below c.in-Some.number e c.args.round c.in-CriticalSection.lock c.lock_of.result
+    c.as_slice-children.result.now c.run_section.result (sym {b = slice_get c.args.level.plan.now.elements c.in-Some.number} c.in-Some-element.ensures) c.in-CriticalSection.is c.lock_of.ensures (◌∙◌ {c = children_of c.args.level.plan.now.elements c.in-Some-element.element.now} c.as_slice-children.ensures.value c.in_ok-children.ensures) c.run_section.ensures)
 
-pub run_kind-returns-in_err-children : goal.run_kind-returns-in_err-children
-run_kind-returns-in_err-children g t c = runs-cut _ _ _ _ c.from_residual.result c.from_residual.ensures.1 (at-start _ _)
+pub run_element-returns : goal.run_element-returns
+run_element-returns g t c =
+    let here : Here = here_of c.args.level.plan.now c.args.level.at_failure in
+    let e : Element = c.in-Some-element.element.now in
+    element-runs _ _ c.args.progress.now _ c.run_entered.result here c.args.level.depth c.in-Some.number c.args.round c.args.number e c.in-Some.is c.if-level-eq0.false c.in-Some-element.ensures
+    c.run_entered.ensures
 
 pub run_transaction-returns-in_err-signal : goal.run_transaction-returns-in_err-signal
 run_transaction-returns-in_err-signal g t c = runs-cut _ _ _ _ c.from_residual.result c.from_residual.ensures.1
@@ -103,14 +127,6 @@ pub run_section-returns : goal.run_section-returns
 run_section-returns g t c =
     section-plays (g.O.Outside.account c.args.outside.now) c.args.progress.now c.args.lock (in_order (at_level c.args.level) c.args.round c.args.children.now)
     c.if-progress-eq0.false _ refl c.in_ok-push.ensures.items refl refl c.in_ok-signal.signal c.in_ok-signal.ensures _ refl c.in_ok-push-2.ensures.items refl refl
-
-pub run_kind-lock_of-requires : goal.run_kind-lock_of-requires
-run_kind-lock_of-requires g t c = slice_get_within c.args.level.plan.now.elements c.args.number c.args.element.now c.requires.there
-
-pub run_kind-returns-in-CriticalSection : goal.run_kind-returns-in-CriticalSection
-run_kind-returns-in-CriticalSection g t c =
-    section-runs _ _ _ _ (here_of c.args.level.plan.now c.args.level.at_failure) (at_level c.args.level) c.args.number c.args.element.now c.args.round c.in-CriticalSection.lock c.lock_of.result
-    c.as_slice-children.result.now c.run_section.result c.requires.there c.in-CriticalSection.is c.lock_of.ensures (c.as_slice-children.ensures.value ∙ c.in_ok-children.ensures) c.run_section.ensures
 
 pub run_entered-returns-in-Ok-Nothing : goal.run_entered-returns-in-Ok-Nothing
 run_entered-returns-in-Ok-Nothing g t c =

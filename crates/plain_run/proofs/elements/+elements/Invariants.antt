@@ -24,9 +24,6 @@ decreases-run_section g l = 5 * l.level.depth + 2
 abbrev pub decreases-run_entered : goal.decreases-run_entered
 decreases-run_entered g l = 5 * l.level.depth + 3
 
-abbrev pub decreases-run_kind : goal.decreases-run_kind
-decreases-run_kind g l = 5 * l.level.depth + 4
-
 abbrev pub invariant-run_children-loop-child : goal.invariant-run_children-loop-child
 invariant-run_children-loop-child g l =
     OnWay (g.O.Outside.account l.fn.outside) l.fn.progress
