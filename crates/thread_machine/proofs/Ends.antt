@@ -1,5 +1,5 @@
 -- What an ended thread's standing says over each form of an outside, and how each step goes on from the one before.
-use Rattle.std.proofs.Common.{◌≡◌, ℕ, zero, suc, true, ap₂, append_assoc, List, [], ◌∷◌, ◌++◌, Option, Some, None, refl, sym, ap, ◌∙◌, subst, inl, inr}
+use Rattle.std.proofs.Common.{◌≡◌, ◌≤◌, ℕ, zero, suc, true, ap₂, append_assoc, List, [], ◌∷◌, ◌++◌, Option, Some, None, refl, sym, ap, ◌∙◌, subst, inl, inr}
 use Rattle.std.specs.Prelude.{map, All, MatchOption, IfSome, IsSome}
 use Rattle.std.specs.Option.{option_map}
 use Rattle.std.proofs.lemmas.List.{append-nil, map-append}
@@ -459,6 +459,46 @@ begun_on a b old new h = elim h [
   | inl p ↦ record { owed = ap (λ s. s.owed) p.new_is; entering = ap (λ s. s.entering) p.new_is; section = ap (λ s. s.section) p.new_is; ended = ap (λ s. s.ended) p.new_is; plan = ap (λ s. s.plan) p.new_is; thread = ap (λ s. s.thread) p.new_is; units = ap (λ s. s.units) p.new_is }
   | inr s ↦ record { owed = ap (λ s. s.owed) s.standing; entering = ap (λ s. s.entering) s.standing; section = ap (λ s. s.section) s.standing; ended = ap (λ s. s.ended) s.standing; plan = ap (λ s. s.plan) s.standing; thread = ap (λ s. s.thread) s.standing; units = ap (λ s. s.units) s.standing }
 ]
+
+-- what an end leaves as it was
+pub record EndedOn (old new : Standing) : Type 0 where
+  pub owed : new.owed ≡ old.owed
+  pub entering : new.entering ≡ old.entering
+  pub plan : new.plan ≡ old.plan
+  pub thread : new.thread ≡ old.thread
+  pub fewer : new.units ≤ old.units
+
+-- a step leaves the thread its plan and its number
+pub record SameThread (old new : Standing) : Type 0 where
+  pub plan : new.plan ≡ old.plan
+  pub thread : new.thread ≡ old.thread
+
+module _ (a b : Account) (run : Run (Unit {0})) (old new : Standing) where
+  over_on : (end : End) → IsOver a b run old new end → EndedOn old new
+  over_on end o = record { owed = ap (λ s. s.owed) o.new_is; entering = ap (λ s. s.entering) o.new_is; plan = ap (λ s. s.plan) o.new_is; thread = ap (λ s. s.thread) o.new_is; fewer = o.fewer }
+
+  pub ended_on : (end : End) → Ends a b run old new end → EndedOn old new
+  ended_on Completed o = over_on Completed o
+  ended_on StopThread o = over_on StopThread o
+  ended_on StopTest o = over_on StopTest o
+  ended_on Stopped o = absurd o
+  ended_on SampleLimit o = over_on SampleLimit o
+  ended_on RoundLimit o = over_on RoundLimit o
+  ended_on ValueLimit o = over_on ValueLimit o
+  ended_on NoMemory o = record { owed = ap (λ s. s.owed) o.new_is; entering = ap (λ s. s.entering) o.new_is; plan = ap (λ s. s.plan) o.new_is; thread = ap (λ s. s.thread) o.new_is; fewer = o.fewer }
+
+  gives_thread : (step : Step) → Gives a b run old new step → SameThread old new
+  gives_thread (StepSampled entry) g = record { plan = ap (λ s. s.plan) g.new_is; thread = ap (λ s. s.thread) g.new_is }
+  gives_thread StepNull g = record { plan = ap (λ s. s.plan) g.new_is; thread = ap (λ s. s.thread) g.new_is }
+  gives_thread (StepEnter lock) g = record { plan = ap (λ s. s.plan) g.new_is; thread = ap (λ s. s.thread) g.new_is }
+  gives_thread (StepLeave lock) g = record { plan = ap (λ s. s.plan) g.new_is; thread = ap (λ s. s.thread) g.new_is }
+  gives_thread (StepEnded end) g = record { plan = (ended_on end g).plan; thread = (ended_on end g).thread }
+
+pub thread_same : (a b : Account) (old new : Standing) (step : Step) → Steps a b old new step → SameThread old new
+thread_same a b old new step s =
+    let begun = begun_on a s.begun old s.between s.begins in
+    let given = gives_thread s.begun b (rest s.between) s.between new step s.gives in
+    record { plan = given.plan ∙ begun.plan; thread = given.thread ∙ begun.thread }
 
 stands_begun : (start now later : Account) (options : Options) (w new : Standing) → w.owed ≡ None → w.entering ≡ None → Begins now later w new → Stands start now options w → Stands start later options new
 stands_begun start now later options w new none free h stands = elim h [

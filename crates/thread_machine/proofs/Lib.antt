@@ -8,6 +8,7 @@ pub mod Samplers
 pub mod Summing
 pub mod Ends
 pub mod Sound
+pub mod Appended
 pub mod Intervals
 pub mod Counts
 pub mod PlaceLaws

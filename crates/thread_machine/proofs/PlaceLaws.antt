@@ -1,24 +1,22 @@
 -- The places of the sections of a trace: how many of the same lock came before.
-use Rattle.std.proofs.Common.{◌≡◌, ℕ, zero, suc, ◌+◌, ◌-◌, ◌≤◌, ◌<◌, Bool, true, false, List, [], ◌∷◌, ◌++◌, length, Option, Some, None, refl, sym, ap, ◌∙◌, subst, append_assoc, arith, inl, inr, get_or-set_same, get_or-set_other}
+use Rattle.std.proofs.Common.{◌≡◌, ℕ, ◌+◌, ◌-◌, ◌≤◌, ◌<◌, Bool, true, false, List, [], ◌∷◌, ◌++◌, length, Some, None, refl, sym, ap, ◌∙◌, subst, append_assoc, arith, inl, inr, get_or-set_same, get_or-set_other}
 use Rattle.std.specs.Prelude.{◌==◌, ◌≢◌, slice_index, slice_set, if◌then◌else◌}
 use Rattle.std.proofs.lemmas.List.{append-nil, get_or-replicate, length-replicate, length-set}
 use Rattle.std.proofs.lemmas.Bool.{eqb-true, eqb-false}
 use Rattle.std.specs.Prelude.{replicate}
-use Rattle.jm_base.specs.declared.types.End.TheVariants.{Completed, StopThread, StopTest, Stopped, SampleLimit, RoundLimit, ValueLimit, NoMemory}
 use Rattle.jm_base.specs.declared.types.Entry.{Entry}
 use Rattle.jm_base.specs.declared.types.Sample.{Sample}
-use Rattle.jm_base.specs.Run.{Run}
 use Rattle.jm_base.specs.Outside.{Account}
 use Rattle.thread_machine.specs.declared.step.Step.{Step}
-use Rattle.thread_machine.specs.declared.step.Step.TheVariants.{Sampled as SampledStep, Null as NullStep, Enter as EnterStep, Leave as LeaveStep, Ended as EndedStep}
+use Rattle.thread_machine.specs.declared.step.Step.TheVariants.{Sampled as SampledStep, Null as NullStep, Enter as EnterStep, Leave as LeaveStep}
 use Rattle.std.proofs.lemmas.List.Sums.{sum_by_push, sum_by-le-sum_by}
-use Rattle.jm_base.specs.declared.types.End.{End}
 use Rattle.thread_machine.specs.declared.trace.TraceItem.{TraceItem}
 use Rattle.thread_machine.specs.declared.trace.TraceItem.TheVariants.{Paused, Sampled, Null, Entered, Left, Ended}
 use Rattle.thread_machine.specs.Inside.{owed_count}
-use Rattle.thread_machine.specs.SectionOrder.{one_if_section, sections_in, one_if_of, sections_of, IsPlaced, PlacedAfter, left_traced}
-use Rattle.thread_machine.specs.Standing.{Standing, rest}
-use Rattle.thread_machine.specs.Stepped.{trace_paused, Begins, IsOver, Ends, Gives, Steps}
+use Rattle.thread_machine.specs.SectionOrder.{one_if_section, sections_in, one_if_of, sections_of, IsPlaced, PlacedAfter}
+use Rattle.thread_machine.specs.Standing.{Standing}
+use Rattle.thread_machine.specs.Stepped.{Begins, Steps}
+use Rattle.thread_machine.proofs.Appended.{after_step}
 
 -- one more item
 pub placed-push : (before xs : List TraceItem) (item : TraceItem) → PlacedAfter before xs → IsPlaced (before ++ xs) item → PlacedAfter before (xs ++ item ∷ [])
@@ -57,50 +55,16 @@ grows_push old new item is placed none = record {
   same = λ lock. (let a : sections_of lock new ≡ sections_of lock old + one_if_of lock item = ap (sections_of lock) is ∙ sum_by_push (one_if_of lock) old item in let b = none lock in omega (arith, a, b));
 }
 
-grows_paused : (t : List TraceItem) (ms : ℕ) → Grows t (trace_paused t ms)
-grows_paused t zero = grows_not t
-grows_paused t (suc ms) = grows_push t (trace_paused t (suc ms)) (Paused (suc ms)) refl tt (λ lock. refl)
-
-grows_left : (t : List TraceItem) (o : Option ℕ) (end : End) → Grows t (t ++ (left_traced o ++ Ended end ∷ []))
-grows_left t None end = grows_push t (t ++ Ended end ∷ []) (Ended end) refl tt (λ lock. refl)
-grows_left t (Some lock) end =
-    grows_then t (t ++ Left lock ∷ []) (t ++ (Left lock ∷ Ended end ∷ []))
-    (grows_push t (t ++ Left lock ∷ []) (Left lock) refl tt (λ lock. refl))
-    (grows_push (t ++ Left lock ∷ []) (t ++ (Left lock ∷ Ended end ∷ [])) (Ended end) (sym (append_assoc t (Left lock ∷ []) (Ended end ∷ []))) tt (λ lock. refl))
-
-grows_begun : (a b : Account) (old new : Standing) → Begins a b old new → Grows old.trace new.trace
-grows_begun a b old new h = elim h [
-  | inl p ↦ grows_push old.trace new.trace (Paused old.pause) (ap (λ s. s.trace) p.new_is) tt (λ lock. refl)
-  | inr s ↦ subst (λ t. Grows old.trace t) (sym (ap (λ s. s.trace) s.standing)) (grows_not old.trace)
-]
-
-module _ (a b : Account) (run : Run (Unit {0})) (old new : Standing) where
-  grows_over : (end : End) → IsOver a b run old new end → Grows old.trace new.trace
-  grows_over end o = grows_push old.trace new.trace (Ended end) (ap (λ s. s.trace) o.new_is) tt (λ lock. refl)
-
-  grows_ended : (end : End) → Ends a b run old new end → Grows old.trace new.trace
-  grows_ended Completed o = grows_over Completed o
-  grows_ended StopThread o = grows_over StopThread o
-  grows_ended StopTest o = grows_over StopTest o
-  grows_ended Stopped o = absurd o
-  grows_ended SampleLimit o = grows_over SampleLimit o
-  grows_ended RoundLimit o = grows_over RoundLimit o
-  grows_ended ValueLimit o = grows_over ValueLimit o
-  grows_ended NoMemory o = subst (λ t. Grows old.trace t) (sym (ap (λ s. s.trace) o.new_is)) (grows_left old.trace old.section NoMemory)
-
-  grows_gives : (step : Step) → Gives a b run old new step → Grows old.trace new.trace
-  grows_gives (SampledStep entry) g = subst (λ t. Grows old.trace t) (sym (ap (λ s. s.trace) g.new_is)) (grows_paused old.trace g.paused)
-  grows_gives NullStep g =
-      grows_then old.trace (trace_paused old.trace g.paused) new.trace (grows_paused old.trace g.paused)
-      (grows_push (trace_paused old.trace g.paused) new.trace (Null g.number) (ap (λ s. s.trace) g.new_is) tt (λ lock. refl))
-  grows_gives (EnterStep lock) g = subst (λ t. Grows old.trace t) (sym (ap (λ s. s.trace) g.new_is)) (grows_not old.trace)
-  grows_gives (LeaveStep lock) g = grows_push old.trace new.trace (Left lock) (ap (λ s. s.trace) g.new_is) tt (λ other. refl)
-  grows_gives (EndedStep end) g = grows_ended end g
-
 -- a step, whatever it answers
 pub grows_behind : (a b : Account) (old new : Standing) (step : Step) → Steps a b old new step → Grows old.trace new.trace
-grows_behind a b old new step s =
-    grows_then old.trace s.between.trace new.trace (grows_begun a s.begun old s.between s.begins) (grows_gives s.begun b (rest s.between) s.between new step s.gives)
+grows_behind = after_step {R = Grows} (record {
+  same = grows_not;
+  further = grows_then;
+  paused = λ t ms. grows_push t (t ++ Paused ms ∷ []) (Paused ms) refl tt (λ lock. refl);
+  none = λ t number. grows_push t (t ++ Null number ∷ []) (Null number) refl tt (λ lock. refl);
+  left = λ t lock. grows_push t (t ++ Left lock ∷ []) (Left lock) refl tt (λ other. refl);
+  ended = λ t end. grows_push t (t ++ Ended end ∷ []) (Ended end) refl tt (λ lock. refl);
+})
 
 -- a sample that is noted
 pub grows_noted : (old new : Standing) (sample : Sample) (k : ℕ) → new ≡ record old { owed = None; trace = old.trace ++ Sampled sample k ∷ [] } → Grows old.trace new.trace
