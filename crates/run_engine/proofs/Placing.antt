@@ -1,11 +1,10 @@
 -- The sections of a worker's trace, and its seat at the locks.
-use Rattle.std.proofs.Common.{◌≡◌, ◌∙◌, ℕ, zero, suc, ◌+◌, ◌-◌, ◌<◌, ◌≤◌, List, [], ◌∷◌, ◌++◌, length, Option, Some, None, refl, sym, ap, subst, inl, inr, arith, append_assoc, length-append}
+use Rattle.std.proofs.Common.{◌≡◌, ◌∙◌, ℕ, ◌+◌, ◌-◌, ◌<◌, ◌≤◌, List, [], ◌∷◌, ◌++◌, length, Option, Some, None, refl, sym, ap, subst, arith, append_assoc, length-append}
 use Rattle.std.specs.Prelude.{IfSome}
 use Rattle.std.proofs.lemmas.List.{append-nil}
 use Rattle.jm_base.specs.declared.types.End.{End}
-use Rattle.jm_base.specs.declared.types.End.TheVariants.{Completed, StopThread, StopTest, Stopped, SampleLimit, RoundLimit, ValueLimit, NoMemory}
+use Rattle.jm_base.specs.declared.types.End.TheVariants.{Stopped}
 use Rattle.jm_base.specs.declared.types.Sample.{Sample}
-use Rattle.jm_base.specs.Run.{Run}
 use Rattle.jm_base.specs.Outside.{Account}
 use Rattle.element_tree.specs.Tree.{Tree}
 use Rattle.element_tree.specs.Names.{locks_of}
@@ -17,80 +16,29 @@ use Rattle.critical_section.specs.SectionSeats.{view_of, IsSeatOf, locks_of as l
 use Rattle.critical_section.specs.declared.places.SectionBook.{SectionBook}
 use Rattle.jm_base.specs.SumTotals.{total}
 use Rattle.thread_machine.specs.declared.step.Step.{Step}
-use Rattle.thread_machine.specs.declared.step.Step.TheVariants.{Sampled, Null, Enter, Leave, Ended}
+use Rattle.thread_machine.specs.declared.step.Step.TheVariants.{Enter, Leave, Ended}
 use Rattle.thread_machine.specs.declared.trace.TraceItem.{TraceItem}
-use Rattle.thread_machine.specs.declared.trace.TraceItem.TheVariants.{Paused as PausedItem, Sampled as SampledItem, Null as NullItem, Entered as EnteredItem, Left as LeftItem, Ended as EndedItem}
-use Rattle.thread_machine.specs.SectionOrder.{left_traced}
-use Rattle.thread_machine.specs.Standing.{Standing, rest}
-use Rattle.thread_machine.specs.Stepped.{trace_paused, Begins, Gives, Steps, Ends, IsOver}
-use Rattle.thread_machine.proofs.Ends.{begun_on}
+use Rattle.thread_machine.specs.declared.trace.TraceItem.TheVariants.{Sampled as SampledItem, Entered as EnteredItem}
+use Rattle.thread_machine.specs.Standing.{Standing}
+use Rattle.thread_machine.specs.Stepped.{Steps}
+use Rattle.thread_machine.proofs.Appended.{HoldsOn, after_step, after_end, no_more, gathered}
+use Rattle.thread_machine.proofs.Ends.{begun_on, thread_same}
 use Rattle.thread_machine.proofs.Labels.{lock_within}
 use Rattle.run_engine.proofs.Traces.{stopped_as}
 use Rattle.run_engine.specs.SectionsRun.{section_in, entered_in, sections_of_all, RisesAfter, Rises, AreNumbered, IsFirstSeat, HasTaken, KeepsSections, HeldAs}
 
 -- ---- the sections of a trace
 
-pub sections_snoc : (items : List TraceItem) (item : TraceItem) → entered_in (items ++ item ∷ []) ≡ entered_in items ++ section_in item
+sections_snoc : (items : List TraceItem) (item : TraceItem) → entered_in (items ++ item ∷ []) ≡ entered_in items ++ section_in item
 sections_snoc [] item = append-nil (section_in item)
 sections_snoc (x ∷ items) item = ap (λ l. section_in x ++ l) (sections_snoc items item) ∙ sym (append_assoc (section_in x) (entered_in items) (section_in item))
 
-one_more : (old new : List TraceItem) (item : TraceItem) → new ≡ old ++ item ∷ [] → entered_in new ≡ entered_in old ++ section_in item
-one_more old new item is = ap entered_in is ∙ sections_snoc old item
-
-no_more : (old new : List TraceItem) (item : TraceItem) → new ≡ old ++ item ∷ [] → section_in item ≡ [] → entered_in new ≡ entered_in old
-no_more old new item is none = one_more old new item is ∙ ap (λ l. entered_in old ++ l) none ∙ append-nil (entered_in old)
-
-paused_same : (t : List TraceItem) (ms : ℕ) → entered_in (trace_paused t ms) ≡ entered_in t
-paused_same t zero = refl
-paused_same t (suc ms) = no_more t (trace_paused t (suc ms)) (PausedItem (suc ms)) refl refl
-
-left_same : (t : List TraceItem) (o : Option ℕ) (end : End) → entered_in (t ++ (left_traced o ++ EndedItem end ∷ [])) ≡ entered_in t
-left_same t None end = no_more t (t ++ EndedItem end ∷ []) (EndedItem end) refl refl
-left_same t (Some lock) end =
-    no_more (t ++ LeftItem lock ∷ []) (t ++ (LeftItem lock ∷ EndedItem end ∷ [])) (EndedItem end) (sym (append_assoc t (LeftItem lock ∷ []) (EndedItem end ∷ []))) refl
-    ∙ no_more t (t ++ LeftItem lock ∷ []) (LeftItem lock) refl refl
-
-begun_same : (a b : Account) (old new : Standing) → Begins a b old new → entered_in new.trace ≡ entered_in old.trace
-begun_same a b old new h = elim h [
-  | inl p ↦ no_more old.trace new.trace (PausedItem old.pause) (ap (λ s. s.trace) p.new_is) refl
-  | inr s ↦ ap (λ w. entered_in w.trace) s.standing
-]
-
-module _ (a b : Account) (run : Run (Unit {0})) (old new : Standing) where
-  over_same : (end : End) → IsOver a b run old new end → entered_in new.trace ≡ entered_in old.trace
-  over_same end o = no_more old.trace new.trace (EndedItem end) (ap (λ s. s.trace) o.new_is) refl
-
-  ends_same : (end : End) → Ends a b run old new end → entered_in new.trace ≡ entered_in old.trace
-  ends_same Completed o = over_same Completed o
-  ends_same StopThread o = over_same StopThread o
-  ends_same StopTest o = over_same StopTest o
-  ends_same Stopped o = absurd o
-  ends_same SampleLimit o = over_same SampleLimit o
-  ends_same RoundLimit o = over_same RoundLimit o
-  ends_same ValueLimit o = over_same ValueLimit o
-  ends_same NoMemory o = ap (λ s. entered_in s.trace) o.new_is ∙ left_same old.trace old.section NoMemory
-
-  ends_plan : (end : End) → Ends a b run old new end → new.plan ≡ old.plan
-  ends_plan Completed o = ap (λ s. s.plan) o.new_is
-  ends_plan StopThread o = ap (λ s. s.plan) o.new_is
-  ends_plan StopTest o = ap (λ s. s.plan) o.new_is
-  ends_plan Stopped o = absurd o
-  ends_plan SampleLimit o = ap (λ s. s.plan) o.new_is
-  ends_plan RoundLimit o = ap (λ s. s.plan) o.new_is
-  ends_plan ValueLimit o = ap (λ s. s.plan) o.new_is
-  ends_plan NoMemory o = ap (λ s. s.plan) o.new_is
-
-  gives_same : (step : Step) → Gives a b run old new step → entered_in new.trace ≡ entered_in old.trace
-  gives_same (Sampled entry) g = ap (λ s. entered_in s.trace) g.new_is ∙ paused_same old.trace g.paused
-  gives_same Null g =
-      no_more (trace_paused old.trace g.paused) new.trace (NullItem g.number) (ap (λ s. s.trace) g.new_is) refl ∙ paused_same old.trace g.paused
-  gives_same (Enter lock) g = ap (λ s. entered_in s.trace) g.new_is
-  gives_same (Leave lock) g = no_more old.trace new.trace (LeftItem lock) (ap (λ s. s.trace) g.new_is) refl
-  gives_same (Ended end) g = ends_same end g
+same_sections : HoldsOn (λ s t. entered_in t ≡ entered_in s)
+same_sections = gathered entered_in section_in sections_snoc (λ ms. refl) (λ number. refl) (λ lock. refl) (λ end. refl)
 
 -- no step shows a section as entered
 pub sections_same : (a b : Account) (old new : Standing) (step : Step) → Steps a b old new step → entered_in new.trace ≡ entered_in old.trace
-sections_same a b old new step s = gives_same s.begun b (rest s.between) s.between new step s.gives ∙ begun_same a s.begun old s.between s.begins
+sections_same = after_step same_sections
 
 rises_push : (before xs : List Section) (x : Section) → RisesAfter before xs → IsPast x.0 x.1 (before ++ xs) → RisesAfter before (xs ++ x ∷ [])
 rises_push before [] x h past = (subst (IsPast x.0 x.1) (append-nil before) past, tt)
@@ -175,7 +123,7 @@ module _ (s : Sections) (held : Option ℕ) (seat : SectionSeat) (a b : Account)
         → Enters lock place (view_of seat) (view_of after) → Holding s (Some lock) after last
     holding_entered place after last is seat_of entered =
         let seen : entered_in new.trace ≡ entered_in old.trace = sections_same a b old new (Enter lock) e in
-        let more : entered_in last.trace ≡ entered_in old.trace ++ (lock, place) ∷ [] = one_more new.trace last.trace (EnteredItem lock place) (ap (λ w. w.trace) is) ∙ ap (λ l. l ++ (lock, place) ∷ []) seen in
+        let more : entered_in last.trace ≡ entered_in old.trace ++ (lock, place) ∷ [] = ap (λ w. entered_in w.trace) is ∙ sections_snoc new.trace (EnteredItem lock place) ∙ ap (λ l. l ++ (lock, place) ∷ []) seen in
         let inside : (view_of after).inside ≡ Some (lock, place) = ap (λ v. v.inside) entered.0 in
         let own : (view_of after).own ≡ entered_in old.trace = ap (λ v. v.own) entered.0 ∙ own_is in
         let count : length (entered_in last.trace) ≡ length (entered_in old.trace) + 1 = ap length more ∙ length-append (entered_in old.trace) ((lock, place) ∷ []) in
@@ -189,7 +137,7 @@ module _ (s : Sections) (held : Option ℕ) (seat : SectionSeat) (a b : Account)
           own = ap (closed_list (view_of after).own) inside ∙ ap (λ l. l ++ (lock, place) ∷ []) own ∙ sym more;
           joined = ap (λ v. v.joined) entered.0 ∙ h.joined;
           one = ap (λ v. v.seats) entered.0 ∙ h.one;
-          locks = locks_fit s old last (ap (λ w. w.plan) is ∙ ap (λ w. w.plan) e.gives.new_is ∙ (begun_on a e.begun old e.between e.begins).plan) h.locks;
+          locks = locks_fit s old last (ap (λ w. w.plan) is ∙ (thread_same a b old new (Enter lock) e).plan) h.locks;
           rises = subst (RisesAfter []) (sym more) (rises_push [] (entered_in old.trace) (lock, place) h.rises (subst (IsPast lock place) own_is entered.1));
           few = omega (arith, count, used, kept, units, unit, few);
           known = lock_low;
@@ -220,7 +168,7 @@ module _ (s : Sections) (held : Option ℕ) (seat : SectionSeat) (a b : Account)
           own = ap (closed_list (view_of after).own) inside ∙ ap (λ v. v.own) is ∙ h.own ∙ sym seen;
           joined = ap (λ v. v.joined) is ∙ h.joined;
           one = ap (λ v. v.seats) is ∙ h.one;
-          locks = locks_fit s old new (ap (λ w. w.plan) e.gives.new_is ∙ (begun_on a e.begun old e.between e.begins).plan) h.locks;
+          locks = locks_fit s old new (thread_same a b old new (Leave lock) e).plan h.locks;
           rises = subst (RisesAfter []) (sym seen) h.rises;
           few = omega (arith, count, units, fewer, few);
           known = tt;
@@ -236,7 +184,7 @@ module _ (s : Sections) (held : Option ℕ) (seat : SectionSeat) (a b : Account)
         own = ap (λ v. v.own) is ∙ h.own ∙ sym seen;
         joined = ap (λ v. v.joined) is ∙ h.joined;
         one = ap (λ v. v.seats) is ∙ h.one;
-        locks = locks_fit s old new (ends_plan e.begun b (rest e.between) e.between new end e.gives ∙ (begun_on a e.begun old e.between e.begins).plan) h.locks;
+        locks = locks_fit s old new (thread_same a b old new (Ended end) e).plan h.locks;
       }
 
   pub rises_ended : (end : End) → Steps a b old new (Ended end) → Rises new.trace
@@ -246,7 +194,7 @@ module _ (s : Sections) (held : Option ℕ) (seat : SectionSeat) (a b : Account)
 
 module _ (s : Sections) (held : Option ℕ) (seat : SectionSeat) (old new : Standing) (h : Holding s held seat old) (is : new ≡ stopped_as old) where
   stopped_same : entered_in new.trace ≡ entered_in old.trace
-  stopped_same = ap (λ w. entered_in w.trace) is ∙ left_same old.trace old.section Stopped
+  stopped_same = ap (λ w. entered_in w.trace) is ∙ after_end same_sections old.trace old.section Stopped
 
   pub keeps_stopped : (after : SectionSeat) → IsSeatOf s after → view_of after ≡ closed (view_of seat) → KeepsSections s after new
   keeps_stopped after seat_of closes = record {
@@ -267,7 +215,7 @@ closed_none v none = ap (λ o. record v { inside = o }) none ∙ sym (ap (λ o. 
 
 -- a sample that was noted
 pub sections_noted : (old new : Standing) (sample : Sample) (k : ℕ) → new ≡ record old { owed = None; trace = old.trace ++ SampledItem sample k ∷ [] } → entered_in new.trace ≡ entered_in old.trace
-sections_noted old new sample k is = no_more old.trace new.trace (SampledItem sample k) (ap (λ w. w.trace) is) refl
+sections_noted old new sample k is = ap (λ w. entered_in w.trace) is ∙ no_more entered_in section_in sections_snoc old.trace (SampledItem sample k) refl
 
 -- ---- before the first thread starts
 

@@ -1,5 +1,5 @@
 -- What a step of a worker leaves of its samples and of its outside.
-use Rattle.std.proofs.Common.{◌≡◌, ◌∙◌, ℕ, zero, suc, ◌+◌, ◌-◌, ◌<◌, ◌≤◌, false, true, List, [], ◌∷◌, ◌++◌, length, Option, None, Some, refl, sym, ap, subst, inl, inr, arith, append_assoc}
+use Rattle.std.proofs.Common.{◌≡◌, ◌∙◌, ℕ, ◌+◌, ◌-◌, ◌<◌, ◌≤◌, false, true, List, [], ◌∷◌, ◌++◌, length, None, Some, refl, sym, ap, subst, inl, inr, arith, append_assoc}
 use Rattle.std.specs.Option.{option_map}
 use Rattle.std.proofs.lemmas.List.{append-nil}
 use Rattle.jm_base.specs.declared.types.Entry.{Entry}
@@ -12,10 +12,11 @@ use Rattle.element_tree.specs.Names.{labels_of}
 use Rattle.thread_machine.specs.declared.step.Step.{Step}
 use Rattle.thread_machine.specs.declared.step.Step.TheVariants.{Sampled, Null, Enter, Leave, Ended}
 use Rattle.thread_machine.specs.declared.trace.TraceItem.{TraceItem}
-use Rattle.thread_machine.specs.declared.trace.TraceItem.TheVariants.{Paused as PausedItem, Sampled as SampledItem, Null as NullItem, Entered as EnteredItem, Left as LeftItem, Ended as EndedItem}
+use Rattle.thread_machine.specs.declared.trace.TraceItem.TheVariants.{Sampled as SampledItem, Entered as EnteredItem, Ended as EndedItem}
 use Rattle.thread_machine.specs.SectionOrder.{left_traced}
 use Rattle.thread_machine.specs.Standing.{Standing, rest}
-use Rattle.thread_machine.specs.Stepped.{trace_paused, Begins, Gives, Steps, Ends, IsOver}
+use Rattle.thread_machine.specs.Stepped.{Begins, Gives, Steps, Ends, IsOver}
+use Rattle.thread_machine.proofs.Appended.{HoldsOn, after_step, after_end, no_more, gathered}
 use Rattle.thread_machine.proofs.Ends.{begun_on}
 use Rattle.thread_machine.proofs.Labels.{label_within}
 use Rattle.run_engine.specs.Followed.{EndsWith}
@@ -63,47 +64,16 @@ same_steps a b old new step s = same_then a s.begun b (same_begins a s.begun old
 
 -- ---- the samples
 
-pub pairs_snoc : (items : List TraceItem) (item : TraceItem) → pairs (items ++ item ∷ []) ≡ pairs items ++ pairs_in item
+pairs_snoc : (items : List TraceItem) (item : TraceItem) → pairs (items ++ item ∷ []) ≡ pairs items ++ pairs_in item
 pairs_snoc [] item = append-nil (pairs_in item)
 pairs_snoc (x ∷ items) item = ap (λ l. pairs_in x ++ l) (pairs_snoc items item) ∙ sym (append_assoc (pairs_in x) (pairs items) (pairs_in item))
 
-one_more : (old new : List TraceItem) (item : TraceItem) → new ≡ old ++ item ∷ [] → pairs new ≡ pairs old ++ pairs_in item
-one_more old new item is = ap pairs is ∙ pairs_snoc old item
+same_pairs : HoldsOn (λ s t. pairs t ≡ pairs s)
+same_pairs = gathered pairs pairs_in pairs_snoc (λ ms. refl) (λ number. refl) (λ lock. refl) (λ end. refl)
 
-no_more : (old new : List TraceItem) (item : TraceItem) → new ≡ old ++ item ∷ [] → pairs_in item ≡ [] → pairs new ≡ pairs old
-no_more old new item is none = one_more old new item is ∙ ap (λ l. pairs old ++ l) none ∙ append-nil (pairs old)
-
--- a pause is no sample
-pairs_paused : (t : List TraceItem) (ms : ℕ) → pairs (trace_paused t ms) ≡ pairs t
-pairs_paused t zero = refl
-pairs_paused t (suc ms) = no_more t (trace_paused t (suc ms)) (PausedItem (suc ms)) refl refl
-
--- nor is that a section was left, and the end
-pairs_left : (t : List TraceItem) (o : Option ℕ) (end : End) → pairs (t ++ (left_traced o ++ EndedItem end ∷ [])) ≡ pairs t
-pairs_left t None end = no_more t (t ++ EndedItem end ∷ []) (EndedItem end) refl refl
-pairs_left t (Some lock) end =
-    no_more (t ++ LeftItem lock ∷ []) (t ++ (LeftItem lock ∷ EndedItem end ∷ [])) (EndedItem end) (sym (append_assoc t (LeftItem lock ∷ []) (EndedItem end ∷ []))) refl
-    ∙ no_more t (t ++ LeftItem lock ∷ []) (LeftItem lock) refl refl
-
-pairs_begun : (a b : Account) (old new : Standing) → Begins a b old new → pairs new.trace ≡ pairs old.trace
-pairs_begun a b old new h = elim h [
-  | inl p ↦ no_more old.trace new.trace (PausedItem old.pause) (ap (λ s. s.trace) p.new_is) refl
-  | inr s ↦ ap (λ w. pairs w.trace) s.standing
-]
-
-module _ (a b : Account) (run : Run (Unit {0})) (old new : Standing) where
-  pairs_over : (end : End) → IsOver a b run old new end → pairs new.trace ≡ pairs old.trace
-  pairs_over end o = no_more old.trace new.trace (EndedItem end) (ap (λ s. s.trace) o.new_is) refl
-
-  pairs_ends : (end : End) → Ends a b run old new end → pairs new.trace ≡ pairs old.trace
-  pairs_ends Completed o = pairs_over Completed o
-  pairs_ends StopThread o = pairs_over StopThread o
-  pairs_ends StopTest o = pairs_over StopTest o
-  pairs_ends Stopped o = absurd o
-  pairs_ends SampleLimit o = pairs_over SampleLimit o
-  pairs_ends RoundLimit o = pairs_over RoundLimit o
-  pairs_ends ValueLimit o = pairs_over ValueLimit o
-  pairs_ends NoMemory o = ap (λ s. pairs s.trace) o.new_is ∙ pairs_left old.trace old.section NoMemory
+-- no step shows a sample
+pub pairs_step : (a b : Account) (old new : Standing) (step : Step) → Steps a b old new step → pairs new.trace ≡ pairs old.trace
+pairs_step = after_step same_pairs
 
 module _ (a b : Account) (run : Run (Unit {0})) (old new : Standing) where
   over_traced : (end : End) → IsOver a b run old new end → EndsWith new.trace end
@@ -120,9 +90,6 @@ module _ (a b : Account) (run : Run (Unit {0})) (old new : Standing) where
   ends_traced NoMemory o = record { before = old.trace ++ left_traced old.section; last = ap (λ s. s.trace) o.new_is ∙ sym (append_assoc old.trace (left_traced old.section) (EndedItem NoMemory ∷ [])) }
 
 module _ (a b : Account) (old new : Standing) where
-  pub pairs_ended : (end : End) → Steps a b old new (Ended end) → pairs new.trace ≡ pairs old.trace
-  pairs_ended end s = pairs_ends s.begun b (rest s.between) s.between new end s.gives ∙ pairs_begun a s.begun old s.between s.begins
-
   -- the trace has its end
   pub ends_with : (end : End) → Steps a b old new (Ended end) → EndsWith new.trace end
   ends_with end s = ends_traced s.begun b (rest s.between) s.between new end s.gives
@@ -138,28 +105,17 @@ module _ (a b : Account) (old new : Standing) where
   not_stopped ValueLimit s = refl
   not_stopped NoMemory s = refl
 
-  pub pairs_null : Steps a b old new Null → pairs new.trace ≡ pairs old.trace
-  pairs_null s =
-      no_more (trace_paused s.between.trace s.gives.paused) new.trace (NullItem s.gives.number) (ap (λ w. w.trace) s.gives.new_is) refl
-      ∙ pairs_paused s.between.trace s.gives.paused ∙ pairs_begun a s.begun old s.between s.begins
-
-  -- a section that was entered, and one that was left
+  -- a section that was entered
   pub pairs_entered : (lock place : ℕ) (s : Steps a b old new (Enter lock)) (last : Standing) → last ≡ record new { entering = None; section = Some lock; trace = new.trace ++ EnteredItem lock place ∷ [] } → pairs last.trace ≡ pairs old.trace
-  pairs_entered lock place s last is =
-      no_more new.trace last.trace (EnteredItem lock place) (ap (λ w. w.trace) is) refl ∙ ap (λ w. pairs w.trace) s.gives.new_is ∙ pairs_begun a s.begun old s.between s.begins
-
-  pub pairs_leave : (lock : ℕ) → Steps a b old new (Leave lock) → pairs new.trace ≡ pairs old.trace
-  pairs_leave lock s = no_more s.between.trace new.trace (LeftItem lock) (ap (λ w. w.trace) s.gives.new_is) refl ∙ pairs_begun a s.begun old s.between s.begins
+  pairs_entered lock place s last is = ap (λ w. pairs w.trace) is ∙ no_more pairs pairs_in pairs_snoc new.trace (EnteredItem lock place) refl ∙ pairs_step a b old new (Enter lock) s
 
   -- a sample that is noted is one pair more
   pub pairs_noted : (entry : Entry) (s : Steps a b old new (Sampled entry)) (noted : Standing) (k : ℕ)
       → noted ≡ record new { owed = None; trace = new.trace ++ SampledItem s.gives.sample k ∷ [] } → pairs noted.trace ≡ pairs old.trace ++ (k, entry) ∷ []
   pairs_noted entry s noted k is =
-      let before : pairs new.trace ≡ pairs old.trace =
-      ap (λ w. pairs w.trace) s.gives.new_is ∙ pairs_paused s.between.trace s.gives.paused ∙ pairs_begun a s.begun old s.between s.begins in
-      one_more new.trace noted.trace (SampledItem s.gives.sample k) (ap (λ w. w.trace) is)
+      ap (λ w. pairs w.trace) is ∙ pairs_snoc new.trace (SampledItem s.gives.sample k)
       ∙ ap (λ e. pairs new.trace ++ (k, e) ∷ []) (sym s.gives.entry_is)
-      ∙ ap (λ l. l ++ (k, entry) ∷ []) before
+      ∙ ap (λ l. l ++ (k, entry) ∷ []) (pairs_step a b old new (Sampled entry) s)
 
   -- its label is one of the plan's
   pub label_low : (entry : Entry) → Steps a b old new (Sampled entry) → entry.label < length (labels_of old.plan.elements)
@@ -205,7 +161,7 @@ stopped_as w = record w { section = None; ended = true; trace = w.trace ++ (left
 
 module _ (old new : Standing) (is : new ≡ stopped_as old) where
   pub pairs_stopped : pairs new.trace ≡ pairs old.trace
-  pairs_stopped = ap (λ w. pairs w.trace) is ∙ pairs_left old.trace old.section Stopped
+  pairs_stopped = ap (λ w. pairs w.trace) is ∙ after_end same_pairs old.trace old.section Stopped
 
   pub ends_stopped : EndsWith new.trace Stopped
   ends_stopped = record { before = old.trace ++ left_traced old.section; last = ap (λ w. w.trace) is ∙ sym (append_assoc old.trace (left_traced old.section) (EndedItem Stopped ∷ [])) }

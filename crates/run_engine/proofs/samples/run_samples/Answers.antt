@@ -1,6 +1,6 @@
 use Rattle.std.proofs.Common.{◌≡◌, ◌∙◌, refl, ◌+◌, ◌≤◌, sym, ap, subst, arith}
 use Rattle.jm_base.specs.declared.types.End.TheVariants.{Stopped}
-use Rattle.thread_machine.specs.declared.step.Step.TheVariants.{Sampled, Null}
+use Rattle.thread_machine.specs.declared.step.Step.TheVariants.{Sampled, Null, Leave, Ended}
 use Rattle.thread_machine.proofs.Ends.{begun_on, noted_on, noted_is, entered_is}
 use Rattle.thread_machine.proofs.PlaceLaws.{fewer_sampled, fewer_null, fewer_enters, fewer_leaves}
 use Rattle.recorder_core.specs.RecorderSeats.{writes, numbers_of}
@@ -8,7 +8,7 @@ use Rattle.thread_machine.proofs.Ends.{over_with}
 use Rattle.run_engine.specs.Keeps.{KeepsTo}
 use Rattle.run_engine.proofs.Finishing.{has_ended}
 use Rattle.run_engine.proofs.Placing.{holding_first, holding_same, sections_noted, sections_same, lock_low, none_inside, few_own, holding_entered, known_so, open_so, holding_left, keeps_ended, rises_ended, keeps_stopped, rises_stopped}
-use Rattle.run_engine.proofs.Traces.{same_outside, same_then, pairs_entered, pairs_leave, units_entered, units_leave, same_steps, pairs_noted, pairs_null, pairs_ended, ends_with, not_stopped, label_low, label_fits, units_left, units_null, pairs_stopped, ends_stopped}
+use Rattle.run_engine.proofs.Traces.{same_outside, same_then, pairs_entered, units_entered, units_leave, same_steps, pairs_noted, pairs_step, ends_with, not_stopped, label_low, label_fits, units_left, units_null, pairs_stopped, ends_stopped}
 use Rattle.run_engine.proofs.Writing.{looked, seen, same_marked, writing_same, writing_more, writing_first, keeps_to}
 use Rattle.run_engine.proofs.samples.run_samples.Goals as goal
 
@@ -50,7 +50,7 @@ steps-preserved-in-Null g c =
     let given = s.gives in
     let less : c.step.new.self.units ≤ c.steps.worker.units = units_null _ _ _ _ s in
     record {
-      writing = writing_same c.args.recorder.now _ c.stop_seen.new.seat c.steps.worker c.step.new.self h (pairs_null _ _ _ c.step.new.self s) less;
+      writing = writing_same c.args.recorder.now _ c.stop_seen.new.seat c.steps.worker c.step.new.self h (pairs_step _ _ _ _ Null s) less;
       owed = ap (λ w. w.owed) given.new_is ∙ begun.owed ∙ i.owed;
       entering = ap (λ w. w.entering) given.new_is ∙ begun.entering ∙ i.entering;
       holding = holding_same c.args.sections.now c.steps.held c.steps.section c.steps.worker c.step.new.self i.holding (ap (λ w. w.section) given.new_is ∙ begun.section)
@@ -124,7 +124,7 @@ steps-preserved g c =
     let given = s.gives in
     let less : c.step.new.self.units ≤ c.steps.worker.units = units_leave _ _ _ _ lock s in
     record {
-      writing = writing_same c.args.recorder.now _ c.stop_seen.new.seat c.steps.worker c.step.new.self h (pairs_leave _ _ _ c.step.new.self lock s) less;
+      writing = writing_same c.args.recorder.now _ c.stop_seen.new.seat c.steps.worker c.step.new.self h (pairs_step _ _ _ _ (Leave lock) s) less;
       owed = ap (λ w. w.owed) given.new_is ∙ begun.owed ∙ i.owed;
       entering = ap (λ w. w.entering) given.new_is ∙ begun.entering ∙ i.entering;
       holding = holding_left c.args.sections.now c.steps.held c.steps.section _ _ c.steps.worker c.step.new.self i.holding lock s c.leave.new.seat c.leave.ensures.seat c.leave.ensures.closed;
@@ -184,7 +184,7 @@ returns-in-Ended-clause-entered g c =
 pub returns-in-Ended-clause-listed : goal.returns-in-Ended-clause-listed
 returns-in-Ended-clause-listed g c =
     let h = looked c.args.recorder.now _ c.steps.seat c.stop_seen.new.seat c.steps.worker c.stop_seen.result c.steps.invariant.writing c.stop_seen.ensures.seat c.stop_seen.ensures.mark c.if-stop_seen.false in
-    h.listed ∙ sym (pairs_ended _ _ _ c.step.new.self c.in-Ended.end c.in-Ended.ensures.steps)
+    h.listed ∙ sym (pairs_step _ _ _ _ (Ended c.in-Ended.end) c.in-Ended.ensures.steps)
 
 pub returns-in-Ended-clause-same : goal.returns-in-Ended-clause-same
 returns-in-Ended-clause-same g c =
