@@ -10,7 +10,7 @@ use Rattle.jm_base.specs.Outside.{Account}
 use Rattle.element_tree.specs.Tree.{Tree}
 use Rattle.jm_meaning.specs.Beginning.{Options}
 use Rattle.thread_machine.specs.declared.trace.TraceItem.TheVariants.{Sampled as SampledItem, Entered as EnteredItem, Ended as EndedItem}
-use Rattle.thread_machine.specs.declared.step.Step.TheVariants.{Sampled as SampledStep, Null as NullStep, Enter as EnterStep, Leave as LeaveStep, Ended as EndedStep}
+use Rattle.thread_machine.specs.declared.step.Step.TheVariants.{Ended as EndedStep}
 use Rattle.thread_machine.specs.Standing.{Standing, rest, Stands}
 use Rattle.thread_machine.specs.Stepped.{Steps}
 use Rattle.thread_machine.specs.Follows.{HasRun, IsScripted, IsScriptedStop, WasStopped}
@@ -23,15 +23,9 @@ use Rattle.outside_world.specs.Scripted.{scripts_of}
 use Rattle.thread_machine.specs.declared.trace.TraceItem.{TraceItem}
 use Rattle.weave_engine.specs.Books.{Followed, AllFollow}
 use Rattle.weave_engine.proofs.StartLaws.{pushed}
-use Rattle.weave_engine.proofs.SeatLaws.{begun_on, none_owed, record_of, enters_by, worker_entered, thread_stays}
+use Rattle.thread_machine.proofs.Ends.{begun_on, ended_on, thread_same}
+use Rattle.weave_engine.proofs.SeatLaws.{none_owed, record_of, enters_by, worker_entered}
 use Rattle.weave_engine.proofs.TurnLaws.{set_at, no_item}
-use Rattle.weave_engine.proofs.WriteLaws.{ends_so}
-
-pub sample_plan : (a b : Account) (old new : Standing) (entry : Entry) → Steps a b old new (SampledStep entry) → new.plan ≡ old.plan
-sample_plan a b old new entry s = ap (λ w. w.plan) s.gives.new_is ∙ (begun_on a s.begun old s.between s.begins).plan
-
-pub null_plan : (a b : Account) (old new : Standing) → Steps a b old new NullStep → new.plan ≡ old.plan
-null_plan a b old new s = ap (λ w. w.plan) s.gives.new_is ∙ (begun_on a s.begun old s.between s.begins).plan
 
 -- a thread that goes on
 pub going_keeps : (seat new : Seat) → new.worker.plan ≡ seat.worker.plan → seat.ended ≡ false → new.ended ≡ seat.ended
@@ -61,9 +55,10 @@ pub ended_keeps : {X E : Type 0} (r : Result X E) (seat new : Seat) (end : End) 
     → OnOk r ((new.owed ≡ owed_after end) × (new.ended ≡ true)) → (IsNoMemory end → OnOk r ⊥) → OnOk r (KeepsOn seat new)
 ended_keeps (Ok x) seat new end is free going s f owed memory =
     let on = begun_on seat.outside s.begun seat.worker s.between s.begins in
-    let so = ends_so s.begun new.outside (rest s.between) s.between new.worker end s.gives in
+    let ended = ended_on s.begun new.outside (rest s.between) s.between new.worker end s.gives in
+    let same = thread_same seat.outside new.outside seat.worker new.worker (EndedStep end) s in
     let none = none_owed seat.owed seat.worker (is.0).owed free (is.1).owed in
-    ended_by seat new end going memory owed.1 (so.owed ∙ on.owed ∙ none.0) (so.plan ∙ on.plan) (thread_stays seat.outside new.outside seat.worker new.worker (EndedStep end) s) f
+    ended_by seat new end going memory owed.1 (ended.owed ∙ on.owed ∙ none.0) same.plan same.thread f
 ended_keeps (Err e) seat new end is free going s f owed memory = tt
 
 pub stop_keeps : (seat new : Seat) → ((t : Thread) × SeatIs seat t) → seat.owed ≡ by.Nothing → seat.ended ≡ false
@@ -81,12 +76,6 @@ stop_keeps seat new is free going worker ended outside f = λ plan start options
             (subst (λ (p : Tree). WasStopped start seat.outside p seat.worker.thread options new.worker.trace) (sym (ap (λ w. w.plan) worker)) was))),
       ),
     )
-
-pub enter_plan : (a b : Account) (old new : Standing) (lock : ℕ) → Steps a b old new (EnterStep lock) → new.plan ≡ old.plan
-enter_plan a b old new lock s = ap (λ w. w.plan) s.gives.new_is ∙ (begun_on a s.begun old s.between s.begins).plan
-
-pub leave_plan : (a b : Account) (old new : Standing) (lock : ℕ) → Steps a b old new (LeaveStep lock) → new.plan ≡ old.plan
-leave_plan a b old new lock s = ap (λ w. w.plan) s.gives.new_is ∙ (begun_on a s.begun old s.between s.begins).plan
 
 -- a thread that enters a section goes on
 pub entered_keeps : (seat new : Seat) (lock place : ℕ) → ((t : Thread) × SeatIs seat t) → seat.owed ≡ by.Enter lock → new.outside ≡ seat.outside → new.ended ≡ seat.ended

@@ -3,7 +3,8 @@ use Rattle.std.proofs.Common.{◌≡◌, inr, ℕ, ◌+◌, ◌-◌, ◌*◌, �
 use Rattle.std.specs.Prelude.{◌&&◌, ◌||◌, ◌++◌, if◌then◌else◌, IfSome, Result, Ok, Err, OnOk, slice_index}
 use Rattle.thread_machine.specs.declared.trace.TraceItem.TheVariants.{Sampled as SampledItem, Entered as EnteredItem}
 use Rattle.weave_engine.specs.Steps.{Thread}
-use Rattle.weave_engine.proofs.SeatLaws.{begun_on, record_of, enters_by, worker_entered, end_same_seat}
+use Rattle.thread_machine.proofs.Ends.{begun_on}
+use Rattle.weave_engine.proofs.SeatLaws.{record_of, enters_by, worker_entered, ended_section}
 use Rattle.jm_base.specs.declared.types.End.{End}
 use Rattle.jm_base.specs.declared.types.End.TheVariants.{Completed, StopThread, StopTest, Stopped, SampleLimit, RoundLimit, ValueLimit, NoMemory}
 use Rattle.jm_base.specs.declared.types.Entry.{Entry}
@@ -104,7 +105,7 @@ module _ (seat new : Seat) (going : seat.ended ≡ false) (free : seat.owed ≡ 
 
   pub ended_lightens : {X E : Type 0} (r : Result X E) (end : End) → Steps seat.outside new.outside seat.worker new.worker (EndedStep end) → OnOk r ((new.owed ≡ owed_after end) × (new.ended ≡ true)) → (IsNoMemory end → OnOk r ⊥)
       → OnOk r (turns_left new < turns_left seat)
-  ended_lightens (Ok x) end s owed memory = end_lightens end (end_same_seat seat new seat.outside new.outside end memory s).0 owed.1 owed.0
+  ended_lightens (Ok x) end s owed memory = end_lightens end (ended_section seat.outside new.outside seat.worker new.worker end memory s) owed.1 owed.0
   ended_lightens (Err e) end s owed memory = tt
 
   pub stop_lightens : new.worker.section ≡ None → new.ended ≡ true → new.owed ≡ by.Nothing → turns_left new < turns_left seat

@@ -16,13 +16,14 @@ use Rattle.thread_machine.specs.declared.step.Step.{Step}
 use Rattle.thread_machine.specs.declared.step.Step.TheVariants.{Sampled as SampledStep, Null as NullStep, Enter as EnterStep, Leave as LeaveStep, Ended as EndedStep}
 use Rattle.thread_machine.specs.Standing.{Standing, part_left, before_end, rest}
 use Rattle.thread_machine.specs.SectionOrder.{left_traced}
+use Rattle.thread_machine.proofs.Ends.{BegunOn, begun_on, thread_same}
 use Rattle.thread_machine.proofs.Labels.{lock_within}
 use Rattle.element_tree.specs.Tree.{Tree}
 use Rattle.element_tree.specs.Names.{locks_of}
 use Rattle.jm_meaning.specs.State.{Ending}
 use Rattle.jm_meaning.specs.Meaning.{and_end, after_pause, end_of}
 use Rattle.phaser_core.specs.declared.view.Event.{Event as CoreEvent}
-use Rattle.thread_machine.specs.Stepped.{trace_paused, events_paused, Begins, GivesSample, GivesNone, EntersSection, LeavesSection, IsOver, Ends, Gives, Steps, entry_of}
+use Rattle.thread_machine.specs.Stepped.{trace_paused, events_paused, Begins, GivesSample, GivesNone, EntersSection, LeavesSection, IsOver, Ends, Steps, entry_of}
 use Rattle.weave_engine.specs.declared.seat.Owed.{Owed as OwedBy}
 use Rattle.weave_engine.specs.declared.seat.Owed.TheVariants as by
 use Rattle.weave_engine.specs.declared.seat.Seat.{Seat}
@@ -148,38 +149,6 @@ cuts seat m b between left paused e v is act begins given = elim begins [
         after = two.after;
         value = two.value;
       }
-]
-
--- what the pause before the first variables leaves
-pub record BegunOn (old new : Standing) : Type 0 where
-  pub owed : new.owed ≡ old.owed
-  pub entering : new.entering ≡ old.entering
-  pub section : new.section ≡ old.section
-  pub ended : new.ended ≡ old.ended
-  pub plan : new.plan ≡ old.plan
-  pub thread : new.thread ≡ old.thread
-  pub units : new.units ≡ old.units
-
-pub begun_on : (a b : Account) (old new : Standing) → Begins a b old new → BegunOn old new
-begun_on a b old new h = elim h [
-  | inl p ↦ record {
-    owed = ap (λ s. s.owed) p.new_is;
-    entering = ap (λ s. s.entering) p.new_is;
-    section = ap (λ s. s.section) p.new_is;
-    ended = ap (λ s. s.ended) p.new_is;
-    plan = ap (λ s. s.plan) p.new_is;
-    thread = ap (λ s. s.thread) p.new_is;
-    units = ap (λ s. s.units) p.new_is;
-  }
-  | inr s ↦ record {
-    owed = ap (λ s. s.owed) s.standing;
-    entering = ap (λ s. s.entering) s.standing;
-    section = ap (λ s. s.section) s.standing;
-    ended = ap (λ s. s.ended) s.standing;
-    plan = ap (λ s. s.plan) s.standing;
-    thread = ap (λ s. s.thread) s.standing;
-    units = ap (λ s. s.units) s.standing;
-  }
 ]
 
 most_steps : (ok : Bool) → step_count ok < 10
@@ -383,28 +352,6 @@ module _ (seat new : Seat) (t : Thread) (is : SeatIs seat t) (free : seat.owed �
   pub step_ended : (end : End) → Steps seat.outside new.outside seat.worker new.worker (EndedStep end) → (IsNoMemory end → ⊥) → new.owed ≡ owed_after end → new.ended ≡ true → new.section ≡ seat.section → MakesStep t None new
   step_ended end s memory owed ended open_ = made_ended s.begun s.between s.begins end s.gives memory owed ended open_
 
--- The step of a thread leaves its number
-
-end_same : (m b : Account) (run : Run (Unit {0})) (between new : Standing) (end : End) → Ends m b run between new end → new.thread ≡ between.thread
-end_same m b run between new Completed g = ap (λ w. w.thread) g.new_is
-end_same m b run between new StopThread g = ap (λ w. w.thread) g.new_is
-end_same m b run between new StopTest g = ap (λ w. w.thread) g.new_is
-end_same m b run between new Stopped g = absurd g
-end_same m b run between new SampleLimit g = ap (λ w. w.thread) g.new_is
-end_same m b run between new RoundLimit g = ap (λ w. w.thread) g.new_is
-end_same m b run between new ValueLimit g = ap (λ w. w.thread) g.new_is
-end_same m b run between new NoMemory g = ap (λ w. w.thread) g.new_is
-
-step_same : (m b : Account) (run : Run (Unit {0})) (between new : Standing) (step : Step) → Gives m b run between new step → new.thread ≡ between.thread
-step_same m b run between new (SampledStep entry) g = ap (λ w. w.thread) g.new_is
-step_same m b run between new NullStep g = ap (λ w. w.thread) g.new_is
-step_same m b run between new (EnterStep lock) g = ap (λ w. w.thread) g.new_is
-step_same m b run between new (LeaveStep lock) g = ap (λ w. w.thread) g.new_is
-step_same m b run between new (EndedStep end) g = end_same m b run between new end g
-
-pub thread_stays : (a b : Account) (old new : Standing) (step : Step) → Steps a b old new step → new.thread ≡ old.thread
-thread_stays a b old new step s = step_same s.begun b (rest s.between) s.between new step s.gives ∙ (begun_on a s.begun old s.between s.begins).thread
-
 -- A thread that goes on has an event to come
 
 -- after whatever a run asks of the replies there is an answer
@@ -603,25 +550,18 @@ ended_left (Err e) seat new end free number open_ s owed none memory = tt
 
 -- What a step leaves of the thread
 
-pub sample_same : (a b : Account) (old new : Standing) (entry : Entry) → Steps a b old new (SampledStep entry) → (new.section ≡ old.section) × (new.thread ≡ old.thread) × (new.plan ≡ old.plan)
-sample_same a b old new entry s =
-    let on = begun_on a s.begun old s.between s.begins in
-    (ap (λ w. w.section) s.gives.new_is ∙ on.section, ap (λ w. w.thread) s.gives.new_is ∙ on.thread, ap (λ w. w.plan) s.gives.new_is ∙ on.plan)
+-- whatever it answers
+pub same_seat : (seat new : Seat) (a b : Account) (step : Step) → Steps a b seat.worker new.worker step → IsSameThread seat new
+same_seat seat new a b step s = let same = thread_same a b seat.worker new.worker step s in record { number = same.thread; plan = same.plan }
 
-pub null_same : (a b : Account) (old new : Standing) → Steps a b old new NullStep → (new.section ≡ old.section) × (new.thread ≡ old.thread) × (new.plan ≡ old.plan)
-null_same a b old new s =
-    let on = begun_on a s.begun old s.between s.begins in
-    (ap (λ w. w.section) s.gives.new_is ∙ on.section, ap (λ w. w.thread) s.gives.new_is ∙ on.thread, ap (λ w. w.plan) s.gives.new_is ∙ on.plan)
+pub sample_section : (a b : Account) (old new : Standing) (entry : Entry) → Steps a b old new (SampledStep entry) → new.section ≡ old.section
+sample_section a b old new entry s = ap (λ w. w.section) s.gives.new_is ∙ (begun_on a s.begun old s.between s.begins).section
 
-pub enter_same : (a b : Account) (old new : Standing) (lock : ℕ) → Steps a b old new (EnterStep lock) → (new.section ≡ old.section) × (new.thread ≡ old.thread) × (new.plan ≡ old.plan)
-enter_same a b old new lock s =
-    let on = begun_on a s.begun old s.between s.begins in
-    (ap (λ w. w.section) s.gives.new_is ∙ on.section, ap (λ w. w.thread) s.gives.new_is ∙ on.thread, ap (λ w. w.plan) s.gives.new_is ∙ on.plan)
+pub null_section : (a b : Account) (old new : Standing) → Steps a b old new NullStep → new.section ≡ old.section
+null_section a b old new s = ap (λ w. w.section) s.gives.new_is ∙ (begun_on a s.begun old s.between s.begins).section
 
-pub leave_same : (a b : Account) (old new : Standing) (lock : ℕ) → Steps a b old new (LeaveStep lock) → (new.thread ≡ old.thread) × (new.plan ≡ old.plan)
-leave_same a b old new lock s =
-    let on = begun_on a s.begun old s.between s.begins in
-    (ap (λ w. w.thread) s.gives.new_is ∙ on.thread, ap (λ w. w.plan) s.gives.new_is ∙ on.plan)
+pub enter_section : (a b : Account) (old new : Standing) (lock : ℕ) → Steps a b old new (EnterStep lock) → new.section ≡ old.section
+enter_section a b old new lock s = ap (λ w. w.section) s.gives.new_is ∙ (begun_on a s.begun old s.between s.begins).section
 
 pub left_section : (a b : Account) (old new : Standing) (lock : ℕ) → Steps a b old new (LeaveStep lock) → (old.section ≡ Some lock) × (new.section ≡ None)
 left_section a b old new lock s =
@@ -629,33 +569,27 @@ left_section a b old new lock s =
     (sym on.section ∙ s.gives.open_, ap (λ w. w.section) s.gives.new_is)
 
 -- of a thread that ended, unless it was out of memory
-over_same : (m b : Account) (run : Run (Unit {0})) (between new : Standing) (end : End) → IsOver m b run between new end → (new.section ≡ between.section) × (new.thread ≡ between.thread) × (new.plan ≡ between.plan)
-over_same m b run between new end g = (ap (λ w. w.section) g.new_is, ap (λ w. w.thread) g.new_is, ap (λ w. w.plan) g.new_is)
+end_section : (m b : Account) (run : Run (Unit {0})) (between new : Standing) (end : End) → (IsNoMemory end → ⊥) → Ends m b run between new end → new.section ≡ between.section
+end_section m b run between new Completed memory g = ap (λ w. w.section) g.new_is
+end_section m b run between new StopThread memory g = ap (λ w. w.section) g.new_is
+end_section m b run between new StopTest memory g = ap (λ w. w.section) g.new_is
+end_section m b run between new Stopped memory g = absurd g
+end_section m b run between new SampleLimit memory g = ap (λ w. w.section) g.new_is
+end_section m b run between new RoundLimit memory g = ap (λ w. w.section) g.new_is
+end_section m b run between new ValueLimit memory g = ap (λ w. w.section) g.new_is
+end_section m b run between new NoMemory memory g = absurd (memory tt)
 
-ends_same : (m b : Account) (run : Run (Unit {0})) (between new : Standing) (end : End) → (IsNoMemory end → ⊥) → Ends m b run between new end → (new.section ≡ between.section) × (new.thread ≡ between.thread) × (new.plan ≡ between.plan)
-ends_same m b run between new Completed memory g = over_same m b run between new Completed g
-ends_same m b run between new StopThread memory g = over_same m b run between new StopThread g
-ends_same m b run between new StopTest memory g = over_same m b run between new StopTest g
-ends_same m b run between new Stopped memory g = absurd g
-ends_same m b run between new SampleLimit memory g = over_same m b run between new SampleLimit g
-ends_same m b run between new RoundLimit memory g = over_same m b run between new RoundLimit g
-ends_same m b run between new ValueLimit memory g = over_same m b run between new ValueLimit g
-ends_same m b run between new NoMemory memory g = absurd (memory tt)
-
-pub end_same_seat : (seat new : Seat) (a b : Account) (end : End) → (IsNoMemory end → ⊥) → Steps a b seat.worker new.worker (EndedStep end) → (new.worker.section ≡ seat.worker.section) × IsSameThread seat new
-end_same_seat seat new a b end memory s =
-    let on = begun_on a s.begun seat.worker s.between s.begins in
-    let h = ends_same s.begun b (rest s.between) s.between new.worker end memory s.gives in
-    (h.0 ∙ on.section, record { number = h.1 ∙ on.thread; plan = h.2 ∙ on.plan })
+pub ended_section : (a b : Account) (old new : Standing) (end : End) → (IsNoMemory end → ⊥) → Steps a b old new (EndedStep end) → new.section ≡ old.section
+ended_section a b old new end memory s = end_section s.begun b (rest s.between) s.between new end memory s.gives ∙ (begun_on a s.begun old s.between s.begins).section
 
 pub ended_sections : {E : Type 0} (r : Result (Option ℕ) E) (seat new : Seat) (end : End) → Steps seat.outside new.outside seat.worker new.worker (EndedStep end) → IfOk r (λ left. left ≡ None) → (IsNoMemory end → OnOk r ⊥)
     → IfOk r (StepSections seat new)
-ended_sections (Ok x) seat new end s none memory = subst (StepSections seat new) (sym none) (end_same_seat seat new seat.outside new.outside end memory s).0
+ended_sections (Ok x) seat new end s none memory = subst (StepSections seat new) (sym none) (ended_section seat.outside new.outside seat.worker new.worker end memory s)
 ended_sections (Err e) seat new end s none memory = tt
 
-pub ended_thread : {X E : Type 0} (r : Result X E) (seat new : Seat) (end : End) → Steps seat.outside new.outside seat.worker new.worker (EndedStep end) → (IsNoMemory end → OnOk r ⊥) → OnOk r (IsSameThread seat new)
-ended_thread (Ok x) seat new end s memory = (end_same_seat seat new seat.outside new.outside end memory s).1
-ended_thread (Err e) seat new end s memory = tt
+pub ended_thread : {X E : Type 0} (r : Result X E) (seat new : Seat) (end : End) → Steps seat.outside new.outside seat.worker new.worker (EndedStep end) → OnOk r (IsSameThread seat new)
+ended_thread (Ok x) seat new end s = same_seat seat new seat.outside new.outside (EndedStep end) s
+ended_thread (Err e) seat new end s = tt
 
 -- a stop leaves the open section
 pub stop_sections : (seat new : Seat) (left : Option ℕ) → ((t : Thread) × SeatIs seat t)

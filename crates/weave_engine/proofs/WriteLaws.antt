@@ -1,11 +1,11 @@
 -- What steps, stops and records of a thread leave of its writer.
-use Rattle.std.proofs.Common.{◌≡◌, inl, inr, ℕ, zero, suc, ◌+◌, ◌-◌, ◌<◌, ◌≤◌, true, false, List, [], ◌∷◌, ◌++◌, Option, None, Some, length, append-nil, append_assoc, refl, sym, ap, ◌∙◌, subst, arith}
+use Rattle.std.proofs.Common.{◌≡◌, ℕ, ◌+◌, ◌-◌, ◌<◌, ◌≤◌, true, false, List, [], ◌∷◌, ◌++◌, None, Some, length, append-nil, append_assoc, refl, sym, ap, ◌∙◌, subst, arith}
 use Rattle.std.specs.Prelude.{IfSome, Result, Ok, Err, OnOk}
 use Rattle.std.proofs.lemmas.List.{length-append}
 use Rattle.jm_base.specs.declared.types.End.{End}
 use Rattle.jm_base.specs.declared.types.End.TheVariants.{Completed, StopThread, StopTest, Stopped, SampleLimit, RoundLimit, ValueLimit, NoMemory}
 use Rattle.jm_base.specs.declared.types.Entry.{Entry}
-use Rattle.jm_base.specs.Run.{Run, Giver}
+use Rattle.jm_base.specs.Run.{Giver}
 use Rattle.jm_base.specs.Outside.{Account}
 use Rattle.element_tree.specs.Tree.{Tree}
 use Rattle.element_tree.specs.Names.{labels_of}
@@ -13,44 +13,26 @@ use Rattle.phaser_core.specs.declared.view.Numbers.{Numbers}
 use Rattle.phaser_core.specs.declared.view.Stage.{Stage}
 use Rattle.phaser_core.specs.declared.view.Stage.TheVariants.{Out}
 use Rattle.thread_machine.specs.declared.trace.TraceItem.{TraceItem}
-use Rattle.thread_machine.specs.declared.trace.TraceItem.TheVariants.{Paused as PausedItem, Sampled as SampledItem, Null as NullItem, Entered as EnteredItem, Left as LeftItem, Ended as EndedItem}
+use Rattle.thread_machine.specs.declared.trace.TraceItem.TheVariants.{Sampled as SampledItem, Entered as EnteredItem, Ended as EndedItem}
 use Rattle.thread_machine.specs.declared.step.Step.TheVariants.{Sampled as SampledStep, Null as NullStep, Enter as EnterStep, Leave as LeaveStep, Ended as EndedStep}
-use Rattle.thread_machine.specs.Standing.{Standing, rest}
 use Rattle.thread_machine.specs.SectionOrder.{left_traced}
-use Rattle.thread_machine.specs.Stepped.{trace_paused, Begins, IsGiver, IsOver, Ends, Steps}
+use Rattle.thread_machine.specs.Stepped.{IsGiver, Steps}
+use Rattle.thread_machine.proofs.Appended.{HoldsOn, after_step, after_end, no_more, gathered}
+use Rattle.thread_machine.proofs.Ends.{begun_on, thread_same}
 use Rattle.thread_machine.proofs.Labels.{label_within}
 use Rattle.weave_engine.specs.declared.seat.Owed.TheVariants as by
 use Rattle.weave_engine.specs.declared.seat.Seat.{Seat}
 use Rattle.weave_engine.specs.Steps.{Thread}
 use Rattle.weave_engine.specs.Seats.{SeatIs, HasRoom, StageOf, LabelIn, pending_of, units_in, owed_after, StepsOut, RecordsOn}
 use Rattle.weave_engine.specs.Books.{pair_of, pairs_of}
-use Rattle.weave_engine.proofs.SeatLaws.{begun_on, record_of, worker_entered}
+use Rattle.weave_engine.proofs.SeatLaws.{record_of, worker_entered}
 
 pairs_push : (xs : List TraceItem) (item : TraceItem) → pairs_of (xs ++ item ∷ []) ≡ pairs_of xs ++ pair_of item
 pairs_push [] item = append-nil (pair_of item)
 pairs_push (x ∷ xs) item = ap (λ l. pair_of x ++ l) (pairs_push xs item) ∙ sym (append_assoc (pair_of x) (pairs_of xs) (pair_of item))
 
--- an item that is no sample
-silent : (old new : List TraceItem) (item : TraceItem) → new ≡ old ++ item ∷ [] → pair_of item ≡ [] → pairs_of new ≡ pairs_of old
-silent old new item is none = ap pairs_of is ∙ pairs_push old item ∙ ap (λ l. pairs_of old ++ l) none ∙ append-nil (pairs_of old)
-
--- a pause has no entry
-paused_pairs : (trace : List TraceItem) (ms : ℕ) → pairs_of (trace_paused trace ms) ≡ pairs_of trace
-paused_pairs trace zero = refl
-paused_pairs trace (suc ms) = silent trace (trace ++ PausedItem (suc ms) ∷ []) (PausedItem (suc ms)) refl refl
-
--- nor has a section that is left
-left_pairs : (trace : List TraceItem) (open_ : Option ℕ) (item : TraceItem) → pair_of item ≡ [] → pairs_of (trace ++ (left_traced open_ ++ item ∷ [])) ≡ pairs_of trace
-left_pairs trace None item none = silent trace (trace ++ item ∷ []) item refl none
-left_pairs trace (Some lock) item none =
-    ap pairs_of (sym (append_assoc trace (LeftItem lock ∷ []) (item ∷ []))) ∙ silent (trace ++ LeftItem lock ∷ []) ((trace ++ LeftItem lock ∷ []) ++ item ∷ []) item refl none
-    ∙ silent trace (trace ++ LeftItem lock ∷ []) (LeftItem lock) refl refl
-
-begun_pairs : (a b : Account) (old new : Standing) → Begins a b old new → pairs_of new.trace ≡ pairs_of old.trace
-begun_pairs a b old new h = elim h [
-  | inl p ↦ silent old.trace new.trace (PausedItem old.pause) (ap (λ s. s.trace) p.new_is) refl
-  | inr s ↦ ap (λ w. pairs_of w.trace) s.standing
-]
+same_pairs : HoldsOn (λ s t. pairs_of t ≡ pairs_of s)
+same_pairs = gathered pairs_of pair_of pairs_push (λ ms. refl) (λ number. refl) (λ lock. refl) (λ end. refl)
 
 label_in : (giver : Giver) (plan : Tree) (number label : ℕ) → IsGiver giver plan number label → label < length (labels_of plan.elements)
 label_in giver plan number label s = subst (λ k. k < length (labels_of plan.elements)) (sym s.label_is) (label_within plan.elements number s.element giver s.there s.kind_is)
@@ -98,33 +80,6 @@ end_out RoundLimit stage h = h
 end_out ValueLimit stage h = h
 end_out NoMemory stage h = h
 
--- a thread that ended: only its trace has grown
-pub record EndsSo (between new : Standing) : Type 0 where
-  pub plan : new.plan ≡ between.plan
-  pub list : pairs_of new.trace ≡ pairs_of between.trace
-  pub owed : new.owed ≡ between.owed
-
-pub over_so : (m b : Account) (run : Run (Unit {0})) (between new : Standing) (end : End) → IsOver m b run between new end → EndsSo between new
-over_so m b run between new end g = record {
-  plan = ap (λ w. w.plan) g.new_is;
-  list = silent between.trace new.trace (EndedItem end) (ap (λ w. w.trace) g.new_is) refl;
-  owed = ap (λ w. w.owed) g.new_is;
-}
-
-pub ends_so : (m b : Account) (run : Run (Unit {0})) (between new : Standing) (end : End) → Ends m b run between new end → EndsSo between new
-ends_so m b run between new Completed g = over_so m b run between new Completed g
-ends_so m b run between new StopThread g = over_so m b run between new StopThread g
-ends_so m b run between new StopTest g = over_so m b run between new StopTest g
-ends_so m b run between new Stopped g = absurd g
-ends_so m b run between new SampleLimit g = over_so m b run between new SampleLimit g
-ends_so m b run between new RoundLimit g = over_so m b run between new RoundLimit g
-ends_so m b run between new ValueLimit g = over_so m b run between new ValueLimit g
-ends_so m b run between new NoMemory g = record {
-  plan = ap (λ w. w.plan) g.new_is;
-  list = ap (λ w. pairs_of w.trace) g.new_is ∙ left_pairs between.trace between.section (EndedItem NoMemory) refl;
-  owed = ap (λ w. w.owed) g.new_is;
-}
-
 module _ (seat new : Seat) (going : seat.ended ≡ false) (free : seat.owed ≡ by.Nothing) where
   left_before : units_in seat.ended seat.worker.units ≡ seat.worker.units
   left_before = ap (λ b. units_in b seat.worker.units) going
@@ -137,8 +92,8 @@ module _ (seat new : Seat) (going : seat.ended ≡ false) (free : seat.owed ≡ 
       let before = left_before in
       let after : units_in new.ended new.worker.units ≡ new.worker.units = ap (λ b. units_in b new.worker.units) (ended ∙ going) in
       let on = begun_on a s.begun seat.worker s.between s.begins in
-      let plan : new.worker.plan ≡ seat.worker.plan = ap (λ w. w.plan) s.gives.new_is ∙ on.plan in
-      let list : pairs_of new.worker.trace ≡ pairs_of seat.worker.trace = ap (λ w. pairs_of w.trace) s.gives.new_is ∙ paused_pairs s.between.trace s.gives.paused ∙ begun_pairs a s.begun seat.worker s.between s.begins in
+      let plan : new.worker.plan ≡ seat.worker.plan = (thread_same a b seat.worker new.worker (SampledStep entry) s).plan in
+      let list : pairs_of new.worker.trace ≡ pairs_of seat.worker.trace = after_step same_pairs a b seat.worker new.worker (SampledStep entry) s in
       let lists : length (pairs_of new.worker.trace) ≡ length (pairs_of seat.worker.trace) = ap length list in
       let units : new.worker.units ≡ s.between.units - 1 = ap (λ w. w.units) s.gives.new_is in
       let begun : s.between.units ≡ seat.worker.units = on.units in
@@ -160,9 +115,8 @@ module _ (seat new : Seat) (going : seat.ended ≡ false) (free : seat.owed ≡ 
       let before = left_before in
       let after : units_in new.ended new.worker.units ≡ new.worker.units = ap (λ b. units_in b new.worker.units) (ended ∙ going) in
       let on = begun_on a s.begun seat.worker s.between s.begins in
-      let plan : new.worker.plan ≡ seat.worker.plan = ap (λ w. w.plan) s.gives.new_is ∙ on.plan in
-      let list : pairs_of new.worker.trace ≡ pairs_of seat.worker.trace =
-      silent (trace_paused s.between.trace s.gives.paused) new.worker.trace (NullItem s.gives.number) (ap (λ w. w.trace) s.gives.new_is) refl ∙ paused_pairs s.between.trace s.gives.paused ∙ begun_pairs a s.begun seat.worker s.between s.begins in
+      let plan : new.worker.plan ≡ seat.worker.plan = (thread_same a b seat.worker new.worker NullStep s).plan in
+      let list : pairs_of new.worker.trace ≡ pairs_of seat.worker.trace = after_step same_pairs a b seat.worker new.worker NullStep s in
       let lists : length (pairs_of new.worker.trace) ≡ length (pairs_of seat.worker.trace) = ap length list in
       let units : new.worker.units ≡ s.between.units - 1 = ap (λ w. w.units) s.gives.new_is in
       let begun : s.between.units ≡ seat.worker.units = on.units in
@@ -178,8 +132,8 @@ module _ (seat new : Seat) (going : seat.ended ≡ false) (free : seat.owed ≡ 
       let before = left_before in
       let after : units_in new.ended new.worker.units ≡ new.worker.units = ap (λ b. units_in b new.worker.units) (ended ∙ going) in
       let on = begun_on a s.begun seat.worker s.between s.begins in
-      let plan : new.worker.plan ≡ seat.worker.plan = ap (λ w. w.plan) s.gives.new_is ∙ on.plan in
-      let list : pairs_of new.worker.trace ≡ pairs_of seat.worker.trace = ap (λ w. pairs_of w.trace) s.gives.new_is ∙ begun_pairs a s.begun seat.worker s.between s.begins in
+      let plan : new.worker.plan ≡ seat.worker.plan = (thread_same a b seat.worker new.worker (EnterStep lock) s).plan in
+      let list : pairs_of new.worker.trace ≡ pairs_of seat.worker.trace = after_step same_pairs a b seat.worker new.worker (EnterStep lock) s in
       let lists : length (pairs_of new.worker.trace) ≡ length (pairs_of seat.worker.trace) = ap length list in
       let units : new.worker.units ≡ s.between.units - 1 = ap (λ w. w.units) s.gives.new_is in
       let begun : s.between.units ≡ seat.worker.units = on.units in
@@ -196,9 +150,8 @@ module _ (seat new : Seat) (going : seat.ended ≡ false) (free : seat.owed ≡ 
       let before = left_before in
       let after : units_in new.ended new.worker.units ≡ new.worker.units = ap (λ b. units_in b new.worker.units) (ended ∙ going) in
       let on = begun_on a s.begun seat.worker s.between s.begins in
-      let plan : new.worker.plan ≡ seat.worker.plan = ap (λ w. w.plan) s.gives.new_is ∙ on.plan in
-      let list : pairs_of new.worker.trace ≡ pairs_of seat.worker.trace =
-      silent s.between.trace new.worker.trace (LeftItem lock) (ap (λ w. w.trace) s.gives.new_is) refl ∙ begun_pairs a s.begun seat.worker s.between s.begins in
+      let plan : new.worker.plan ≡ seat.worker.plan = (thread_same a b seat.worker new.worker (LeaveStep lock) s).plan in
+      let list : pairs_of new.worker.trace ≡ pairs_of seat.worker.trace = after_step same_pairs a b seat.worker new.worker (LeaveStep lock) s in
       let lists : length (pairs_of new.worker.trace) ≡ length (pairs_of seat.worker.trace) = ap length list in
       let units : new.worker.units ≤ s.between.units = s.gives.fewer in
       let begun : s.between.units ≡ seat.worker.units = on.units in
@@ -212,7 +165,7 @@ module _ (seat new : Seat) (going : seat.ended ≡ false) (free : seat.owed ≡ 
   pub stop_out : new.worker ≡ record seat.worker { section = None; ended = true; trace = seat.worker.trace ++ (left_traced seat.worker.section ++ EndedItem Stopped ∷ []) } → new.ended ≡ true → new.owed ≡ by.Nothing → StepsOut seat new
   stop_out worker ended owed =
       let after : units_in new.ended new.worker.units ≡ 0 = ap (λ b. units_in b new.worker.units) ended in
-      let list : pairs_of new.worker.trace ≡ pairs_of seat.worker.trace = ap (λ w. pairs_of w.trace) worker ∙ left_pairs seat.worker.trace seat.worker.section (EndedItem Stopped) refl in
+      let list : pairs_of new.worker.trace ≡ pairs_of seat.worker.trace = ap (λ w. pairs_of w.trace) worker ∙ after_end same_pairs seat.worker.trace seat.worker.section Stopped in
       let lists : length (pairs_of new.worker.trace) ≡ length (pairs_of seat.worker.trace) = ap length list in
       let now : pending_of new.owed ≡ 0 = ap pending_of owed in
       record {
@@ -223,14 +176,13 @@ module _ (seat new : Seat) (going : seat.ended ≡ false) (free : seat.owed ≡ 
 
   end_out_by : (a b : Account) (end : End) → Steps a b seat.worker new.worker (EndedStep end) → new.ended ≡ true → new.owed ≡ owed_after end → StepsOut seat new
   end_out_by a b end s ended owed =
-      let on = begun_on a s.begun seat.worker s.between s.begins in
-      let so = ends_so s.begun b (rest s.between) s.between new.worker end s.gives in
-      let list : pairs_of new.worker.trace ≡ pairs_of seat.worker.trace = so.list ∙ begun_pairs a s.begun seat.worker s.between s.begins in
+      let plan : new.worker.plan ≡ seat.worker.plan = (thread_same a b seat.worker new.worker (EndedStep end) s).plan in
+      let list : pairs_of new.worker.trace ≡ pairs_of seat.worker.trace = after_step same_pairs a b seat.worker new.worker (EndedStep end) s in
       let lists : length (pairs_of new.worker.trace) ≡ length (pairs_of seat.worker.trace) = ap length list in
       let after : units_in new.ended new.worker.units ≡ 0 = ap (λ b. units_in b new.worker.units) ended in
       let now : pending_of new.owed ≡ 0 = ap pending_of owed ∙ end_pends end in
       record {
-        room = λ n h. room_kept n seat new h (so.plan ∙ on.plan) (omega (arith, lists, after, now))
+        room = λ n h. room_kept n seat new h plan (omega (arith, lists, after, now))
             (subst (LabelIn (length (labels_of new.worker.plan.elements))) (sym owed) (end_owes end (length (labels_of new.worker.plan.elements))));
         out = λ stage h. subst (λ o. StageOf o stage) (sym owed) (end_out end stage h);
         list = list;
@@ -246,7 +198,7 @@ pub entered_out : (seat new : Seat) (lock place : ℕ) → ((t : Thread) × Seat
     → new.ended ≡ seat.ended → new.owed ≡ by.Nothing → StepsOut seat new
 entered_out seat new lock place is owed_is entered ended owed =
     let worker = worker_entered seat new.worker lock place is owed_is entered in
-    let list : pairs_of new.worker.trace ≡ pairs_of seat.worker.trace = silent seat.worker.trace new.worker.trace (EnteredItem lock place) (ap (λ w. w.trace) worker) refl in
+    let list : pairs_of new.worker.trace ≡ pairs_of seat.worker.trace = ap (λ w. pairs_of w.trace) worker ∙ no_more pairs_of pair_of pairs_push seat.worker.trace (EnteredItem lock place) refl in
     let lists : length (pairs_of new.worker.trace) ≡ length (pairs_of seat.worker.trace) = ap length list in
     let units : units_in new.ended new.worker.units ≡ units_in seat.ended seat.worker.units = ap (λ w. units_in new.ended w.units) worker ∙ ap (λ b. units_in b seat.worker.units) ended in
     let now : pending_of new.owed ≡ 0 = ap pending_of owed in
