@@ -4,6 +4,7 @@ use Rattle.std.specs.Prelude.{◌==◌, slice_get, slice_index}
 use Rattle.std.proofs.lemmas.List.{length-set}
 use lib.ListN.{get_elem?}
 use Rattle.element_tree.specs.Tree.{Tree, threads_of}
+use Rattle.element_tree.specs.Names.{labels_of}
 use Rattle.interval_tables.specs.declared.report.Report.{Report}
 use Rattle.jm_meaning.specs.Beginning.{Options}
 use Rattle.phaser_core.specs.declared.view.Event.TheVariants.{LookStop}
@@ -25,7 +26,7 @@ use Rattle.weave_engine.specs.Steps.{Owed, Nought, Record, Section, Stop, Thread
 use Rattle.jm_base.specs.Run.{Event}
 use Rattle.weave_engine.specs.Turns.{Weave, thread_turn, turn_of, owed_turn, try_turn, free_turn, looked_turn, step_turn, core_moves, reporter_turn, turns_to, ends_rounds, closing_of, is_idle, joined_to, reports_in, reports_of}
 use Rattle.weave_engine.specs.Woven.{Runs as RunsAs, AllRun, at_end, first, at_start, numbers_of, CloseIf, Woven}
-use Rattle.weave_engine.specs.Seats.{AreSeats, CoreIs, Runs, RunsOn, IsJoined, lists_of, traces_in}
+use Rattle.weave_engine.specs.Seats.{AreSeats, CoreIs, Runs, RunsOn, Starts, IsJoined, lists_of, traces_in}
 use Rattle.weave_engine.specs.Books.{pairs_of, lists_in, AllKeep}
 use Rattle.weave_engine.proofs.JoinLaws.{joined_as}
 
@@ -137,47 +138,99 @@ kept n seats core state j = subst (AllKeep n.labels n.budget) (joined_as n seats
 
 -- One part after the other
 
-module _ (plan : Tree) (options : Options) (tokens : List Token) (seats0 seats1 seats2 : List Seat) (core0 core1 core2 core3 core4 : Shape) (locks0 locks1 locks2 : List ℕ) where
-  abbrev n : Numbers
-  n = numbers_of plan options
+-- after the tokens
+pub record Scheduled (plan : Tree) (options : Options) (tokens : List Token) (seats : List Seat) (core : Shape) (locks : List ℕ) : Type 0 where
+  pub state : Weave
+  pub ran : AllRun (numbers_of plan options) tokens (at_start plan options) state
+  pub runs : RunsOn (numbers_of plan options) seats core locks state
+  pub count : length seats ≡ length (threads_of plan)
 
-  module _ (start : RunsOn n seats0 core0 locks0 (at_start plan options)) (count0 : length seats0 ≡ length (threads_of plan))
-      (run1 : (n : Numbers) (s : Weave) → RunsOn n seats0 core0 locks0 s → (t : Weave) × AllRun n tokens s t × RunsOn n seats1 core1 locks1 t) where
-    pub after_tokens : (t : Weave) × AllRun n tokens (at_start plan options) t × RunsOn n seats1 core1 locks1 t
-    after_tokens = run1 n (at_start plan options) start
+-- the tokens, and then the rounds, lead here
+pub record LeadsTo (plan : Tree) (options : Options) (tokens : List Token) (settled : Weave) : Type 0 where
+  pub scheduled : Weave
+  pub ran : AllRun (numbers_of plan options) tokens (at_start plan options) scheduled
+  pub rounds : Repeats (turns_to (numbers_of plan options) (length (threads_of plan))) (ends_rounds (numbers_of plan options) (length (threads_of plan))) scheduled settled
 
-    pub count1 : length seats1 ≡ length (threads_of plan)
-    count1 = seats_kept n tokens seats0 seats1 core0 core1 (at_start plan options) after_tokens.0 start.runs after_tokens.1 after_tokens.2.runs ∙ count0
+-- after the rounds
+pub record Settled (plan : Tree) (options : Options) (tokens : List Token) (seats : List Seat) (core : Shape) (locks : List ℕ) : Type 0 where
+  pub state : Weave
+  pub leads : LeadsTo plan options tokens state
+  pub runs : RunsOn (numbers_of plan options) seats core locks state
+  pub count : length seats ≡ length (threads_of plan)
 
-    module _ (run2 : (n : Numbers) (s : Weave) → RunsOn n seats1 core1 locks1 s → (t : Weave) × Repeats (turns_to n (length seats1)) (ends_rounds n (length seats1)) s t × RunsOn n seats2 core2 locks2 t)
-        (count2 : length seats2 ≡ length seats1) where
-      pub after_rounds : (t : Weave) × Repeats (turns_to n (length seats1)) (ends_rounds n (length seats1)) after_tokens.0 t × RunsOn n seats2 core2 locks2 t
-      after_rounds = run2 n after_tokens.0 after_tokens.2
+-- after the open closing
+pub record Closed (plan : Tree) (options : Options) (tokens : List Token) (seats : List Seat) (core : Shape) : Type 0 where
+  pub settled : Weave
+  pub leads : LeadsTo plan options tokens settled
+  pub state : Weave
+  pub closes : CloseIf (is_idle (closing_of settled)) (numbers_of plan options) settled state
+  pub runs : Runs (numbers_of plan options) seats core state
+  pub count : length seats ≡ length (threads_of plan)
 
-      module _ (run3 : (n : Numbers) (s : Weave) → Runs n seats2 core2 s → (t : Weave) × CloseIf (is_idle (closing_of s)) n s t × Runs n seats2 core3 t) where
-        pub after_closing : (t : Weave) × CloseIf (is_idle (closing_of after_rounds.0)) n after_rounds.0 t × Runs n seats2 core3 t
-        after_closing = run3 n after_rounds.0 after_rounds.2.runs
+pub scheduled : {plan : Tree} {options : Options} {tokens read : List Token} {seats0 seats : List Seat} {core0 core : Shape} {locks0 locks : List ℕ} → Starts plan options seats0 core0 locks0
+    → read ≡ tokens → ((n : Numbers) (s : Weave) → RunsOn n seats0 core0 locks0 s → (t : Weave) × AllRun n read s t × RunsOn n seats core locks t)
+    → Scheduled plan options tokens seats core locks
+scheduled {plan} {options} {tokens} {read} {seats0} {seats} {core0} {core} start same run =
+    let after = run (numbers_of plan options) (at_start plan options) start.runs in
+    let ran : AllRun (numbers_of plan options) tokens (at_start plan options) after.0 = subst (λ l. AllRun (numbers_of plan options) l (at_start plan options) after.0) same after.1 in
+    record {
+      state = after.0;
+      ran = ran;
+      runs = after.2;
+      count = seats_kept (numbers_of plan options) tokens seats0 seats core0 core (at_start plan options) after.0 start.runs.runs ran after.2.runs ∙ start.count;
+    }
 
-        module _ (run4 : (n : Numbers) (s : Weave) → Runs n seats2 core3 s → IsJoined n seats2 core4 (joined_to n (length seats2) s.core))
-            (reports : List Report) where
-          joined : IsJoined n seats2 core4 (joined_to n (length (threads_of plan)) after_closing.0.core)
-          joined = subst (λ k. IsJoined n seats2 core4 (joined_to n k after_closing.0.core)) (count2 ∙ count1) (run4 n after_closing.0 after_closing.2)
+pub settled : {plan : Tree} {options : Options} {tokens : List Token} {seats1 seats : List Seat} {core1 core : Shape} {locks1 locks : List ℕ} → Scheduled plan options tokens seats1 core1 locks1
+    → ((n : Numbers) (s : Weave) → RunsOn n seats1 core1 locks1 s → (t : Weave) × Repeats (turns_to n (length seats1)) (ends_rounds n (length seats1)) s t × RunsOn n seats core locks t)
+    → length seats ≡ length seats1 → Settled plan options tokens seats core locks
+settled {plan} {options} before run same =
+    let after = run (numbers_of plan options) before.state before.runs in
+    record {
+      state = after.0;
+      leads = record {
+        scheduled = before.state;
+        ran = before.ran;
+        rounds = subst (λ k. Repeats (turns_to (numbers_of plan options) k) (ends_rounds (numbers_of plan options) k) before.state after.0) before.count after.1;
+      };
+      runs = after.2;
+      count = same ∙ before.count;
+    }
 
-          pub woven : reports ≡ core4.reporter.closed ++ open_report core4 ∷ [] → Woven plan options tokens (traces_in seats2) reports
-          woven is = record {
-            scheduled = after_tokens.0;
-            settled = after_rounds.0;
-            closed = after_closing.0;
-            tokens = after_tokens.1;
-            rounds = subst (λ k. Repeats (turns_to n k) (ends_rounds n k) after_tokens.0 after_rounds.0) count1 after_rounds.1;
-            closes = after_closing.1;
-            traces_are = traces_are 0 seats2 after_closing.0.threads after_closing.2.threads;
-            reports_are = reports_are n core4 (joined_to n (length (threads_of plan)) after_closing.0.core) reports joined.core_is is;
-          }
+pub closed : {plan : Tree} {options : Options} {tokens : List Token} {seats : List Seat} {core2 core : Shape} {locks : List ℕ} → Settled plan options tokens seats core2 locks
+    → ((n : Numbers) (s : Weave) → Runs n seats core2 s → (t : Weave) × CloseIf (is_idle (closing_of s)) n s t × Runs n seats core t) → Closed plan options tokens seats core
+closed {plan} {options} before run =
+    let after = run (numbers_of plan options) before.state before.runs.runs in
+    record {
+      settled = before.state;
+      leads = before.leads;
+      state = after.0;
+      closes = after.1;
+      runs = after.2;
+      count = before.count;
+    }
 
-          pub partition : ((views : List View) → Shows core4 views → RecorderInvariant core4.numbers core4.words views → Partition core4.numbers.labels (joined_lists views) reports)
-              → Partition n.labels (lists_in (traces_in seats2)) reports
-          partition h = subst (λ l. Partition n.labels l reports) (lists_as seats2) (parted n seats2 core4 (joined_to n (length (threads_of plan)) after_closing.0.core) reports joined h)
+module _ {plan : Tree} {options : Options} {tokens : List Token} {seats : List Seat} {core3 core : Shape} (before : Closed plan options tokens seats core3)
+    (joins : (n : Numbers) (s : Weave) → Runs n seats core3 s → IsJoined n seats core (joined_to n (length seats) s.core)) (reports : List Report) where
+  joined : IsJoined (numbers_of plan options) seats core (joined_to (numbers_of plan options) (length (threads_of plan)) before.state.core)
+  joined = subst (λ k. IsJoined (numbers_of plan options) seats core (joined_to (numbers_of plan options) k before.state.core)) before.count (joins (numbers_of plan options) before.state before.runs)
 
-          pub keep : AllKeep n.labels n.budget (lists_in (traces_in seats2))
-          keep = subst (AllKeep n.labels n.budget) (lists_as seats2) (kept n seats2 core4 (joined_to n (length (threads_of plan)) after_closing.0.core) joined)
+  pub woven : reports ≡ core.reporter.closed ++ open_report core ∷ [] → Woven plan options tokens (traces_in seats) reports
+  woven is = record {
+    scheduled = before.leads.scheduled;
+    settled = before.settled;
+    closed = before.state;
+    tokens = before.leads.ran;
+    rounds = before.leads.rounds;
+    closes = before.closes;
+    traces_are = traces_are 0 seats before.state.threads before.runs.threads;
+    reports_are = reports_are (numbers_of plan options) core (joined_to (numbers_of plan options) (length (threads_of plan)) before.state.core) reports joined.core_is is;
+  }
+
+  pub partition : ((views : List View) → Shows core views → RecorderInvariant core.numbers core.words views → Partition core.numbers.labels (joined_lists views) reports)
+      → Partition (length (labels_of plan.elements)) (lists_in (traces_in seats)) reports
+  partition h = subst (λ l. Partition (length (labels_of plan.elements)) l reports) (lists_as seats)
+      (parted (numbers_of plan options) seats core (joined_to (numbers_of plan options) (length (threads_of plan)) before.state.core) reports joined h)
+
+  pub keep : AllKeep (length (labels_of plan.elements)) options.budget (lists_in (traces_in seats))
+  keep = subst (AllKeep (length (labels_of plan.elements)) options.budget) (lists_as seats)
+      (kept (numbers_of plan options) seats core (joined_to (numbers_of plan options) (length (threads_of plan)) before.state.core) joined)
