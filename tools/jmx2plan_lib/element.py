@@ -8,7 +8,7 @@ from pathlib import Path
 
 from .jmx import Node, props_of, text_of
 from .losses import Loss, What, shown
-from .templates import carry, has_reference
+from .templates import VARIABLE, carry, has_reference
 from .xml_tree import Xml
 
 LONGEST_TEXT = 65_536
@@ -16,7 +16,6 @@ LONGEST_NAME = 256
 WHOLE = re.compile(r"[+-]?[0-9]{1,30}")
 DECIMAL = re.compile(r"([+-]?[0-9]{1,30})\.[0-9]*")
 DEFAULT_OF = re.compile(r"\$\{__(?:P\(([^(),]*)(?:,([^(),]*))?|property\(([^(),]*),,([^(),]*))\)\}")
-VARIABLE = re.compile(r"\$\{([^${}(),\\]+)\}")
 
 
 @dataclass
