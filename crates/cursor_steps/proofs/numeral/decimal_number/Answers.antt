@@ -1,6 +1,6 @@
 use Rattle.std.proofs.Common.{◌≡◌, ◌+◌, ◌*◌, ◌-◌, ◌^◌, get_or, sym, ◌∙◌, arith}
 use Rattle.std.specs.Prelude.{min}
-use Rattle.cursor_steps.proofs.Numerals.{cut-more, digits-more}
+use Rattle.jm_base.proofs.Numerals.{cut-more, digits-more}
 use Rattle.cursor_steps.proofs.numeral.decimal_number.Goals as goal
 
 pub loop-byte-preserved : goal.loop-byte-preserved

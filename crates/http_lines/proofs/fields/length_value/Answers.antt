@@ -1,5 +1,5 @@
 use Rattle.std.proofs.Common.{sym, ◌∙◌, arith}
-use Rattle.http_lines.proofs.Numerals.{cut-more, digits-more}
+use Rattle.jm_base.proofs.Numerals.{cut-more, digits-more}
 use Rattle.http_lines.proofs.fields.length_value.Goals as goal
 
 pub loop-byte-preserved : goal.loop-byte-preserved
