@@ -1,10 +1,6 @@
 -- What an element means goes on as its cursor's entry says.
 use Rattle.std.proofs.Common.{◌≡◌, ℕ, Bool, true, false, List, length, refl, sym, subst, arith}
-use Rattle.std.specs.Prelude.{if◌then◌else◌, Result, IfOk}
-use Rattle.std.proofs.lemmas.Result.{IfOk-weaker}
-use Rattle.element_tree.specs.Types.{is_section}
-use Rattle.thread_vars.specs.declared.error.VarError.{VarError}
-use Rattle.open_elements.proofs.OpenLaws.{kind_is}
+use Rattle.std.specs.Prelude.{if◌then◌else◌}
 use Rattle.jm_base.specs.Run.{over, ◌>>=◌}
 use Rattle.template_text.specs.Pieces.{Pieces}
 use Rattle.element_tree.specs.declared.kinds.Kind.{Kind}
@@ -30,7 +26,7 @@ use Rattle.jm_meaning.specs.Rounds.{Turns, rounds, loop_turns, while_turns, each
 use Rattle.jm_meaning.specs.Children.{Below, in_order, once_only, if_part}
 use Rattle.jm_meaning.specs.Beginning.{max_rounds}
 use Rattle.open_elements.specs.Moves.{begun, pass_left}
-use Rattle.open_elements.specs.Cursors.{simple_left, once_left, if_left, round_left, loop_left, while_left, each_left, if_left_in, while_left_in, each_left_in, shut_of, FitsKind}
+use Rattle.open_elements.specs.Cursors.{simple_left, once_left, if_left, round_left, loop_left, while_left, each_left, if_left_in, while_left_in, each_left_in}
 use Rattle.open_elements.proofs.PassLaws.{none-left, all-left}
 use Rattle.open_elements.proofs.StepLaws.{text-law}
 use Rattle.open_elements.proofs.PassLaws.{count-is}
@@ -51,11 +47,8 @@ use Rattle.jm_meaning.specs.Transactions.{tally_of, transaction_from}
 use Rattle.jm_meaning.specs.Sections.{section}
 use Rattle.jm_meaning.proofs.TransactionLaws.{by-tally}
 use Rattle.open_elements.specs.declared.cursor.Cursor.TheVariants.{Transaction, Section}
-use Rattle.open_elements.specs.declared.cursor.Cursor.{Cursor}
-use Rattle.open_elements.specs.declared.entering.Entered.{Entered}
-use Rattle.open_elements.specs.declared.entering.Entered.TheVariants.{Nothing, Sampler, Open}
-use Rattle.open_elements.specs.Closing.{KeepsLock}
-use Rattle.open_elements.specs.Entering.{here_with, entered, EnteredFits, EntersLock}
+use Rattle.open_elements.specs.declared.entering.Entered.TheVariants.{Open}
+use Rattle.open_elements.specs.Entering.{here_with, entered}
 
 -- before the first child of a pass all are left
 whole : (n : ℕ) (children : List ℕ) → n ≡ length children → pass_left (pass_over n) children ≡ children
@@ -161,23 +154,3 @@ pub lock_at : (elements : List Element) (n : ℕ) (e : Element) (name : List ℕ
 lock_at elements n e name lock there kind h =
     let at : IfSome (lock_name e) (λ name. lock ≡ lock_of elements name) = rw there at h in
     subst (λ k. IfSome (lock_of_kind k) (λ name. lock ≡ lock_of elements name)) kind at
-
-by_cursor : (elements : List Element) (n count : ℕ) (k : Kind) (c : Cursor) → FitsKind n count k c → ((name : List ℕ) → k ≡ kinds.CriticalSection name → ⊥) → KeepsLock elements k (shut_of c)
-by_cursor elements n count k (Section c) fits other = absurd (other fits.1.0 fits.1.1)
-by_cursor elements n count k c fits other = tt
-
--- an element that is no critical section has no lock
-pub no_lock : (elements : List Element) (n count : ℕ) (k : Kind) (x : Entered) → EnteredFits n count k x → ((name : List ℕ) → k ≡ kinds.CriticalSection name → ⊥) → EntersLock elements k x
-no_lock elements n count k Nothing fits other = tt
-no_lock elements n count k Sampler fits other = tt
-no_lock elements n count k (Open c) fits other = by_cursor elements n count k c fits.0 other
-
--- no lock is entered where the element that is entered is no critical section
-pub no_lock_at : (plan : Tree) (n : ℕ) (d : Element) (res : Result Entered VarError) → Some d ≡ slice_get plan.elements n → is_section d.kind ≡ false
-    → IfOk res (λ x. (e : Element) → slice_get plan.elements n ≡ Some e → EnteredFits n (length (children_of plan.elements e)) e.kind x)
-    → IfOk res (λ x. (e : Element) → slice_get plan.elements n ≡ Some e → EntersLock plan.elements e.kind x)
-no_lock_at plan n d res at free fits = IfOk-weaker res _ _ (λ x fits e there.
-    no_lock plan.elements n (length (children_of plan.elements e)) e.kind x (fits e there)
-    (λ name is. free_of d.kind name free (kind_is plan.elements n e d (kinds.CriticalSection name) (sym there) (sym at) is))) fits where
-      free_of : (k : Kind) (name : List ℕ) → is_section k ≡ false → k ≡ kinds.CriticalSection name → ⊥
-      free_of k name free is = let b : true ≡ false = subst (λ k. is_section k ≡ false) is free in cc

@@ -62,12 +62,13 @@ EntersLock elements k Sampler = Unit {0}
 EntersLock elements k (Open c) = KeepsLock elements k (shut_of c)
 
 -- Between two moments of the outside the element of this number was entered: what it means has come to what it goes on as, which
--- fits the element. No variable is set, functions stand at a later moment, and a refusal leaves the places of the Interleave
--- Controllers as they were.
+-- fits the element; a section keeps the lock of its element. No variable is set, functions stand at a later moment, and a refusal
+-- leaves the places of the Interleave Controllers as they were.
 pub record HasEntered (plan : Tree) (child : ℕ) (before : Account) (old : UserState) (old_places : List ℕ) (after : Account) (new : UserState) (new_places : List ℕ) (result : Result Entered VarError) : Type 0 where
   pub came : (e : Element) (failure : Signal) (below : Below) (round : ℕ) (own : Own) → slice_get plan.elements child ≡ Some e
       → CameTo before (kind_meaning (here_with plan failure) below child e e.kind round (state_of old (at_places own old_places))) after
       (entered (here_with plan failure) below child round e (state_of new (at_places own new_places))) (past (state_of new (at_places own new_places))) result
   pub fits : IfOk result (λ x. (e : Element) → slice_get plan.elements child ≡ Some e → EnteredFits child (length (children_of plan.elements e)) e.kind x)
+  pub lock : IfOk result (λ x. (e : Element) → slice_get plan.elements child ≡ Some e → EntersLock plan.elements e.kind x)
   pub stands : StandsLater old new
   pub places : OnErr result (new_places ≡ old_places)

@@ -1,6 +1,6 @@
 // Elements that are entered.
 
-ghost use Rattle.std.specs.Prelude.{◌≡◌, ◌<◌, slice_get, length, Some, ℕ, List, IfOk};
+ghost use Rattle.std.specs.Prelude.{◌≡◌, ◌<◌, slice_get, length, Some, ℕ, List};
 ghost use Rattle.element_tree.specs.declared.kinds.Element.{Element};
 ghost use Rattle.element_tree.specs.Tree.{Tree};
 ghost use Rattle.cursor_steps.specs.CursorStep.{IsThere};
@@ -92,6 +92,7 @@ fn enter_transaction(child: u16, children: u16) -> Entered
         ≡ entered (here_with plan failure) below child round e s result }
     ensures fits { (elements : List Element) (e : Element) → IsThere elements child e (Kind.Transaction)
         → children ≡ run_count elements e → EnteredFits child (length (children_of elements e)) e.kind result }
+    ensures lock { (elements : List Element) (kind : Kind) → EntersLock elements kind result }
 {
     Entered::Open(Cursor::Transaction(OpenTransaction {
         children: SimpleCursor {
@@ -136,7 +137,6 @@ pub fn enter<O: Outside>(
 ) -> Result<Entered, VarError>
     requires counted { (e : Element) → slice_get plan.now.elements child ≡ Some e → children ≡ run_count plan.now.elements e }
     ensures has_entered { HasEntered plan.now child (O.account outside.old) state.old places.old (O.account outside.new) state.new places.new result }
-    ensures lock { IfOk result (λ x. (e : Element) → slice_get plan.now.elements child ≡ Some e → EntersLock plan.now.elements e.kind x) }
 {
     let Some(element) = plan.element(child) else {
         return Ok(Entered::Nothing);

@@ -1,8 +1,6 @@
 use Rattle.std.proofs.Common.{rules, sym, ap, ◌∙◌, subst, ◌≡◌}
-use Rattle.std.specs.Prelude.{Some, slice_get, Ok}
+use Rattle.std.specs.Prelude.{Some, slice_get}
 use Rattle.std.proofs.lemmas.Option.{slice_get_within}
-use Rattle.element_tree.specs.Types.{is_section}
-use Rattle.open_elements.proofs.EnterLaws.{no_lock_at}
 use Rattle.jm_base.specs.Run.{over}
 use Rattle.element_tree.specs.declared.kinds.Element.{Element}
 use Rattle.element_tree.specs.declared.kinds.Kind.TheVariants as kinds
@@ -30,10 +28,10 @@ returns-in-Script g c = record {
     fits = λ e there.
         let k = kinds.Script c.in-Script.replies c.in-Script.request in
         subst IsSamplerKind (sym (kind_is c.args.plan.now.elements c.args.child c.in-Some.element.now e k c.in-Some.ensures there c.in-Script.is)) tt;
+    lock = λ e there. tt;
     stands = stands_same c.args.state.now;
     places = tt;
   };
-  lock = λ e there. tt;
 }
 
 pub returns-in-Http : goal.returns-in-Http
@@ -46,65 +44,38 @@ returns-in-Http g c =
             goes_as _ _ _ (sampler_means (here_with c.args.plan.now failure) below c.args.child e e.kind k round (state_of c.args.state.now (at_places own c.args.places.now))
             (kind_is c.args.plan.now.elements c.args.child c.in-Some.element.now e k c.in-Some.ensures there h.is) tt);
         fits = λ e there. subst IsSamplerKind (sym (kind_is c.args.plan.now.elements c.args.child c.in-Some.element.now e k c.in-Some.ensures there h.is)) tt;
+        lock = λ e there. tt;
         stands = stands_same c.args.state.now;
         places = tt;
       };
-      lock = λ e there. tt;
     }
 
 pub returns-in-Simple : goal.returns-in-Simple
-returns-in-Simple g c = record {
-  has_entered = c.enter_as.ensures c.args.places.now;
-  lock = no_lock_at c.args.plan.now c.args.child c.in-Some.element.now c.enter_as.result c.in-Some.ensures (ap is_section c.in-Simple.is) (c.enter_as.ensures c.args.places.now).fits;
-}
+returns-in-Simple g c = record { has_entered = c.enter_as.ensures c.args.places.now }
 
 pub returns-in-OnceOnly : goal.returns-in-OnceOnly
-returns-in-OnceOnly g c = record {
-  has_entered = c.enter_as-in-OnceOnly.ensures c.args.places.now;
-  lock = no_lock_at c.args.plan.now c.args.child c.in-Some.element.now c.enter_as-in-OnceOnly.result c.in-Some.ensures (ap is_section c.in-OnceOnly.is) (c.enter_as-in-OnceOnly.ensures c.args.places.now).fits;
-}
+returns-in-OnceOnly g c = record { has_entered = c.enter_as-in-OnceOnly.ensures c.args.places.now }
 
 pub returns-in-Loop : goal.returns-in-Loop
-returns-in-Loop g c = record {
-  has_entered = c.enter_as-in-Loop.ensures c.args.places.now;
-  lock = no_lock_at c.args.plan.now c.args.child c.in-Some.element.now c.enter_as-in-Loop.result c.in-Some.ensures (ap is_section c.in-Loop.is) (c.enter_as-in-Loop.ensures c.args.places.now).fits;
-}
+returns-in-Loop g c = record { has_entered = c.enter_as-in-Loop.ensures c.args.places.now }
 
 pub returns-in-If : goal.returns-in-If
-returns-in-If g c = record {
-  has_entered = c.enter_as-in-If.ensures c.args.places.now;
-  lock = no_lock_at c.args.plan.now c.args.child c.in-Some.element.now c.enter_as-in-If.result c.in-Some.ensures (ap is_section c.in-If.is) (c.enter_as-in-If.ensures c.args.places.now).fits;
-}
+returns-in-If g c = record { has_entered = c.enter_as-in-If.ensures c.args.places.now }
 
 pub returns-in-While : goal.returns-in-While
-returns-in-While g c = record {
-  has_entered = c.enter_as-in-While.ensures c.args.places.now;
-  lock = no_lock_at c.args.plan.now c.args.child c.in-Some.element.now c.enter_as-in-While.result c.in-Some.ensures (ap is_section c.in-While.is) (c.enter_as-in-While.ensures c.args.places.now).fits;
-}
+returns-in-While g c = record { has_entered = c.enter_as-in-While.ensures c.args.places.now }
 
 pub returns-in-ForEach : goal.returns-in-ForEach
-returns-in-ForEach g c = record {
-  has_entered = c.enter_as-in-ForEach.ensures c.args.places.now;
-  lock = no_lock_at c.args.plan.now c.args.child c.in-Some.element.now c.enter_as-in-ForEach.result c.in-Some.ensures (ap is_section c.in-ForEach.is) (c.enter_as-in-ForEach.ensures c.args.places.now).fits;
-}
+returns-in-ForEach g c = record { has_entered = c.enter_as-in-ForEach.ensures c.args.places.now }
 
 pub returns-in-Random : goal.returns-in-Random
-returns-in-Random g c = record {
-  has_entered = c.enter_as-in-Random.ensures c.args.places.now;
-  lock = no_lock_at c.args.plan.now c.args.child c.in-Some.element.now c.enter_as-in-Random.result c.in-Some.ensures (ap is_section c.in-Random.is) (c.enter_as-in-Random.ensures c.args.places.now).fits;
-}
+returns-in-Random g c = record { has_entered = c.enter_as-in-Random.ensures c.args.places.now }
 
 pub returns-in-RandomOrder : goal.returns-in-RandomOrder
-returns-in-RandomOrder g c = record {
-  has_entered = c.enter_as-in-RandomOrder.ensures c.args.places.now;
-  lock = no_lock_at c.args.plan.now c.args.child c.in-Some.element.now c.enter_as-in-RandomOrder.result c.in-Some.ensures (ap is_section c.in-RandomOrder.is) (c.enter_as-in-RandomOrder.ensures c.args.places.now).fits;
-}
+returns-in-RandomOrder g c = record { has_entered = c.enter_as-in-RandomOrder.ensures c.args.places.now }
 
 pub returns-in-Switch : goal.returns-in-Switch
-returns-in-Switch g c = record {
-  has_entered = c.enter_as-in-Switch.ensures c.args.places.now;
-  lock = no_lock_at c.args.plan.now c.args.child c.in-Some.element.now c.enter_as-in-Switch.result c.in-Some.ensures (ap is_section c.in-Switch.is) (c.enter_as-in-Switch.ensures c.args.places.now).fits;
-}
+returns-in-Switch g c = record { has_entered = c.enter_as-in-Switch.ensures c.args.places.now }
 
 pub returns-in-Transaction : goal.returns-in-Transaction
 returns-in-Transaction g c =
@@ -116,10 +87,10 @@ returns-in-Transaction g c =
             goes_as _ _ _ (ap (λ x. kind_meaning (here_with c.args.plan.now failure) below c.args.child e x round (state_of c.args.state.now (at_places own c.args.places.now))) (kind e there)
             ∙ c.enter_transaction.ensures.came c.args.plan.now e failure below round (state_of c.args.state.now (at_places own c.args.places.now)) (record { there = there; of_kind = kind e there }) (c.requires.counted e there));
         fits = λ e there. c.enter_transaction.ensures.fits c.args.plan.now.elements e (record { there = there; of_kind = kind e there }) (c.requires.counted e there);
+        lock = λ e there. c.enter_transaction.ensures.lock c.args.plan.now.elements e.kind;
         stands = stands_same c.args.state.now;
         places = tt;
       };
-      lock = no_lock_at c.args.plan.now c.args.child c.in-Some.element.now (Ok c.enter_transaction.result) c.in-Some.ensures (ap is_section c.in-Transaction.is) (λ e there. c.enter_transaction.ensures.fits c.args.plan.now.elements e (record { there = there; of_kind = kind e there }) (c.requires.counted e there));
     }
 
 pub returns-in_default-kind : goal.returns-in_default-kind
@@ -133,10 +104,10 @@ returns-in_default-kind g c =
             (other_kind (here_with c.args.plan.now failure) below c.args.child e c.in-Some.element.now.kind round (state_of c.args.state.now (at_places own c.args.places.now))
             d.not-Script d.not-Http d.not-Simple d.not-OnceOnly d.not-Loop d.not-If d.not-While d.not-ForEach d.not-Interleave d.not-Random d.not-RandomOrder d.not-Switch d.not-Transaction d.not-CriticalSection));
         fits = λ e there. tt;
+        lock = λ e there. tt;
         stands = stands_same c.args.state.now;
         places = tt;
       };
-      lock = λ e there. tt;
     }
 
 pub enter_as-requires : goal.enter_as-requires
@@ -167,10 +138,7 @@ pub enter_interleave-requires : goal.enter_interleave-requires
 enter_interleave-requires g c = record { there = (c.in-Some.element.now, record { there = sym c.in-Some.ensures; of_kind = c.in-Interleave.is }); counted = c.requires.counted }
 
 pub returns-in-Interleave : goal.returns-in-Interleave
-returns-in-Interleave g c = record {
-  has_entered = c.enter_interleave.ensures;
-  lock = no_lock_at c.args.plan.now c.args.child c.in-Some.element.now c.enter_interleave.result c.in-Some.ensures (ap is_section c.in-Interleave.is) c.enter_interleave.ensures.fits;
-}
+returns-in-Interleave g c = record { has_entered = c.enter_interleave.ensures }
 
 pub enter_section-requires : goal.enter_section-requires
 enter_section-requires g c = record {
@@ -187,16 +155,19 @@ returns-in-CriticalSection g c =
         came = λ e failure below round own there.
             goes_as _ _ _ (c.enter_section.ensures.came e c.in-CriticalSection.lock failure below round (state_of c.args.state.now (at_places own c.args.places.now)) (record { there = there; of_kind = kind e there }));
         fits = λ e there. c.enter_section.ensures.fits e c.in-CriticalSection.lock (record { there = there; of_kind = kind e there });
+        lock = λ e there. c.enter_section.ensures.lock e c.in-CriticalSection.lock (record { there = there; of_kind = kind e there });
         stands = stands_same c.args.state.now;
         places = tt;
       };
-      lock = λ e there. c.enter_section.ensures.lock e c.in-CriticalSection.lock (record { there = there; of_kind = kind e there });
     }
 
-pub returns-in_default-clause-has_entered : goal.returns-in_default-clause-has_entered
-returns-in_default-clause-has_entered g c = record {
-  came = search rules;
-  fits = λ e there. tt;
-  stands = stands_same c.args.state.now;
-  places = tt;
+pub returns-in_default : goal.returns-in_default
+returns-in_default g c = record {
+  has_entered = record {
+    came = search rules;
+    fits = λ e there. tt;
+    lock = λ e there. tt;
+    stands = stands_same c.args.state.now;
+    places = tt;
+  };
 }

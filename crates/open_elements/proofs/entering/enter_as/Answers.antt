@@ -3,6 +3,7 @@ use Rattle.std.specs.Prelude.{Ok, Err, Some, slice_get}
 use Rattle.element_tree.specs.declared.kinds.Element.{Element}
 use Rattle.jm_meaning.specs.State.{state_of, at_places}
 use Rattle.open_elements.specs.declared.entering.Entered.TheVariants.{Open}
+use Rattle.open_elements.specs.Closing.{KeepsLock}
 use Rattle.open_elements.specs.Entering.{here_with, entered}
 use Rattle.open_elements.proofs.CursorCalls.{came-begun, same_element}
 use Rattle.open_elements.proofs.entering.enter_as.Goals as goal
@@ -35,6 +36,7 @@ returns-in-Ok g c = λ places.
             c.laws.ensures.fits c.args.child c.args.plan.now.elements e c.enter_among.new.self (c.in-Ok.ensures.same ∙ is) (serves e there) (c.in-Ok.ensures.stands e (at e there)),
             c.laws.ensures.begun c.enter_among.new.self ∙ c.in-Ok.ensures.before,
           );
+      lock = λ e there. rw c.open.ensures (subst (λ s. KeepsLock c.args.plan.now.elements e.kind s) (sym (c.laws.ensures.shut c.enter_among.new.self)) tt);
       stands = record { vars = c.in-Ok.ensures.vars; fns = c.in-Ok.ensures.later };
       places = tt;
     }
@@ -51,6 +53,7 @@ returns-in-Err g c = λ places.
           (c.means.ensures c.args.plan.now failure below c.args.child e round c.new-cursor.result (state_of c.args.state.now (at_places own places)) (subst (λ n. slice_get c.args.plan.now.elements n ≡ Some e) (sym is) there) serves)
           c.in-Err.ensures.came;
       fits = tt;
+      lock = tt;
       stands = record { vars = c.in-Err.ensures.vars; fns = c.in-Err.ensures.later };
       places = refl;
     }

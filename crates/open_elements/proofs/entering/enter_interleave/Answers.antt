@@ -30,6 +30,7 @@ returns-in-Ok g c =
           (sym (count-is c.args.plan.now.elements e)) c.of.ensures (c.in-Ok.ensures.entered e there).0 c.set.ensures))
           c.in-Ok.ensures.came);
       fits = λ e there. interleave_fits c.args.plan.now.elements c.args.child r.0 e there c.enter_among.new.self r.1 c.in-Ok.ensures.same (c.in-Ok.ensures.entered e there).1;
+      lock = λ e there. tt;
       stands = record { vars = c.in-Ok.ensures.vars; fns = c.in-Ok.ensures.later };
       places = tt;
     }

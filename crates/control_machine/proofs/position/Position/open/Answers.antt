@@ -72,7 +72,7 @@ returns-in-Ok-clause-goes g c =
     let within = within_30 c.args.self.now.stack.frames c.requires.stands.falls in
     pushed_turn c.args.plan.now c.args.self.now (record c.args.self.now { places = c.enter.new.places; stack = c.push.new.self }) _ (Ok c.opening_move-went.result) (c.opening_move-went.ensures, c.in-Ok.ensures.ok)
     (record { group = refl; rounds = refl; failure = refl; signal = refl; links = refl })
-    (record { element = n.element; there = n.there; fits = f.0; below = n.below; depth = omega (arith, c.requires.depth, within); bound = omega (arith, f.1, c.requires.stands.group.bound); lock = rw c.in-Ok-Open.field-0-is at (c.in-Ok-Open.ensures.lock n.element n.there) })
+    (record { element = n.element; there = n.there; fits = f.0; below = n.below; depth = omega (arith, c.requires.depth, within); bound = omega (arith, f.1, c.requires.stands.group.bound); lock = rw c.in-Ok-Open.field-0-is at (c.in-Ok-Open.ensures.has_entered.lock n.element n.there) })
     (opened_apart c.args.plan.now.elements c.args.self.now.stack.frames c.args.child c.args.round c.args.depth c.in-Ok-Open.cursor a.element a.there (rw c.in-Ok-Open.field-0-is at (c.in-Ok-Open.ensures.has_entered.fits a.element a.there)).0 a.free a.below) (omega (arith, n.some, c.requires.depth)) c.requires.stands
 
 pub returns-in-Ok-clause-load : goal.returns-in-Ok-clause-load
