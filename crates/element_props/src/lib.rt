@@ -32,4 +32,5 @@ pub use prop::{Pair, Prop, Word};
 pub use props::own_properties;
 pub use regex_patterns::RegexPatterns;
 pub use rows::{Form, Presence, Row, Words, text_at};
+pub use tables::table_rows;
 pub use written::{NamedShown, Shown, written_members};

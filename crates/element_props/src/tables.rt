@@ -9,7 +9,7 @@ use csv::{ByteRecord, Error, ErrorKind, ReaderBuilder};
 use jm_base::{M, NoMemory};
 use std::alloc::Global;
 
-/// What stops a reader of rows over a text: out of memory. A text gives no error of its own, though `csv` leaves that open.
+// What stops a reader of rows over a text: out of memory. A text gives no error of its own, though `csv` leaves that open.
 fn no_memory(error: Error) -> NoMemory
     requires { stops_reader (error_kind error) ≡ true }
 {
@@ -20,8 +20,8 @@ fn no_memory(error: Error) -> NoMemory
     }
 }
 
-/// The rows of a text, of any lengths.
-fn rows(alloc: Global, text: &[u8]) -> M<Vec<ByteRecord>>
+/// The rows of a text of comma-separated values (RFC 4180), of any lengths, without a header. The only error is out of memory.
+pub fn table_rows(alloc: Global, text: &[u8]) -> M<Vec<ByteRecord>>
     ensures { IfOk result (λ v. map fields_of v.items ≡ rows_of text.now) }
 {
     let reader = ReaderBuilder::new()
@@ -38,7 +38,7 @@ fn rows(alloc: Global, text: &[u8]) -> M<Vec<ByteRecord>>
     Ok(rows)
 }
 
-/// Whether there is a row, and each row has that many fields.
+// Whether there is a row, and each row has that many fields.
 fn fits(rows: &[ByteRecord], width: usize) -> bool
     ensures { result ≡ is_table width (map fields_of rows.now) }
 {
@@ -49,6 +49,6 @@ fn fits(rows: &[ByteRecord], width: usize) -> bool
 pub fn is_table(alloc: Global, text: &[u8], width: usize) -> M<bool>
     ensures { IfOk result (λ b. b ≡ is_table width (rows_of text.now)) }
 {
-    let rows = rows(alloc, text)?;
+    let rows = table_rows(alloc, text)?;
     Ok(fits(&rows, width))
 }

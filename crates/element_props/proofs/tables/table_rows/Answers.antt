@@ -1,4 +1,4 @@
-use Rattle.std.proofs.Common.{Bor, List, ℕ, ◌∙◌, ◌+◌, arith, length, sym, refl, inl, inr, map, Some, ◌∷◌, []}
+use Rattle.std.proofs.Common.{Bor, List, ℕ, ◌≡◌, ◌∙◌, ◌+◌, arith, length, sym, refl, inl, inr, map, Some, ◌∷◌, []}
 use Rattle.std.proofs.lemmas.List.{map-append}
 use Rattle.csv.specs.Reading.{AreRecords, Reached, default_config, strip_bom}
 use Rattle.csv.specs.Records.{fields_of}
@@ -6,7 +6,7 @@ use Rattle.csv.specs.declared.parser.State.TheVariants as st
 use Rattle.csv.proofs.ReadFacts.{rows-end, rows-more}
 use Rattle.element_props.proofs.CsvLaws.{stops}
 use Rattle.element_props.proofs.Unique.{records_are}
-use Rattle.config_elements.proofs.rows.Rows.read.Goals as goal
+use Rattle.element_props.proofs.tables.table_rows.Goals as goal
 
 pub loop-row-init : goal.loop-row-init
 unfolding Reached
@@ -17,7 +17,7 @@ loop-row-init c =
     let start = c.into_iter-row-iterator.ensures.into_iter_gives ∙ refl in
     let rdr = c.into_byte_records-row-items.ensures.rdr in
     let left = c.into_byte_records-row-items.ensures.left in
-    rw (start, rdr, c.new-records.ensures.items) (
+    rw (start, rdr, c.new-rows.ensures.items) (
       rw (f, e) at fr.trim ∙ c.new.ensures.trim,
       inr (inr (rw (f, e) at fr.has_headers, fr.headers)),
       left,
@@ -34,8 +34,8 @@ loop-row-preserved c =
     let steps = c.next.ensures.steps inv.2 inv.0 in
     let s = rw (c.in-Some.is, c.in-Ok.is) at (steps.0 inv.1) in
     let flexible = rw (c.in-Some.is, c.in-Ok.is) at steps.3 in
-    let m = rows-more (λ (s : Bor (List ℕ)). Some s.now) c.loop-row.row-iterator.rdr c.next.new.self.rdr (fields_of c.in-Ok.row) default_config st.StartRecord (strip_bom c.args.text.now) inv.4 (map fields_of c.loop-row.records.items) inv.3 inv.5 inv.6 s.0 in
-    (s.0.3 ∙ inv.0, inl s.1, s.2, s.0.2 ∙ inv.3, m.0, m.1, rw (c.in_ok-push-in-Ok.ensures.items, map-append fields_of c.loop-row.records.items (c.in-Ok.row ∷ [])) m.2, flexible ∙ inv.7)
+    let m = rows-more (λ (s : Bor (List ℕ)). Some s.now) c.loop-row.row-iterator.rdr c.next.new.self.rdr (fields_of c.in-Ok.row) default_config st.StartRecord (strip_bom c.args.text.now) inv.4 (map fields_of c.loop-row.rows.items) inv.3 inv.5 inv.6 s.0 in
+    (s.0.3 ∙ inv.0, inl s.1, s.2, s.0.2 ∙ inv.3, m.0, m.1, rw (c.in_ok-push-in-Ok.ensures.items, map-append fields_of c.loop-row.rows.items (c.in-Ok.row ∷ [])) m.2, flexible ∙ inv.7)
 
 pub no_memory-requires : goal.no_memory-requires
 no_memory-requires c =
@@ -47,6 +47,6 @@ pub returns : goal.returns
 returns c =
     let inv = c.loop-row.invariant in
     let s = rw c.in-None.is at ((c.next.ensures.steps inv.2 inv.0).0 inv.1) in
-    let all : AreRecords default_config st.StartRecord (strip_bom c.args.text.now) (map fields_of c.loop-row.records.items) =
+    let all : AreRecords default_config st.StartRecord (strip_bom c.args.text.now) (map fields_of c.loop-row.rows.items) =
     (c.loop-row.row-iterator.rdr.state, inv.4, inv.6, rows-end (λ (s : Bor (List ℕ)). Some s.now) c.loop-row.row-iterator.rdr c.next.new.self.rdr [] default_config inv.4 inv.3 inv.5 s) in
     records_are (length (strip_bom c.args.text.now) + 1) st.StartRecord (strip_bom c.args.text.now) _ refl (omega arith) all
