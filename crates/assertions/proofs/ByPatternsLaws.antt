@@ -5,12 +5,13 @@ use Rattle.jm_base.specs.declared.errors.NoMemory.{NoMemory}
 use Rattle.std.specs.List.{list_any, list_all}
 use Rattle.element_props.specs.Forms.{around}
 use Rattle.element_props.specs.declared.choices.TestKind.TheVariants.{Contains, Matches, Equals, Substring}
+use Rattle.element_tree.specs.KeptPatterns.{KeepsPatterns}
 use Rattle.element_tree.specs.declared.kinds.Assertion.{Assertion}
 use Rattle.element_tree.specs.declared.kinds.Assertion.TheVariants.{Response, Duration, Size}
 use Rattle.reply_search.specs.Found.{is_found}
 use Rattle.reply_search.specs.Seen.{text_in, field_of}
 use Rattle.assertions.specs.Judging.{turned, together, meets, holds}
-use Rattle.assertions.specs.ByPatterns.{KeepsPatterns, holds_by_patterns}
+use Rattle.assertions.specs.ByPatterns.{holds_by_patterns}
 use Rattle.assertions.specs.declared.judging.Answer.{Answer}
 
 any_of_map : (test : List ℕ → Bool) (f : List ℕ → List ℕ) (xs : List (List ℕ)) → list_any test (map f xs) ≡ list_any (λ x. test (f x)) xs
@@ -33,9 +34,9 @@ wholes_hold either negate text patterns wholes kept =
 
 pub kept_holds : (assertion : Assertion) (answer : Answer) → KeepsPatterns assertion → holds assertion answer ≡ holds_by_patterns assertion answer
 kept_holds (Response field ignore_status negate either patterns regexes Contains whole_regexes) answer kept =
-    ap (together either (λ tried. turned negate (meets Contains (text_in (field_of field answer.reply)) tried))) kept
+    ap (together either (λ tried. turned negate (meets Contains (text_in (field_of field answer.reply)) tried))) kept.0
 kept_holds (Response field ignore_status negate either patterns regexes Matches whole_regexes) answer kept =
-    wholes_hold either negate (text_in (field_of field answer.reply)) patterns whole_regexes kept
+    wholes_hold either negate (text_in (field_of field answer.reply)) patterns whole_regexes kept.1
 kept_holds (Response field ignore_status negate either patterns regexes Equals whole_regexes) answer kept = refl
 kept_holds (Response field ignore_status negate either patterns regexes Substring whole_regexes) answer kept = refl
 kept_holds (Duration ms) answer kept = refl

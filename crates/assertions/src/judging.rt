@@ -2,7 +2,8 @@
 
 ghost use Rattle.std.specs.Prelude.{◌≡◌, IfOk, OnErr, IsTrue};
 ghost use Rattle.assertions.specs.Judging.{compares, holds, takes_memory};
-ghost use Rattle.assertions.specs.ByPatterns.{KeepsPatterns, holds_by_patterns};
+ghost use Rattle.element_tree.specs.KeptPatterns.{KeepsPatterns};
+ghost use Rattle.assertions.specs.ByPatterns.{holds_by_patterns};
 
 use crate::response::{found_together, inside_together, same_together};
 use element_tree::{Assertion, Comparison, TestKind};

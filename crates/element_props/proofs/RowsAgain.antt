@@ -185,12 +185,12 @@ list_both : (name : List ℕ) (o : Option Prop) (v : Option (List NamedValue)) (
 list_both name o v p qs e f = rw (e, f) refl
 
 -- the parts of a list that begins with this property
-record Parts (ms : Members) (row : Row) (rows : List Row) (r : NamedValue) (rs : List NamedValue) : Type 0 where
-  named_so : r ≡ (row.name holds r.value)
-  here : value_here ms row ≡ Some r.value
-  later : values ms rows ≡ Some rs
+pub record Parts (ms : Members) (row : Row) (rows : List Row) (r : NamedValue) (rs : List NamedValue) : Type 0 where
+  pub named_so : r ≡ (row.name holds r.value)
+  pub here : value_here ms row ≡ Some r.value
+  pub later : values ms rows ≡ Some rs
 
-parts : (ms : Members) (row : Row) (rows : List Row) (r : NamedValue) (rs : List NamedValue) → values ms (row ∷ rows) ≡ Some (r ∷ rs) → Parts ms row rows r rs
+pub parts : (ms : Members) (row : Row) (rows : List Row) (r : NamedValue) (rs : List NamedValue) → values ms (row ∷ rows) ≡ Some (r ∷ rs) → Parts ms row rows r rs
 parts ms row rows r rs h =
     let a = list_parts row.name (value_here ms row) (values ms rows) (r ∷ rs) h in
     let same : (row.name holds a.0) ≡ r = cc (a.4) in
@@ -290,11 +290,11 @@ count_of ms (Some d) p h =
     let w = where_some (nat_le 1 (items_len b.0) && nat_le (items_len b.0) 64) (all_of as_str b.0) a.0 b.2 in
     ap (option_map items_len) b.1 ∙ ap Some (count_all b.0 a.0 w.1) ∙ ap count_in a.2
 
-abbrev is_word : TestKind → Prop → Bool
+abbrev pub is_word : TestKind → Prop → Bool
 is_word kind (props.Word s) = bytes_eq s (test_word kind)
 is_word kind p = false
 
-word_of : (kind : TestKind) (ms : Members) (o : Option Data) (p : Prop) → value_from (choice (map test_word tests)) required ms o ≡ Some p → option_map_or (λ (s : List ℕ). bytes_eq s (test_word kind)) (option_and_then as_str o) false ≡ is_word kind p
+pub word_of : (kind : TestKind) (ms : Members) (o : Option Data) (p : Prop) → value_from (choice (map test_word tests)) required ms o ≡ Some p → option_map_or (λ (s : List ℕ). bytes_eq s (test_word kind)) (option_and_then as_str o) false ≡ is_word kind p
 word_of kind ms None p h = let e : props.Absent ≡ p = cc in ap (is_word kind) e
 word_of kind ms (Some d) p h =
     let words = map test_word tests in

@@ -30,9 +30,9 @@ use Rattle.element_tree.specs.Tree.{Tree}
 use Rattle.element_tree.specs.Walk.{Spot, placed, own, is_right, child_spot, at_place, elements, below, is_enabled, has_enabled, root_spot, known_version, version_of, props_of, tree_of, counted, walked, reading}
 use Rattle.element_tree.specs.PlanWritten.{data_of, items_of, written_props, plan_tree, written_tree}
 use Rattle.element_tree.proofs.OfJson.{IsJsonTree}
-use Rattle.element_tree.proofs.GrownLaws.{bind_ok, bind_again, over_ok, own_type}
-use Rattle.element_tree.proofs.StandLaws.{both, at_most, Placed, own_placed}
-use Rattle.element_tree.proofs.FormsLaws.{own_values}
+use Rattle.element_tree.proofs.Outcomes.{bind_ok, bind_again, over_ok, both, at_most}
+use Rattle.element_tree.proofs.OwnLaws.{own_values}
+use Rattle.element_tree.proofs.StandLaws.{Placed, own_placed}
 use Rattle.element_tree.proofs.TableLaws.{name_again, rows_same, rows_stand}
 use Rattle.element_tree.proofs.RebuiltLaws.{OwnAgain, spot, height, heights, elements_again}
 
@@ -95,7 +95,7 @@ own_same again above depth inside parent version w places places' n kind name en
     let s' = spot above depth inside parent places' version in
     let t = type_of made in
     let p = own_placed s n kind name enabled ms cs t made h in
-    let v = own_values s n kind name enabled ms cs made h in
+    let v = (own_values s n kind name enabled ms cs t made h).values in
     let props = again version t ms (values_of made) places places' json v.read in
     let P : List Row → Type 0 = λ rs. outcome (own_properties places' (written rs (values_of made)) (rows version t)) ≡ Ok (values_of made) in
     let read : outcome (own_properties places' (written_props w made) (rows version t)) ≡ Ok (values_of made) = subst P (rows_same version w t) props in
@@ -112,7 +112,7 @@ pub own_again : PropsAgain → OwnAgain
 own_again again above depth inside parent version w places places' n kind name enabled ms cs cs' t made json h none =
     let s = spot above depth inside parent places version in
     let s' = spot above depth inside parent places' version in
-    let same = own_type s n kind name enabled ms cs t made h in
+    let same = (own_values s n kind name enabled ms cs t made h).of_type in
     let P : ElementType → Type 0 = λ u. outcome (own s n kind name enabled ms cs) ≡ Ok (u, made) in
     let Q : ElementType → Type 0 = λ u. outcome (own s' n (type_name (type_of made)) name true (written_props w made) cs') ≡ Ok (u, made) in
     subst Q same (own_same again above depth inside parent version w places places' n kind name enabled ms cs cs' made json (subst P (sym same) h) none)

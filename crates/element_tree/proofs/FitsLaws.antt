@@ -1,5 +1,5 @@
 -- What was read of an element's properties fits the rows of its type.
-use Rattle.std.proofs.Common.{◌≡◌, ℕ, Bool, true, false, ◌&&◌, ◌||◌, List, [], ◌∷◌, length, Option, Some, None, Ok, refl, sym, ap, ◌∙◌, subst, true≢false, arith, cond, bytes_eq, nat_lt, ℤ, pos, negsuc, int_le, is_some, unwrap_or, option_map, option_and_then}
+use Rattle.std.proofs.Common.{◌≡◌, ℕ, Bool, true, false, ◌&&◌, ◌||◌, List, [], ◌∷◌, Option, Some, None, Ok, refl, sym, ap, ◌∙◌, subst, true≢false, arith, cond, bytes_eq, ℤ, pos, negsuc, int_le, is_some, unwrap_or, option_map, option_and_then}
 use Rattle.std.specs.List.{list_any}
 use Rattle.std.specs.Result.{is_ok}
 use Rattle.std.proofs.lemmas.Bool.Decides.{nat_tests}
@@ -19,8 +19,7 @@ use Rattle.element_props.specs.ChoiceTexts.{word_in}
 use Rattle.element_props.specs.Conditions.{bad_condition}
 use Rattle.element_props.specs.Props.{prop_at, absent_value, property, property_of, properties, own_properties, missing, unknown, is_required, no_name}
 use Rattle.element_tree.specs.Fits.{FitsForm, FitsRow, FitsAll, IsShort, IsFilled}
-use Rattle.element_tree.proofs.GrownLaws.{bind_ok, over_ok, or_ok}
-use Rattle.element_tree.proofs.StandLaws.{refuse_ok, both}
+use Rattle.element_tree.proofs.Outcomes.{bind_ok, over_ok, or_ok, refuse_ok, both}
 
 -- ---- options
 

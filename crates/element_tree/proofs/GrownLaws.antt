@@ -1,36 +1,15 @@
 -- What was read of a tree is a tree of elements.
-use Rattle.std.proofs.Common.{◌≡◌, ℕ, suc, ◌+◌, Bool, true, false, ◌||◌, List, [], ◌∷◌, ◌++◌, length, Option, Some, None, Ok, refl, sym, ap, ap₂, ◌∙◌, subst, true≢false, length-append}
+use Rattle.std.proofs.Common.{◌≡◌, ℕ, suc, ◌+◌, Bool, true, false, ◌||◌, List, [], ◌∷◌, ◌++◌, length, Ok, refl, sym, ap, ap₂, ◌∙◌, subst, true≢false, length-append}
 use Rattle.serde_json.specs.Data.{Members}
 use Rattle.plan_json.specs.Shape.{Raw, raw, Raws, no_raws, raw_then}
-use Rattle.element_props.specs.declared.error.BuildError.{BuildError}
-use Rattle.element_props.specs.Props.{own_properties}
-use Rattle.element_props.specs.Reads.{Reads, over, refuse, ask, ◌>>=◌, or_refuse, outcome}
+use Rattle.element_props.specs.Reads.{over, outcome}
 use Rattle.element_tree.specs.declared.kinds.Kind.{Kind}
 use Rattle.element_tree.specs.declared.kinds.Element.{Element}
 use Rattle.element_tree.specs.declared.types.ElementType.{ElementType}
-use Rattle.element_tree.specs.Types.{type_of}
-use Rattle.element_tree.specs.Table.{rows}
-use Rattle.element_tree.specs.Kinds.{kind_of}
-use Rattle.element_tree.specs.Walk.{Spot, placed, own, child_spot, at_place, node, elements, below, is_enabled, has_enabled}
-use Rattle.element_tree.proofs.KindLaws.{kind_type}
+use Rattle.element_tree.specs.Walk.{Spot, own, child_spot, at_place, node, elements, below, is_enabled, has_enabled}
+use Rattle.element_tree.proofs.Outcomes.{bind_ok, over_ok}
+use Rattle.element_tree.proofs.OwnLaws.{own_values}
 use Rattle.element_tree.proofs.Grown.{Grown, grown, Growns, none_grown, then_grown, size, sizes, numbers, flat, flats, stand_of, WereRead, AllRead}
-
-pub bind_ok : {A B : Type 0} (r : Reads A) (f : A → Reads B) (y : B) → outcome (r >>= f) ≡ Ok y → (x : A) × (outcome r ≡ Ok x) × (outcome (f x) ≡ Ok y)
-bind_ok (over x) f y h = (x, refl, h)
-bind_ok (refuse e) f y h = cc
-bind_ok (ask p t r) f y h = bind_ok r f y h
-
-pub bind_again : {A B : Type 0} (r : Reads A) (f : A → Reads B) (x : A) (y : B) → outcome r ≡ Ok x → outcome (f x) ≡ Ok y → outcome (r >>= f) ≡ Ok y
-bind_again (over z) f x y h k = let e : z ≡ x = cc in rw e k
-bind_again (refuse e) f x y h k = cc
-bind_again (ask p t r) f x y h k = bind_again r f x y h k
-
-pub over_ok : {A : Type 0} (x y : A) → outcome (over x) ≡ Ok y → x ≡ y
-over_ok x y h = cc
-
-pub or_ok : {A : Type 0} (o : Option A) (e : BuildError) (x : A) → outcome (or_refuse o e) ≡ Ok x → o ≡ Some x
-or_ok None e x h = cc
-or_ok (Some y) e x h = cc
 
 -- ---- how many
 
@@ -41,19 +20,6 @@ mutual
   pub flats_size : (parent n : ℕ) (gs : Growns) → length (flats parent n gs) ≡ sizes gs
   flats_size parent n none_grown = refl
   flats_size parent n (then_grown g gs) = length-append (flat parent n g) _ ∙ ap₂ (λ (a b : ℕ). a + b) (flat_size parent n g) (flats_size parent (n + size g) gs)
-
--- ---- an element's own kind is of its type
-
-pub own_type : (s : Spot) (n : ℕ) (kind name : List ℕ) (enabled : Bool) (ms : Members) (cs : Raws) (t : ElementType) (made : Kind)
-    → outcome (own s n kind name enabled ms cs) ≡ Ok (t, made) → type_of made ≡ t
-unfolding own
-own_type s n kind name enabled ms cs t made h =
-    let a = bind_ok (placed s n kind name enabled cs) _ (t, made) h in
-    let b = bind_ok (own_properties s.places ms (rows s.version a.0)) _ (t, made) a.2 in
-    let c = bind_ok (or_refuse (kind_of a.0 b.0) _) _ (t, made) b.2 in
-    let is = over_ok (a.0, c.0) (t, made) c.2 in
-    let e = kind_type a.0 b.0 c.0 (or_ok (kind_of a.0 b.0) _ c.0 c.1) in
-    ap type_of (sym (ap (λ (o : ElementType × Kind). o.1) is)) ∙ e ∙ ap (λ (o : ElementType × Kind). o.0) is
 
 -- ---- the tree
 
@@ -119,7 +85,7 @@ with_own : (s : Spot) (n : ℕ) (kind name : List ℕ) (enabled : Bool) (ms : Me
     → outcome (own s n kind name enabled ms cs) ≡ Ok (t, made) → (has_enabled cs ≡ false → b.0 ≡ []) → Children (child_spot s t n) (n + 1) b → outcome (over (node name made s.parent b.0 ∷ b.1)) ≡ Ok xs → Tree s n xs
 unfolding WereRead
 with_own s n kind name enabled ms cs t made b xs h none children all =
-    let same = own_type s n kind name enabled ms cs t made h in
+    let same = (own_values s n kind name enabled ms cs t made h).of_type in
     let P : ElementType → Type 0 = λ u. outcome (own s n kind name enabled ms cs) ≡ Ok (u, made) in
     let Q : ElementType → Type 0 = λ u. AllRead (stand_of (child_spot s u n)) children.growns in
     record {

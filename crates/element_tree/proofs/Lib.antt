@@ -1,6 +1,6 @@
 pub mod NameLaws
 pub mod ThreadLaws
-pub mod KindLaws
+pub mod Outcomes
 pub mod Grown
 pub mod GrownLaws
 pub mod StandLaws
@@ -12,6 +12,8 @@ pub mod BuildLaws
 pub mod FitsLaws
 pub mod MadeLaws
 pub mod TableLaws
+pub mod OwnLaws
+pub mod PatternLaws
 pub mod FormsLaws
 pub mod OfJson
 pub mod JsonTexts

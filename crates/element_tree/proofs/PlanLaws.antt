@@ -1,10 +1,10 @@
 -- What holds of every plan that was read.
-use Rattle.std.proofs.Common.{◌≡◌, ℕ, zero, suc, ◌+◌, ◌-◌, ◌<◌, ◌≤◌, Bool, true, false, not, ◌&&◌, ◌||◌, List, [], ◌∷◌, ◌++◌, length, Option, Some, None, Result, Ok, Err, refl, sym, ap, ap₂, ◌∙◌, subst, true≢false, arith, append_assoc, length-append, cond, nat_lt, nat_le, slice_get, IsTrue, is_some}
+use Rattle.std.proofs.Common.{◌≡◌, ℕ, zero, suc, ◌+◌, ◌-◌, ◌<◌, ◌≤◌, Bool, true, false, not, ◌||◌, List, [], ◌∷◌, ◌++◌, length, Option, Some, None, Ok, refl, sym, ap, ◌∙◌, subst, true≢false, arith, append_assoc, length-append, nat_lt, slice_get, IsTrue, is_some}
 use Rattle.std.specs.List.{AllByRecursion, list_any}
 use Rattle.std.proofs.lemmas.List.{append-nil}
 use Rattle.std.proofs.lemmas.Bool.Decides.{nat_tests}
 use Rattle.plan_json.specs.Shape.{Raw}
-use Rattle.element_props.specs.Reads.{Reads, over, ◌>>=◌, refuse_if, outcome}
+use Rattle.element_props.specs.Reads.{over, refuse_if, outcome}
 use Rattle.element_tree.specs.declared.kinds.Kind.{Kind}
 use Rattle.element_tree.specs.declared.kinds.Kind.TheVariants as kinds
 use Rattle.element_tree.specs.declared.kinds.Element.{Element}
@@ -13,16 +13,16 @@ use Rattle.element_props.specs.declared.choices.OnError.{OnError}
 use Rattle.element_tree.specs.declared.types.Class.{Class}
 use Rattle.element_tree.specs.declared.types.Class.TheVariants as classes
 use Rattle.element_tree.specs.declared.threads.Thread.{Thread}
-use Rattle.element_tree.specs.Types.{type_of, class_of, may_stand, is_root, is_group, is_section}
+use Rattle.element_tree.specs.Types.{class_of, may_stand, is_root, is_section}
 use Rattle.element_tree.specs.Names.{labels_of, locks_of}
 use Rattle.element_tree.specs.Threads.{threads_in, threads_from, threads_with, group_threads, group_size, is_group_element}
-use Rattle.element_tree.specs.FormedPlan.{HasForms}
-use Rattle.element_tree.specs.Tree.{Tree, Nests, Apart, IsBelow, IsChild, Stands, IsRoot, IsGroup, IsPlan, AreTables, IsWellKept}
-use Rattle.element_tree.specs.Walk.{root_spot, version_of, props_of, version_in, version_in_kind, walked, counted, tree_of, node, IsWalked}
-use Rattle.element_tree.proofs.Grown.{Grown, grown, Growns, size, sizes, numbers, flat, flats, Stand, stand_of, stand_below, WereRead, AllRead}
-use Rattle.element_tree.proofs.GrownLaws.{bind_ok, tree_read, flat_size}
-use Rattle.element_tree.proofs.FormsLaws.{EachHasForms, forms_one, has_thread}
-use Rattle.element_tree.proofs.StandLaws.{Good, Here, IsAmong, Inner, good_one, stands_one, nests, apart, all_map, get_mid, same_some, top, top_there, not_false, refuse_ok, at_most}
+use Rattle.element_tree.specs.Tree.{Nests, Apart, IsBelow, IsChild, Stands, IsGroup, IsPlan, AreTables, IsWellKept}
+use Rattle.element_tree.specs.Walk.{root_spot, version_of, props_of, version_in, version_in_kind, walked, counted, tree_of, IsWalked}
+use Rattle.element_tree.proofs.Grown.{Grown, size, flat, Stand, stand_of, stand_below, WereRead}
+use Rattle.element_tree.proofs.Outcomes.{bind_ok, not_false, refuse_ok, at_most}
+use Rattle.element_tree.proofs.GrownLaws.{tree_read, flat_size}
+use Rattle.element_tree.proofs.FormsLaws.{IsFormed, AreFormed, formed_one, has_thread}
+use Rattle.element_tree.proofs.StandLaws.{Good, Inner, good_one, stands_one, nests, apart, all_map, get_mid, same_some}
 
 -- ---- the root
 
@@ -223,12 +223,13 @@ group_is es r n g =
       apart = parts.1;
     }
 
-each_has_forms : (es : List Element) → IsRead es → EachHasForms es
-each_has_forms es r = let P : List Element → Type 0 = λ xs. EachHasForms xs in subst P (sym r.flat_) (forms_one r.tree r.stand 0 0 r.read)
+are_formed : (es : List Element) → IsRead es → AreFormed es
+are_formed es r = let P : List Element → Type 0 = λ xs. AreFormed xs in subst P (sym r.flat_) (formed_one r.tree r.stand 0 0 r.read)
 
 pub plan_is : (es : List Element) → IsRead es → length es ≤ 4096 → length (labels_of es) ≤ 256 → length (locks_of es) ≤ 256 → 1 ≤ length (threads_in es) → length (threads_in es) ≤ 64 → IsPlan (tree_of es)
 plan_is es r few labels locks some_thread few_threads =
     let root = root_here es r in
+    let formed_at : (n : ℕ) (e : Element) → slice_get es n ≡ Some e → IsFormed e.kind = λ n e h. all_get (λ (x : Element). IsFormed x.kind) es n e (are_formed es r) h in
     record {
       count = few;
       labels = labels;
@@ -239,7 +240,8 @@ plan_is es r few labels locks some_thread few_threads =
       nests = nests_all es r;
       apart = apart_all es r;
       stands = stands es r;
-      forms = λ n e h. all_get (λ (x : Element). HasForms x.kind) es n e (each_has_forms es r) h;
+      forms = λ n e h. (formed_at n e h).forms;
+      patterns = λ n e h. (formed_at n e h).patterns;
       groups = λ thread t h. group_is es r t.element (thread_group es thread t h);
     }
 
@@ -270,7 +272,7 @@ counts es h =
 pub has_threads : (tree : Raw) (es : List Element) → outcome (walked tree) ≡ Ok es → list_any is_group_element es ≡ true → 1 ≤ length (threads_in es)
 unfolding threads_in
 has_threads tree es h some =
-    has_thread es 0 1 (each_has_forms es (is_read tree es h)) some
+    has_thread es 0 1 (are_formed es (is_read tree es h)) some
 
 pub well_kept : (es : List Element) (version : ℕ) (labels : List (List ℕ)) (label_numbers : List ℕ) (locks : List (List ℕ)) (lock_numbers : List ℕ) (threads : List Thread) → IsWalked es → length es ≤ 4096 → version ≡ version_in es
     → counted es ≡ over (tree_of es) → AreTables es labels label_numbers locks lock_numbers threads

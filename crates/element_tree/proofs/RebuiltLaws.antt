@@ -15,7 +15,8 @@ use Rattle.element_tree.specs.Table.{type_name}
 use Rattle.element_tree.specs.Walk.{Spot, own, child_spot, at_place, node, elements, below, is_enabled, has_enabled}
 use Rattle.element_tree.specs.PlanWritten.{written_props, trees, written_tree}
 use Rattle.element_tree.proofs.OfJson.{IsJsonTree, AreJsonTrees}
-use Rattle.element_tree.proofs.GrownLaws.{bind_ok, bind_again, over_ok, none_below}
+use Rattle.element_tree.proofs.Outcomes.{bind_ok, bind_again, over_ok}
+use Rattle.element_tree.proofs.GrownLaws.{none_below}
 use Rattle.element_tree.proofs.StandLaws.{get_middle}
 
 abbrev pub spot : Option Class → ℕ → Bool → ℕ → List ℕ → ℕ → Spot

@@ -1,10 +1,9 @@
 -- How the elements that were read stand to one another.
-use Rattle.std.proofs.Common.{◌≡◌, ℕ, zero, suc, ◌+◌, ◌<◌, ◌≤◌, Bool, true, false, not, ◌&&◌, List, [], ◌∷◌, ◌++◌, length, Option, Some, None, Ok, refl, sym, ap, ap₂, ◌∙◌, subst, true≢false, arith, append_assoc, length-append, nat_lt, nat_le, slice_get, IsTrue}
+use Rattle.std.proofs.Common.{◌≡◌, ℕ, zero, suc, ◌+◌, ◌<◌, ◌≤◌, Bool, true, false, not, ◌&&◌, List, [], ◌∷◌, ◌++◌, length, Option, Some, Ok, refl, sym, ap, ap₂, ◌∙◌, subst, true≢false, arith, append_assoc, length-append, nat_lt, nat_le, slice_get, IsTrue}
 use Rattle.std.specs.List.{AllByRecursion}
 use Rattle.std.proofs.lemmas.Bool.Decides.{nat_tests}
 use Rattle.serde_json.specs.Data.{Members}
 use Rattle.plan_json.specs.Shape.{Raws}
-use Rattle.element_props.specs.declared.error.BuildError.{BuildError}
 use Rattle.element_props.specs.Props.{own_properties}
 use Rattle.element_props.specs.Reads.{refuse_if, or_refuse, outcome}
 use Rattle.element_tree.specs.declared.kinds.Kind.{Kind}
@@ -16,25 +15,10 @@ use Rattle.element_tree.specs.Kinds.{kind_of}
 use Rattle.element_tree.specs.Tree.{Nests, Apart, IsBelow, IsChild}
 use Rattle.element_tree.specs.Walk.{Spot, placed, own, node, has_enabled, is_right}
 use Rattle.element_tree.proofs.Grown.{Grown, grown, Growns, none_grown, then_grown, size, sizes, numbers, flat, flats, Stand, spot_at, stand_below, WasRead, WereRead, AllRead}
-use Rattle.element_tree.proofs.GrownLaws.{bind_ok, over_ok, flat_size}
+use Rattle.element_tree.proofs.Outcomes.{bind_ok, over_ok, or_ok, refuse_ok, not_false, both, at_most}
+use Rattle.element_tree.proofs.GrownLaws.{flat_size}
 
 -- ---- one element
-
-pub refuse_ok : (test : Bool) (e : BuildError) (u : Unit {0}) → outcome (refuse_if test e) ≡ Ok u → test ≡ false
-refuse_ok true e u h = cc
-refuse_ok false e u h = refl
-
-named_ok : (o : Option ElementType) (e : BuildError) (t : ElementType) → outcome (or_refuse o e) ≡ Ok t → o ≡ Some t
-named_ok None e t h = cc
-named_ok (Some u) e t h = cc
-
-pub not_false : (b : Bool) → not b ≡ false → b ≡ true
-not_false true h = refl
-not_false false h = absurd (true≢false h)
-
-pub both : (a b : Bool) → (a && b) ≡ true → (a ≡ true) × (b ≡ true)
-both true b h = (refl, h)
-both false b h = absurd (true≢false (sym h))
 
 -- what the checks before the properties have found
 pub record Placed (s : Spot) (number : ℕ) (kind name : List ℕ) (enabled : Bool) (below : Raws) (t : ElementType) : Type 0 where
@@ -55,7 +39,7 @@ placed_ok s n kind name enabled cs t h =
     let P : ElementType → Type 0 = λ u. Placed s n kind name enabled cs u in
     subst P same (record {
       few = refuse_ok _ _ a.0 a.1;
-      named = named_ok _ _ b.0 b.1;
+      named = or_ok _ _ b.0 b.1;
       deep = refuse_ok _ _ c.0 c.1;
       right = not_false _ (refuse_ok _ _ d.0 d.1);
       short = refuse_ok _ _ e.0 e.1;
@@ -73,9 +57,6 @@ no_leaf : (a b : Bool) → not (a && b) ≡ true → a ≡ true → b ≡ false
 no_leaf true true h k = absurd (true≢false (sym h))
 no_leaf true false h k = refl
 no_leaf false b h k = absurd (true≢false (sym k))
-
-pub at_most : (m n : ℕ) → nat_lt m n ≡ false → n ≤ m
-at_most m n h = grind (arith, nat_tests)
 
 pub own_placed : (s : Spot) (n : ℕ) (kind name : List ℕ) (enabled : Bool) (ms : Members) (cs : Raws) (t : ElementType) (made : Kind)
     → outcome (own s n kind name enabled ms cs) ≡ Ok (t, made) → Placed s n kind name enabled cs t

@@ -1,5 +1,5 @@
 -- The kind that the properties of its type make, each taken by its name.
-use Rattle.std.specs.Prelude.{ℕ, ◌^◌, ℤ, pos, negsuc, Bool, List, [], ◌∷◌, Option, Some, None, if◌then◌else◌, nat_lt, codes}
+use Rattle.std.specs.Prelude.{ℕ, ◌^◌, ℤ, pos, negsuc, Bool, List, Option, Some, None, if◌then◌else◌, nat_lt, codes}
 use Rattle.template_text.specs.Pieces.{Pieces}
 use Rattle.jm_base.specs.declared.types.ScriptReply.{ScriptReply}
 use Rattle.element_props.specs.ChoiceTexts.{named, on_error_word, on_errors, field_word, fields, method_word, methods, at_end_word, at_ends, share_word, shares, test_word, tests, comparison_word, comparisons}

@@ -11,6 +11,7 @@ use Rattle.element_props.specs.declared.choices.OnError.{OnError}
 use Rattle.element_tree.specs.declared.threads.Thread.{Thread}
 use Rattle.element_tree.specs.Types.{class_of, may_stand, is_section}
 use Rattle.element_tree.specs.FormedPlan.{HasForms}
+use Rattle.element_tree.specs.KeptPatterns.{HasPatterns}
 use Rattle.element_tree.specs.Names.{labels_of, locks_of, label_of, lock_of, lock_name}
 use Rattle.element_tree.specs.Threads.{threads_in, thread_text}
 
@@ -120,6 +121,7 @@ pub record IsPlan (plan : Tree) : Type 0 where
   pub apart : Apart 32 false plan.elements 0
   pub stands : (n : ℕ) (e : Element) → slice_get plan.elements n ≡ Some e → Stands plan.elements n e
   pub forms : (n : ℕ) (e : Element) → slice_get plan.elements n ≡ Some e → HasForms e.kind
+  pub patterns : (n : ℕ) (e : Element) → slice_get plan.elements n ≡ Some e → HasPatterns e.kind
   pub groups : (thread : ℕ) (t : Thread) → slice_get (threads_of plan) thread ≡ Some t → IsGroup plan.elements t.element
 
 -- what is looked up beside elements: labels, locks and threads, and the number of each element's label and lock

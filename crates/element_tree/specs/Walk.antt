@@ -6,7 +6,7 @@ use Rattle.serde_json.specs.Find.{get_member, as_number, as_u64}
 use Rattle.plan_json.specs.Place.{at}
 use Rattle.plan_json.specs.Shape.{Raw, raw, Raws, no_raws, raw_then}
 use Rattle.element_props.specs.declared.error.BuildError.{BuildError}
-use Rattle.element_props.specs.declared.error.BuildError.TheVariants.{UnknownType, BadProp, MissingProp, TooMany, TooDeep, WrongPlace, NoMemory}
+use Rattle.element_props.specs.declared.error.BuildError.TheVariants.{UnknownType, BadProp, MissingProp, TooMany, TooDeep, WrongPlace}
 use Rattle.element_props.specs.declared.error.What.TheVariants as what
 use Rattle.element_props.specs.Answers.{IsByPlan}
 use Rattle.element_props.specs.Patterns.{Asked}

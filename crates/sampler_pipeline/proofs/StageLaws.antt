@@ -1,5 +1,5 @@
 -- The stages of a sampler, one after another.
-use Rattle.std.proofs.Common.{◌≡◌, ℕ, zero, suc, ◌≤◌, List, [], Option, Some, None, false, refl, sym, ap, arith, length}
+use Rattle.std.proofs.Common.{◌≡◌, ℕ, zero, suc, ◌≤◌, List, [], Option, Some, None, false, refl, sym, ap, subst, arith, length}
 use Rattle.std.specs.Prelude.{ℤ, pos, negsuc, Result, Err, slice_get, unwrap_or, nat_lt}
 use Rattle.std.specs.Option.{option_map}
 use Rattle.jm_base.specs.Run.{over, wait}
@@ -19,10 +19,12 @@ use Rattle.element_tree.specs.declared.kinds.Element.{Element}
 use Rattle.element_tree.specs.declared.kinds.Kind.{Kind}
 use Rattle.element_tree.specs.declared.kinds.Kind.TheVariants as kinds
 use Rattle.element_tree.specs.declared.kinds.JsonExtractor.{JsonExtractor}
+use Rattle.element_tree.specs.declared.kinds.Assertion.{Assertion}
 use Rattle.element_tree.specs.FormedPlan.{HasForms}
+use Rattle.element_tree.specs.KeptPatterns.{KeepsPatterns, HasPatterns}
 use Rattle.trials.specs.Tried.{giving, fine}
 use Rattle.element_tree.specs.Scope.{Scope}
-use Rattle.sampler_pipeline.specs.SamplerPipeline.{by_kind, pausing, prepares, requests, picking, extracts}
+use Rattle.sampler_pipeline.specs.SamplerPipeline.{by_kind, pausing, prepares, requests, picking, extracts, assertion_in}
 
 -- what is made of an element that is there, and of none
 pub kind-there : {A : Type 0} (nothing : A) (part : Kind → A) (elements : List Element) (n : ℕ) (e : Element) → Some e ≡ slice_get elements n → by_kind nothing part elements n ≡ part e.kind
@@ -42,6 +44,13 @@ short_path x forms = let short : nat_lt 65536 (length x.path) ≡ false = forms.
 
 pub not-paused : (a : Account) (ms : ℕ) (user : UserState) → ms ≡ 0 → Goes a (pausing ms user) [] (over (fine tt user)) a
 not-paused a ms user none = rw none (goes-nothing a _)
+
+-- an assertion of a plan keeps the regular expressions of its patterns
+pub patterns_kept : (kind : Kind) (assertion : Assertion) → HasPatterns kind → Some assertion ≡ assertion_in kind → KeepsPatterns assertion
+patterns_kept (kinds.ResponseAssertion kept) assertion has is = let same : kept ≡ assertion = cc in let P : Assertion → Type 0 = λ a. KeepsPatterns a in subst P same has
+patterns_kept (kinds.DurationAssertion kept) assertion has is = let same : kept ≡ assertion = cc in let P : Assertion → Type 0 = λ a. KeepsPatterns a in subst P same has
+patterns_kept (kinds.SizeAssertion kept) assertion has is = let same : kept ≡ assertion = cc in let P : Assertion → Type 0 = λ a. KeepsPatterns a in subst P same has
+patterns_kept kind assertion has is = cc
 
 -- elements that do nothing at a stage
 pub no-preparation : (k : Kind) → ((vars : List Pair) → k ≡ kinds.UserParameters vars → ⊥) → prepares k ≡ giving tt

@@ -1,6 +1,6 @@
 -- The sampler pipeline: what one sampler does, in the order of the manual's "Execution order".
 pub use Rattle.thread_vars.specs.Vars.{last_sample_ok, truth_text}
-use Rattle.std.specs.Prelude.{ℕ, zero, suc, ℤ, pos, min, Bool, true, false, List, [], ◌∷◌, ◌++◌, length, Option, Some, None, slice_get, unwrap_or, if◌then◌else◌, codes, ◌==◌}
+use Rattle.std.specs.Prelude.{ℕ, zero, suc, ℤ, pos, min, true, false, List, [], ◌∷◌, ◌++◌, length, Option, Some, None, slice_get, unwrap_or, if◌then◌else◌, codes, ◌==◌}
 use Rattle.std.specs.Option.{option_map}
 use Rattle.jm_base.specs.declared.types.Sample.{Sample}
 use Rattle.jm_base.specs.declared.types.Reply.{Reply}
@@ -20,7 +20,7 @@ use Rattle.trials.specs.Pairs.{changing, set_pairs}
 use Rattle.reply_search.specs.Seen.{field_of}
 use Rattle.extractors.specs.Matches.{extracted_regex, extracted_json, extracted_bounds}
 use Rattle.assertions.specs.declared.judging.Answer.{Answer}
-use Rattle.assertions.specs.Judging.{holds}
+use Rattle.assertions.specs.ByPatterns.{holds_by_patterns}
 use Rattle.config_elements.specs.TimerDelay.{delay, drawing}
 use Rattle.http_settings.specs.RequestSettings.{settings}
 use Rattle.http_settings.specs.Targets.{target_of, http_request}
@@ -101,8 +101,9 @@ failure_text name = codes "assertion " ++ (name ++ codes " failed")
 abbrev pub failed : List ℕ → Verdict → Verdict
 failed name v = record { ok = false; failure = if length v.failure == 0 then failure_text name else v.failure }
 
+-- what an assertion says of an answer by its patterns
 abbrev pub judged_by : List ℕ → Answer → Assertion → Verdict → Verdict
-judged_by name answer a v = if holds a answer then cleared a v else failed name (cleared a v)
+judged_by name answer a v = if holds_by_patterns a answer then cleared a v else failed name (cleared a v)
 
 abbrev pub judged_if : List ℕ → Answer → Option Assertion → Verdict → Verdict
 judged_if name answer None v = v

@@ -2,6 +2,7 @@
 
 ghost use Rattle.std.specs.Prelude.{◌≡◌, IfOk, slice_get};
 ghost use Rattle.std.specs.Option.{option_copied};
+ghost use Rattle.element_tree.specs.KeptPatterns.{KeepsPatterns};
 ghost use Rattle.sampler_pipeline.specs.Exchanges.{is_success};
 ghost use Rattle.sampler_pipeline.specs.SamplerPipeline.{assertion_in, cleared, failed, failure_text, judged_by, judged_at, judged, at_first};
 
@@ -75,6 +76,7 @@ fn judged_by<'p>(
     verdict: Verdict,
     searches: &mut Searches<'p>,
 ) -> M<Verdict>
+    requires patterns { KeepsPatterns assertion.now }
     ensures { IfOk result (λ v. v ≡ judged_by name.now answer.now assertion.now verdict) }
 {
     let holds = check_with(alloc, assertion, answer, searches)?;
@@ -96,6 +98,7 @@ fn judged_at<'p>(
 ) -> M<Verdict>
     ensures { IfOk result (λ v. v ≡ judged_at (slice_get plan.now.elements number) answer.now verdict) }
 {
+    let _elements = plan.elements();
     match plan.element(number) {
         Some(element) => match assertion_in(&element.kind) {
             Some(assertion) => judged_by(
