@@ -91,12 +91,8 @@ module _ (labels : ℕ) (rows : List Row) (es : List Entry) (is : IsSum labels r
 -- ---- from item to item
 
 no_entries : (item : TraceItem) → ((sample : Sample) (interval : ℕ) → item ≡ Sampled sample interval → ⊥) → entries_in (bare_item item) ≡ []
-no_entries (Paused ms) none = refl
 no_entries (Sampled sample interval) none = absurd (none sample interval refl)
-no_entries (Null sampler) none = refl
-no_entries (Entered lock place) none = refl
-no_entries (Left lock) none = refl
-no_entries (Ended end) none = refl
+no_entries item none = refl
 
 module _ (labels : ℕ) (rows : List Row) (trace : List TraceItem) (i : ℕ) (is : IsSum labels rows (traced (take i trace))) where
   -- the rows stay in bounds, since the trace has few samples

@@ -8,7 +8,7 @@ use Rattle.std.proofs.lemmas.List.Elements.{All-head, All-tail}
 use Rattle.edge_io.proofs.EdgeLaws.{Appends-nil}
 use Rattle.var_functions.specs.RunProps.{pairs_of}
 use Rattle.jm_base.specs.declared.types.End.{End}
-use Rattle.jm_base.specs.declared.types.End.TheVariants.{Completed, StopThread, StopTest, Stopped, SampleLimit, RoundLimit, ValueLimit, NoMemory}
+use Rattle.jm_base.specs.declared.types.End.TheVariants.{Stopped, NoMemory}
 use Rattle.jm_base.specs.Outside.{Account}
 use Rattle.element_tree.specs.Tree.{Tree}
 use Rattle.jm_meaning.specs.declared.item.Item.{Item}
@@ -43,14 +43,8 @@ bare_end trace prefix end is = ap (λ t. last_end (bare t)) is ∙ ap last_end (
 
 -- the items of a thread that was not cut are those of the plan's meaning
 whole_items : (plan : Tree) (s : Solo) (items : List Item) (end : End) → IsShown plan s items end → end_is_whole end ≡ true → items ≡ shown_of plan s
-whole_items plan s items Completed is h = is.meant
-whole_items plan s items StopThread is h = is.meant
-whole_items plan s items StopTest is h = is.meant
-whole_items plan s items Stopped is h = is.meant
-whole_items plan s items SampleLimit is h = is.meant
-whole_items plan s items RoundLimit is h = is.meant
-whole_items plan s items ValueLimit is h = is.meant
 whole_items plan s items NoMemory is h = absurd (cc)
+whole_items plan s items end is h = is.meant
 
 module _ (plan : Tree) (s : Solo) (start now : Account) (trace : List TraceItem) (scripted : start.value ≡ Some (scripts_of plan)) where
   whole : (end : End) → Follows start now plan s.thread (options_of s) trace end → bare trace ≡ shown_of plan s
@@ -70,14 +64,9 @@ module _ (plan : Tree) (s : Solo) (start now : Account) (trace : List TraceItem)
       }
 
   pub shown_by : (end : End) → HasRun start now plan s.thread (options_of s) trace end → IsShown plan s (bare trace) end
-  shown_by Completed f = record { last = bare_end trace f.last.0 Completed f.last.1; meant = whole Completed f }
-  shown_by StopThread f = record { last = bare_end trace f.last.0 StopThread f.last.1; meant = whole StopThread f }
-  shown_by StopTest f = record { last = bare_end trace f.last.0 StopTest f.last.1; meant = whole StopTest f }
   shown_by Stopped f = absurd f
-  shown_by SampleLimit f = record { last = bare_end trace f.last.0 SampleLimit f.last.1; meant = whole SampleLimit f }
-  shown_by RoundLimit f = record { last = bare_end trace f.last.0 RoundLimit f.last.1; meant = whole RoundLimit f }
-  shown_by ValueLimit f = record { last = bare_end trace f.last.0 ValueLimit f.last.1; meant = whole ValueLimit f }
   shown_by NoMemory f = record { last = bare_end trace f.last.0 NoMemory f.last.1; meant = cut_items f }
+  shown_by end f = record { last = bare_end trace f.last.0 end f.last.1; meant = whole end f }
 
 -- ---- the lines of a thread of which each sample is counted in interval 0
 

@@ -1,5 +1,5 @@
 -- The texts of a run by a schedule.
-use Rattle.std.proofs.Common.{◌≡◌, ℕ, ◌+◌, ◌*◌, ◌<◌, ◌≤◌, List, [], ◌∷◌, ◌++◌, length, take, get_or, Option, refl, sym, ap, ap₂, ◌∙◌, subst, inl, inr}
+use Rattle.std.proofs.Common.{◌≡◌, ℕ, ◌+◌, ◌*◌, ◌<◌, ◌≤◌, List, [], ◌∷◌, length, take, get_or, Option, refl, sym, ap, ◌∙◌, subst, inl, inr}
 use Rattle.std.specs.Prelude.{All}
 use Rattle.std.proofs.lemmas.List.{get_or_default, take_more}
 use Rattle.interval_tables.specs.declared.report.Report.{Report}
@@ -9,52 +9,23 @@ use Rattle.interval_tables.proofs.Sums.{length-sum_of}
 use Rattle.interval_tables.proofs.Folding.{length-merged_rows}
 use Rattle.element_tree.specs.Tree.{Tree}
 use Rattle.element_tree.specs.Names.{labels_of}
-use Rattle.phaser_core.specs.Views.{Pair}
 use Rattle.phaser_core.specs.Cells.{no_report}
 use Rattle.phaser_core.specs.Shares.{entries_in, Partition, merged_from, rows_of_all}
 use Rattle.phaser_core.proofs.Merging.{report_more}
 use Rattle.thread_machine.specs.declared.trace.TraceItem.{TraceItem}
-use Rattle.thread_machine.specs.declared.trace.TraceItem.TheVariants.{Paused, Sampled, Null, Entered, Left, Ended}
 use Rattle.trace_output.specs.Texts.{CanPrint}
 use Rattle.trace_output.specs.Printing.{TextOut, TextFailed, TextCut}
-use Rattle.run_engine.specs.Paired.{pairs_in, pairs, pairs_of as run_pairs}
-use Rattle.run_engine.specs.Keeps.{AllKeep as AllKeepRun, all_entries}
+use Rattle.thread_machine.specs.Paired.{pairs_of}
+use Rattle.phaser_core.specs.Keeps.{AllKeep, all_entries}
 use Rattle.run_engine.proofs.Bounding.{counts_in_bounds, counts_shares}
 use Rattle.run_engine.proofs.Joining.{pairs_length}
 use Rattle.run_engine.proofs.Totalling.{total_is, firsts_fit}
-use Rattle.weave_engine.specs.Books.{pair_of, pairs_of, lists_in, AllKeep}
 use Rattle.command_words.specs.declared.command.Command.TheVariants.{Weave}
 use Rattle.command_words.specs.declared.command.Weave.{Weave as WeaveOf}
 use Rattle.jm_command.specs.declared.status.Status.{Status}
 use Rattle.jm_command.specs.declared.status.Status.TheVariants.{Done, Usage, Refused, ReadFault, WriteFault, Memory}
 use Rattle.jm_command.specs.Parts.{sinks, TextSays, PlanSays}
 use Rattle.jm_command.specs.WovenTexts.{IsWeave, weave_results, weave_report, WeaveTexts}
-
--- ---- the entries of the traces, as the engine of running threads counts them
-
-pair_same : (item : TraceItem) → pair_of item ≡ pairs_in item
-pair_same (Paused ms) = refl
-pair_same (Sampled sample interval) = refl
-pair_same (Null sampler) = refl
-pair_same (Entered lock place) = refl
-pair_same (Left lock) = refl
-pair_same (Ended end) = refl
-
-trace_same : (trace : List TraceItem) → pairs_of trace ≡ pairs trace
-trace_same [] = refl
-trace_same (item ∷ items) = ap₂ (λ x y. x ++ y) (pair_same item) (trace_same items)
-
-pub lists_same : (traces : List (List TraceItem)) → lists_in traces ≡ run_pairs traces
-lists_same [] = refl
-lists_same (trace ∷ traces) = ap₂ (λ x y. x ∷ y) (trace_same trace) (lists_same traces)
-
-kept_same : (labels budget : ℕ) (lists : List (List Pair)) → AllKeep labels budget lists → AllKeepRun labels budget lists
-kept_same labels budget [] keep = tt
-kept_same labels budget (list ∷ lists) keep =
-    (record { few = keep.0.few; in_range = keep.0.in_range; small = keep.0.small }, kept_same labels budget lists keep.1)
-
-pub kept_run : (labels budget : ℕ) (traces : List (List TraceItem)) → AllKeep labels budget (lists_in traces) → AllKeepRun labels budget (run_pairs traces)
-kept_run labels budget traces keep = subst (AllKeepRun labels budget) (lists_same traces) (kept_same labels budget (lists_in traces) keep)
 
 -- ---- reports that are merged one after the other
 
@@ -77,27 +48,27 @@ module _ (plan : Tree) (budget : ℕ) (traces : List (List TraceItem)) (reports 
   abbrev labels : ℕ
   labels = length (labels_of plan.elements)
 
-  pub can_print : AllKeep labels budget (lists_in traces) → length traces * budget ≤ 4194304 → Partition labels (lists_in traces) reports → All (CanPrint plan) reports
+  pub can_print : AllKeep labels budget (pairs_of traces) → length traces * budget ≤ 4194304 → Partition labels (pairs_of traces) reports → All (CanPrint plan) reports
   can_print keep few parted m d low =
-      let lists = run_pairs traces in
+      let lists = pairs_of traces in
       let is : get_or reports m d ≡ record { interval = m; rows = sum_of labels (entries_in m lists) } =
-      get_or_default reports m d no_report low ∙ parted.sums m low ∙ ap (λ ls. record { interval = m; rows = sum_of labels (entries_in m ls) }) (lists_same traces) in
+      get_or_default reports m d no_report low ∙ parted.sums m low in
       let most : length lists * budget ≤ 4194304 = subst (λ n. n * budget ≤ 4194304) (sym (pairs_length traces)) few in
       let bounds : IsInBounds (sum_of labels (entries_in m lists)) =
-      counts_in_bounds labels (length lists * budget) (entries_in m lists) (counts_shares labels budget m lists (kept_run labels budget traces keep)) most in
+      counts_in_bounds labels (length lists * budget) (entries_in m lists) (counts_shares labels budget m lists keep) most in
       subst (CanPrint plan) (sym is) (length-sum_of labels (entries_in m lists), bounds)
 
   -- ---- the first reports are in bounds together
 
-  pub firsts_low : AllKeep labels budget (lists_in traces) → length traces * budget ≤ 4194304 → Partition labels (lists_in traces) reports → (n : ℕ) → n ≤ length reports → IsInBounds (rows_of_all labels (take n reports))
+  pub firsts_low : AllKeep labels budget (pairs_of traces) → length traces * budget ≤ 4194304 → Partition labels (pairs_of traces) reports → (n : ℕ) → n ≤ length reports → IsInBounds (rows_of_all labels (take n reports))
   firsts_low keep few parted =
-      firsts_fit labels budget (run_pairs traces) reports (subst (λ ls. Partition labels ls reports) (lists_same traces) parted) (kept_run labels budget traces keep)
+      firsts_fit labels budget (pairs_of traces) reports parted keep
       (subst (λ n. n * budget ≤ 4194304) (sym (pairs_length traces)) few)
 
 -- ---- the reports together
 
-pub all_counted : (labels : ℕ) (traces : List (List TraceItem)) (reports merged : List Report) (rows : List Row) → Partition labels (lists_in traces) reports → merged ≡ reports → rows ≡ rows_of_all labels merged → rows ≡ sum_of labels (all_entries (lists_in traces))
-all_counted labels traces reports merged rows parted same is = is ∙ ap (rows_of_all labels) same ∙ total_is labels (lists_in traces) reports parted
+pub all_counted : (labels : ℕ) (traces : List (List TraceItem)) (reports merged : List Report) (rows : List Row) → Partition labels (pairs_of traces) reports → merged ≡ reports → rows ≡ rows_of_all labels merged → rows ≡ sum_of labels (all_entries (pairs_of traces))
+all_counted labels traces reports merged rows parted same is = is ∙ ap (rows_of_all labels) same ∙ total_is labels (pairs_of traces) reports parted
 
 -- ---- what is printed
 

@@ -5,7 +5,7 @@ use Rattle.std.specs.Option.{option_map_or}
 use Rattle.jm_base.specs.declared.types.Entry.{Entry}
 use Rattle.var_functions.specs.RunProps.{pairs_of}
 use Rattle.jm_base.specs.declared.types.End.{End}
-use Rattle.jm_base.specs.declared.types.End.TheVariants.{Completed, StopThread, StopTest, Stopped, SampleLimit, RoundLimit, ValueLimit, NoMemory}
+use Rattle.jm_base.specs.declared.types.End.TheVariants.{NoMemory}
 use Rattle.jm_base.specs.Run.{over_value}
 use Rattle.jm_base.specs.Outside.{script_form}
 use Rattle.element_tree.specs.Tree.{Tree}
@@ -17,7 +17,7 @@ use Rattle.command_words.specs.declared.command.Solo.{Solo}
 use Rattle.command_words.specs.declared.command.Command.{Command}
 use Rattle.command_words.specs.declared.command.Command.TheVariants.{Check, Make, Solo as SoloCommand, Weave, Run}
 use Rattle.jm_meaning.specs.declared.item.Item.{Item}
-use Rattle.jm_meaning.specs.declared.item.Item.TheVariants.{Paused, Sampled, Null, Entered, Left, Ended}
+use Rattle.jm_meaning.specs.declared.item.Item.TheVariants.{Sampled, Ended}
 use Rattle.jm_meaning.specs.Beginning.{Options}
 use Rattle.jm_meaning.specs.Meaning.{events}
 use Rattle.jm_meaning.specs.TraceShown.{shown}
@@ -42,12 +42,8 @@ shown_of plan s = map shown (over_value script_form (events plan s.thread (optio
 
 -- a sample's line, with interval 0
 abbrev pub item_text : Tree → ℕ → Item → List ℕ
-item_text plan thread (Paused ms) = []
 item_text plan thread (Sampled sample) = result_text plan thread sample 0
-item_text plan thread (Null sampler) = []
-item_text plan thread (Entered lock) = []
-item_text plan thread (Left lock) = []
-item_text plan thread (Ended end) = []
+item_text plan thread item = []
 
 -- the results of what a thread shows: the header, and a line for each sample
 abbrev pub results_of : Tree → ℕ → List Item → List ℕ
@@ -55,12 +51,8 @@ results_of plan thread items = header_text ++ flat_map (item_text plan thread) i
 
 -- how a thread has ended, by the last item that it shows
 abbrev pub end_of_item : Item → Option End
-end_of_item (Paused ms) = None
-end_of_item (Sampled sample) = None
-end_of_item (Null sampler) = None
-end_of_item (Entered lock) = None
-end_of_item (Left lock) = None
 end_of_item (Ended end) = Some end
+end_of_item item = None
 
 abbrev pub last_end : List Item → Option End
 last_end [] = None
@@ -69,12 +61,8 @@ last_end (item ∷ next ∷ items) = last_end (next ∷ items)
 
 -- what is counted of an item: of a sample its label, whether it succeeded, its time and its bytes
 abbrev pub entries_in : Item → List Entry
-entries_in (Paused ms) = []
 entries_in (Sampled sample) = entry_of sample ∷ []
-entries_in (Null sampler) = []
-entries_in (Entered lock) = []
-entries_in (Left lock) = []
-entries_in (Ended end) = []
+entries_in item = []
 
 -- what is counted of all that a thread shows, in its order
 abbrev pub entries_of : List Item → List Entry
@@ -99,14 +87,8 @@ pub record IsCut (plan : Tree) (s : Solo) (items : List Item) : Type 0 where
 
 -- the items are those of the plan's meaning, or of a thread that was cut short a prefix of it
 abbrev pub IsMeant : Tree → Solo → List Item → End → Type 0
-IsMeant plan s items Completed = items ≡ shown_of plan s
-IsMeant plan s items StopThread = items ≡ shown_of plan s
-IsMeant plan s items StopTest = items ≡ shown_of plan s
-IsMeant plan s items Stopped = items ≡ shown_of plan s
-IsMeant plan s items SampleLimit = items ≡ shown_of plan s
-IsMeant plan s items RoundLimit = items ≡ shown_of plan s
-IsMeant plan s items ValueLimit = items ≡ shown_of plan s
 IsMeant plan s items NoMemory = IsCut plan s items
+IsMeant plan s items end = items ≡ shown_of plan s
 
 -- what a thread with this end has shown
 pub record IsShown (plan : Tree) (s : Solo) (items : List Item) (end : End) : Type 0 where
@@ -115,14 +97,8 @@ pub record IsShown (plan : Tree) (s : Solo) (items : List Item) (end : End) : Ty
 
 -- a thread that ended so was not cut short because memory ran out
 abbrev pub end_is_whole : End → Bool
-end_is_whole Completed = true
-end_is_whole StopThread = true
-end_is_whole StopTest = true
-end_is_whole Stopped = true
-end_is_whole SampleLimit = true
-end_is_whole RoundLimit = true
-end_is_whole ValueLimit = true
 end_is_whole NoMemory = false
+end_is_whole end = true
 
 -- ---- the texts of a command
 

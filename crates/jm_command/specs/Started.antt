@@ -22,8 +22,8 @@ use Rattle.reporter_loop.specs.ReportsWritten.{texts_of, WritesPrefix}
 use Rattle.reporter_loop.specs.Ticked.{HasTickedWhere, TickedSoFar}
 use Rattle.run_engine.specs.Followed.{AllFollow, AreFollowed}
 use Rattle.run_engine.specs.Joins.{AllEnd, AllLabelled}
-use Rattle.run_engine.specs.Keeps.{all_entries}
-use Rattle.run_engine.specs.Paired.{pairs_of}
+use Rattle.phaser_core.specs.Keeps.{all_entries}
+use Rattle.thread_machine.specs.Paired.{pairs_of}
 use Rattle.run_engine.specs.SectionsRun.{AllLeave}
 use Rattle.run_engine.specs.Stops.{StopHasCause}
 use Rattle.command_words.specs.declared.command.Command.{Command}

@@ -8,11 +8,12 @@ use Rattle.jm_meaning.specs.Beginning.{Options}
 use Rattle.output_lines.specs.Lines.{header_text}
 use Rattle.output_lines.specs.Reports.{summary_text}
 use Rattle.phaser_core.specs.Shares.{Partition}
-use Rattle.run_engine.specs.Keeps.{all_entries}
+use Rattle.phaser_core.specs.Keeps.{all_entries}
 use Rattle.run_engine.specs.SectionsRun.{AllLeave}
 use Rattle.thread_machine.specs.declared.trace.TraceItem.{TraceItem}
 use Rattle.trace_output.specs.Texts.{traces_text, reports_text, ends_text}
-use Rattle.weave_engine.specs.Books.{lists_in, AllFollow}
+use Rattle.thread_machine.specs.Paired.{pairs_of}
+use Rattle.weave_engine.specs.Followed.{AllFollow}
 use Rattle.weave_engine.specs.Woven.{Woven}
 use Rattle.command_words.specs.declared.command.Weave.{Weave as WeaveOf}
 
@@ -28,8 +29,8 @@ pub record IsWeave (w : WeaveOf) (plan : Tree) (traces : List (List TraceItem)) 
   pub woven : Woven plan (weave_options w) w.schedule traces reports
   pub follows : AllFollow plan (weave_options w) traces
   pub sections : AllLeave traces
-  pub parted : Partition (length (labels_of plan.elements)) (lists_in traces) reports
-  pub total_is : total.rows ≡ sum_of (length (labels_of plan.elements)) (all_entries (lists_in traces))
+  pub parted : Partition (length (labels_of plan.elements)) (pairs_of traces) reports
+  pub total_is : total.rows ≡ sum_of (length (labels_of plan.elements)) (all_entries (pairs_of traces))
 
 -- the results: the header, and the result lines in thread order
 abbrev pub weave_results : Tree → List (List TraceItem) → List ℕ

@@ -3,6 +3,7 @@ pub mod Views
 pub mod CoreMoves
 pub mod Shares
 pub mod Invariant
+pub mod Keeps
 pub mod Step
 pub mod Plain
 pub mod CoreShape

@@ -6,7 +6,7 @@ use Rattle.interval_tables.proofs.Bounds.{AllSmall as AllSmallEntries, sum_in_bo
 use Rattle.phaser_core.specs.Views.{Pair}
 use Rattle.phaser_core.specs.Shares.{entries_of, entries_in, AllInRange}
 use Rattle.phaser_core.specs.Invariant.{AllSmall}
-use Rattle.run_engine.specs.Keeps.{AllKeep, all_entries}
+use Rattle.phaser_core.specs.Keeps.{AllKeep, all_entries}
 
 -- these entries can be counted: their labels are in range, their numbers have 32 bits, and there are at most this many
 pub record CanCount (labels most : ℕ) (es : List Entry) : Type 0 where

@@ -12,9 +12,9 @@ use Rattle.recorder_core.specs.declared.places.Recorder.{Recorder}
 use Rattle.recorder_core.specs.RecorderSeats.{numbers_of}
 use Rattle.run_engine.specs.declared.job.Job.{Job}
 use Rattle.run_engine.specs.Joins.{joined_of, numbers_in, trace_of, AllDone, AllEnd}
-use Rattle.run_engine.specs.Keeps.{AllKeep}
+use Rattle.phaser_core.specs.Keeps.{AllKeep}
 use Rattle.run_engine.specs.Marks.{AllMarked}
-use Rattle.run_engine.specs.Paired.{pairs_of}
+use Rattle.thread_machine.specs.Paired.{pairs_of}
 use Rattle.run_engine.proofs.Joining.{lists_are, numbers_are, numbers_done, len_map, keep_done, ends_done, marks_done}
 
 module _ {O : Type 0} (js : List (Job O)) (traces : List (List TraceItem)) (traces_are : traces ≡ map trace_of js) where

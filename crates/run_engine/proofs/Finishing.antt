@@ -19,14 +19,8 @@ use Rattle.run_engine.specs.Joins.{IsDone, AllDone}
 module _ (start now : Account) (plan : Tree) (thread : ℕ) (options : Options) (trace : List TraceItem) where
   -- a thread that has run to its end has ended
   pub has_ended : (end : End) → HasRun start now plan thread options trace end → HasEnded start now plan thread options trace end
-  has_ended Completed h = h
-  has_ended StopThread h = h
-  has_ended StopTest h = h
   has_ended Stopped h = absurd h
-  has_ended SampleLimit h = h
-  has_ended RoundLimit h = h
-  has_ended ValueLimit h = h
-  has_ended NoMemory h = h
+  has_ended end h = h
 
   ends_so : (end : End) → HasEnded start now plan thread options trace end → IsEndedBy trace end
   ends_so Completed h = h.last

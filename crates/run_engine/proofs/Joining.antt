@@ -13,10 +13,10 @@ use Rattle.recorder_core.specs.declared.places.Recorder.{Recorder}
 use Rattle.recorder_core.specs.RecorderSeats.{writes, numbers_of}
 use Rattle.run_engine.specs.declared.job.Job.{Job}
 use Rattle.run_engine.specs.Joins.{joined_of, numbers_in, trace_of, number_of, AllDone, AllEnd}
-use Rattle.run_engine.specs.Keeps.{KeepsTo, AllKeep}
+use Rattle.phaser_core.specs.Keeps.{KeepsTo, AllKeep}
 use Rattle.run_engine.specs.Made.{made_at}
 use Rattle.run_engine.specs.Marks.{IsMarked, AllMarked}
-use Rattle.run_engine.specs.Paired.{pairs, pairs_of}
+use Rattle.thread_machine.specs.Paired.{pairs, pairs_of}
 use Rattle.std.specs.List.{range_with_len}
 use Rattle.run_engine.proofs.Seqs.{numbers_from}
 

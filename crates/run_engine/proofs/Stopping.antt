@@ -2,13 +2,13 @@
 use Rattle.std.proofs.Common.{◌≡◌, ◌∙◌, ◌⊎◌, ℕ, ◌+◌, ◌<◌, Bool, true, false, List, [], ◌∷◌, ◌++◌, Option, Some, None, Result, Ok, Err, refl, sym, ap, subst, inl, inr, arith}
 use Rattle.std.specs.Prelude.{IfOk, OnOk}
 use Rattle.jm_base.specs.declared.types.End.{End}
-use Rattle.jm_base.specs.declared.types.End.TheVariants.{Completed, StopThread, StopTest, Stopped, SampleLimit, RoundLimit, ValueLimit, NoMemory}
+use Rattle.jm_base.specs.declared.types.End.TheVariants.{StopTest, Stopped}
 use Rattle.jm_base.specs.SumTotals.{total, one_if}
 use Rattle.phaser_core.specs.declared.view.Joined.{Joined}
 use Rattle.phaser_core.specs.declared.view.ReporterView.{ReporterView}
 use Rattle.phaser_words.specs.RecorderKinds.{StopWasRaised}
 use Rattle.thread_machine.specs.declared.trace.TraceItem.{TraceItem}
-use Rattle.thread_machine.specs.declared.trace.TraceItem.TheVariants.{Paused, Sampled, Null, Entered, Left, Ended}
+use Rattle.thread_machine.specs.declared.trace.TraceItem.TheVariants.{Ended}
 use Rattle.reporter_loop.specs.Reported.{any_over}
 use Rattle.reporter_loop.specs.declared.error.RunError.{RunError}
 use Rattle.recorder_core.specs.RecorderSeats.{books_of}
@@ -29,13 +29,8 @@ last_is before [] item = refl
 last_is before (x ∷ items) item = last_is (Some x) items item
 
 is_stopped_item : Option TraceItem → Bool
-is_stopped_item None = false
-is_stopped_item (Some (Paused ms)) = false
-is_stopped_item (Some (Sampled sample interval)) = false
-is_stopped_item (Some (Null sampler)) = false
-is_stopped_item (Some (Entered lock place)) = false
-is_stopped_item (Some (Left lock)) = false
 is_stopped_item (Some (Ended end)) = is_stopped end
+is_stopped_item item = false
 
 ends_by : (trace : List TraceItem) (end : End) → EndsWith trace end → is_stopped_item (last_of None trace) ≡ is_stopped end
 unfolding is_stopped_item
@@ -47,14 +42,8 @@ stopped_saw raised saw trace m e = m.saw_is ∙ sym (ends_by trace m.end m.ends)
 
 -- the thread of a writer that raised it has ended the test
 test_ended : (trace : List TraceItem) (end : End) → EndsWith trace end → is_stop_test end ≡ true → EndsWith trace StopTest
-test_ended trace Completed e is = cc
-test_ended trace StopThread e is = cc
 test_ended trace StopTest e is = e
-test_ended trace Stopped e is = cc
-test_ended trace SampleLimit e is = cc
-test_ended trace RoundLimit e is = cc
-test_ended trace ValueLimit e is = cc
-test_ended trace NoMemory e is = cc
+test_ended trace end e is = cc
 
 -- ---- all of them
 

@@ -16,8 +16,8 @@ use Rattle.phaser_core.specs.Cells.{no_report}
 use Rattle.phaser_core.proofs.Merging.{in_turn, turns_labels, merged_turns, merged_bounds, report_more}
 use Rattle.reporter_loop.specs.Counted.{CountsAll}
 use Rattle.thread_machine.specs.declared.trace.TraceItem.{TraceItem}
-use Rattle.run_engine.specs.Keeps.{AllKeep, all_entries}
-use Rattle.run_engine.specs.Paired.{pairs_of}
+use Rattle.phaser_core.specs.Keeps.{AllKeep, all_entries}
+use Rattle.thread_machine.specs.Paired.{pairs_of}
 use Rattle.run_engine.proofs.Bounding.{CanCount, counts_in_bounds, counts_lists, counts_shares}
 use Rattle.run_engine.proofs.Joining.{pairs_length}
 

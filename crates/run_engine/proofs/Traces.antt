@@ -1,27 +1,26 @@
 -- What a step of a worker leaves of its samples and of its outside.
 use Rattle.std.proofs.Common.{◌≡◌, ◌∙◌, ℕ, ◌+◌, ◌-◌, ◌<◌, ◌≤◌, false, true, List, [], ◌∷◌, ◌++◌, length, None, Some, refl, sym, ap, subst, inl, inr, arith, append_assoc}
 use Rattle.std.specs.Option.{option_map}
-use Rattle.std.proofs.lemmas.List.{append-nil}
 use Rattle.jm_base.specs.declared.types.Entry.{Entry}
 use Rattle.jm_base.specs.declared.types.End.{End}
-use Rattle.jm_base.specs.declared.types.End.TheVariants.{Completed, StopThread, StopTest, Stopped, SampleLimit, RoundLimit, ValueLimit, NoMemory}
+use Rattle.jm_base.specs.declared.types.End.TheVariants.{Stopped, NoMemory}
 use Rattle.jm_base.specs.Run.{Run, Event}
 use Rattle.jm_base.specs.Outside.{Account, Goes}
 use Rattle.element_tree.specs.Tree.{Tree}
 use Rattle.element_tree.specs.Names.{labels_of}
 use Rattle.thread_machine.specs.declared.step.Step.{Step}
 use Rattle.thread_machine.specs.declared.step.Step.TheVariants.{Sampled, Null, Enter, Leave, Ended}
-use Rattle.thread_machine.specs.declared.trace.TraceItem.{TraceItem}
 use Rattle.thread_machine.specs.declared.trace.TraceItem.TheVariants.{Sampled as SampledItem, Entered as EnteredItem, Ended as EndedItem}
 use Rattle.thread_machine.specs.SectionOrder.{left_traced}
 use Rattle.thread_machine.specs.Standing.{Standing, rest}
 use Rattle.thread_machine.specs.Stepped.{Begins, Gives, Steps, Ends, IsOver}
-use Rattle.thread_machine.proofs.Appended.{HoldsOn, after_step, after_end, no_more, gathered}
+use Rattle.thread_machine.proofs.Appended.{after_end, no_more}
+use Rattle.thread_machine.proofs.Pairs.{pairs_snoc, pairs_step, same_pairs}
 use Rattle.thread_machine.proofs.Ends.{begun_on}
 use Rattle.thread_machine.proofs.Labels.{label_within}
 use Rattle.run_engine.specs.Followed.{EndsWith}
 use Rattle.run_engine.specs.Marks.{is_stopped}
-use Rattle.run_engine.specs.Paired.{pairs_in, pairs}
+use Rattle.thread_machine.specs.Paired.{pairs_in, pairs}
 use Rattle.run_engine.specs.JobsRan.{SameOutside}
 
 -- ---- the outside
@@ -43,14 +42,8 @@ same_begins a b old new h = elim h [
 
 module _ (a b : Account) (run : Run (Unit {0})) (old new : Standing) where
   same_ends : (end : End) → Ends a b run old new end → SameOutside a b
-  same_ends Completed o = same_goes a b _ _ _ o.goes
-  same_ends StopThread o = same_goes a b _ _ _ o.goes
-  same_ends StopTest o = same_goes a b _ _ _ o.goes
   same_ends Stopped o = absurd o
-  same_ends SampleLimit o = same_goes a b _ _ _ o.goes
-  same_ends RoundLimit o = same_goes a b _ _ _ o.goes
-  same_ends ValueLimit o = same_goes a b _ _ _ o.goes
-  same_ends NoMemory o = same_goes a b _ _ _ o.goes
+  same_ends end o = same_goes a b _ _ _ o.goes
 
   same_gives : (step : Step) → Gives a b run old new step → SameOutside a b
   same_gives (Sampled entry) g = same_goes a b _ _ _ g.goes
@@ -64,30 +57,14 @@ same_steps a b old new step s = same_then a s.begun b (same_begins a s.begun old
 
 -- ---- the samples
 
-pairs_snoc : (items : List TraceItem) (item : TraceItem) → pairs (items ++ item ∷ []) ≡ pairs items ++ pairs_in item
-pairs_snoc [] item = append-nil (pairs_in item)
-pairs_snoc (x ∷ items) item = ap (λ l. pairs_in x ++ l) (pairs_snoc items item) ∙ sym (append_assoc (pairs_in x) (pairs items) (pairs_in item))
-
-same_pairs : HoldsOn (λ s t. pairs t ≡ pairs s)
-same_pairs = gathered pairs pairs_in pairs_snoc (λ ms. refl) (λ number. refl) (λ lock. refl) (λ end. refl)
-
--- no step shows a sample
-pub pairs_step : (a b : Account) (old new : Standing) (step : Step) → Steps a b old new step → pairs new.trace ≡ pairs old.trace
-pairs_step = after_step same_pairs
-
 module _ (a b : Account) (run : Run (Unit {0})) (old new : Standing) where
   over_traced : (end : End) → IsOver a b run old new end → EndsWith new.trace end
   over_traced end o = record { before = old.trace; last = ap (λ s. s.trace) o.new_is }
 
   ends_traced : (end : End) → Ends a b run old new end → EndsWith new.trace end
-  ends_traced Completed o = over_traced Completed o
-  ends_traced StopThread o = over_traced StopThread o
-  ends_traced StopTest o = over_traced StopTest o
   ends_traced Stopped o = absurd o
-  ends_traced SampleLimit o = over_traced SampleLimit o
-  ends_traced RoundLimit o = over_traced RoundLimit o
-  ends_traced ValueLimit o = over_traced ValueLimit o
   ends_traced NoMemory o = record { before = old.trace ++ left_traced old.section; last = ap (λ s. s.trace) o.new_is ∙ sym (append_assoc old.trace (left_traced old.section) (EndedItem NoMemory ∷ [])) }
+  ends_traced end o = over_traced end o
 
 module _ (a b : Account) (old new : Standing) where
   -- the trace has its end
@@ -96,14 +73,8 @@ module _ (a b : Account) (old new : Standing) where
 
   -- no step is that of a thread that is stopped
   pub not_stopped : (end : End) → Steps a b old new (Ended end) → is_stopped end ≡ false
-  not_stopped Completed s = refl
-  not_stopped StopThread s = refl
-  not_stopped StopTest s = refl
   not_stopped Stopped s = absurd s.gives
-  not_stopped SampleLimit s = refl
-  not_stopped RoundLimit s = refl
-  not_stopped ValueLimit s = refl
-  not_stopped NoMemory s = refl
+  not_stopped end s = refl
 
   -- a section that was entered
   pub pairs_entered : (lock place : ℕ) (s : Steps a b old new (Enter lock)) (last : Standing) → last ≡ record new { entering = None; section = Some lock; trace = new.trace ++ EnteredItem lock place ∷ [] } → pairs last.trace ≡ pairs old.trace

@@ -11,9 +11,9 @@ use Rattle.phaser_core.specs.Invariant.{AllSmall}
 use Rattle.recorder_core.specs.declared.places.Recorder.{Recorder}
 use Rattle.recorder_core.specs.declared.places.WriterSeat.{WriterSeat}
 use Rattle.recorder_core.specs.RecorderSeats.{writes, numbers_of, IsWriter}
-use Rattle.run_engine.specs.Keeps.{KeepsTo}
+use Rattle.phaser_core.specs.Keeps.{KeepsTo}
 use Rattle.run_engine.specs.Marks.{SameWriter}
-use Rattle.run_engine.specs.Paired.{pairs}
+use Rattle.thread_machine.specs.Paired.{pairs}
 use Rattle.run_engine.proofs.Bounding.{in_range_snoc, small_snoc}
 
 -- it has recorded just the samples of the worker's trace, has room for as many as the worker may still make, and has not seen stop

@@ -1,7 +1,7 @@
 -- That a trace follows what its thread's outside was told.
 use Rattle.std.specs.Prelude.{◌≡◌, ℕ, ◌<◌, List, [], ◌∷◌, ◌++◌, length, slice_index_or, Contains, Option, Some}
 use Rattle.jm_base.specs.declared.types.End.{End}
-use Rattle.jm_base.specs.declared.types.End.TheVariants.{Completed, StopThread, StopTest, Stopped, SampleLimit, RoundLimit, ValueLimit, NoMemory}
+use Rattle.jm_base.specs.declared.types.End.TheVariants.{Stopped, NoMemory}
 use Rattle.jm_base.specs.declared.types.Heard.{Heard}
 use Rattle.element_tree.specs.Tree.{Tree}
 use Rattle.jm_meaning.specs.Beginning.{Options}
@@ -16,14 +16,9 @@ pub record EndsWith (trace : List TraceItem) (end : End) : Type 0 where
 
 -- how a trace with this end follows what was told
 abbrev pub FollowsTo : Tree → ℕ → Options → List Heard → List TraceItem → End → Type 0
-FollowsTo plan thread options told trace Completed = FollowsWhole plan thread options told trace
-FollowsTo plan thread options told trace StopThread = FollowsWhole plan thread options told trace
-FollowsTo plan thread options told trace StopTest = FollowsWhole plan thread options told trace
 FollowsTo plan thread options told trace Stopped = FollowsStopped plan thread options told trace
-FollowsTo plan thread options told trace SampleLimit = FollowsWhole plan thread options told trace
-FollowsTo plan thread options told trace RoundLimit = FollowsWhole plan thread options told trace
-FollowsTo plan thread options told trace ValueLimit = FollowsWhole plan thread options told trace
 FollowsTo plan thread options told trace NoMemory = FollowsCut plan thread options told trace
+FollowsTo plan thread options told trace end = FollowsWhole plan thread options told trace
 
 -- The trace is the plan's meaning over what the outside was told, up to the thread's end; of a thread that was stopped or cut, out
 -- of memory, a prefix of it. Its last item is its only end.

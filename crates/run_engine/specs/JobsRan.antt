@@ -1,7 +1,7 @@
 -- A worker before its run, and after.
 use Rattle.std.specs.Prelude.{◌≡◌, ℕ, ◌+◌, ◌≤◌, ◌<◌, false, true, List, [], Some, None, length, slice_index_or}
 use Rattle.jm_base.specs.declared.types.End.{End}
-use Rattle.jm_base.specs.declared.types.End.TheVariants.{Completed, StopThread, StopTest, Stopped, SampleLimit, RoundLimit, ValueLimit, NoMemory}
+use Rattle.jm_base.specs.declared.types.End.TheVariants.{Stopped}
 use Rattle.jm_base.specs.declared.types.Heard.{Heard}
 use Rattle.jm_base.specs.Outside.{Account}
 use Rattle.element_tree.specs.Tree.{Tree}
@@ -15,7 +15,7 @@ use Rattle.recorder_core.specs.RecorderSeats.{writes, numbers_of, IsWriter}
 use Rattle.critical_section.specs.declared.places.Sections.{Sections}
 use Rattle.run_engine.specs.declared.job.Job.{Job}
 use Rattle.run_engine.specs.Marks.{IsMarked}
-use Rattle.run_engine.specs.Keeps.{KeepsTo}
+use Rattle.phaser_core.specs.Keeps.{KeepsTo}
 use Rattle.run_engine.specs.SectionsRun.{entered_in, Rises}
 
 -- what two moments of an outside have in common: who opened it, and whether it tells
@@ -25,14 +25,8 @@ pub record SameOutside (before after : Account) : Type 0 where
 
 -- the thread has run to this end, or was stopped
 abbrev pub HasEnded : Account → Account → Tree → ℕ → Options → List TraceItem → End → Type 0
-HasEnded start now plan thread options trace Completed = HasRun start now plan thread options trace Completed
-HasEnded start now plan thread options trace StopThread = HasRun start now plan thread options trace StopThread
-HasEnded start now plan thread options trace StopTest = HasRun start now plan thread options trace StopTest
 HasEnded start now plan thread options trace Stopped = WasStopped start now plan thread options trace
-HasEnded start now plan thread options trace SampleLimit = HasRun start now plan thread options trace SampleLimit
-HasEnded start now plan thread options trace RoundLimit = HasRun start now plan thread options trace RoundLimit
-HasEnded start now plan thread options trace ValueLimit = HasRun start now plan thread options trace ValueLimit
-HasEnded start now plan thread options trace NoMemory = HasRun start now plan thread options trace NoMemory
+HasEnded start now plan thread options trace end = HasRun start now plan thread options trace end
 
 -- the thread has come to some end
 abbrev pub RunsToEnd : Account → Account → Tree → ℕ → Options → List TraceItem → Type 0

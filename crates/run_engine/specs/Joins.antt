@@ -13,7 +13,7 @@ use Rattle.recorder_core.specs.declared.places.Recorder.{Recorder}
 use Rattle.recorder_core.specs.RecorderSeats.{writes, numbers_of, IsWriter}
 use Rattle.run_engine.specs.declared.job.Job.{Job}
 use Rattle.run_engine.specs.Made.{made_at}
-use Rattle.run_engine.specs.Keeps.{KeepsTo}
+use Rattle.phaser_core.specs.Keeps.{KeepsTo}
 use Rattle.run_engine.specs.Marks.{IsMarked}
 use Rattle.run_engine.specs.SectionsRun.{Rises}
 use Rattle.run_engine.specs.Followed.{FollowsWhere}

@@ -2,10 +2,8 @@ pub mod SectionsRun
 pub mod Asked
 pub mod Followed
 pub mod Joins
-pub mod Keeps
 pub mod Made
 pub mod Marks
-pub mod Paired
 pub mod Reporting
 pub mod JobsRan
 pub mod Served

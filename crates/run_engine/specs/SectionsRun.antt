@@ -7,18 +7,14 @@ use Rattle.critical_section.specs.declared.places.SectionSeat.{SectionSeat}
 use Rattle.critical_section.specs.Book.{Section, IsPast, HasOpen, HasPlacesBelow}
 use Rattle.critical_section.specs.SectionSeats.{view_of, IsSeatOf, locks_of as locks_in}
 use Rattle.thread_machine.specs.declared.trace.TraceItem.{TraceItem}
-use Rattle.thread_machine.specs.declared.trace.TraceItem.TheVariants.{Paused, Sampled, Null, Entered, Left, Ended}
+use Rattle.thread_machine.specs.declared.trace.TraceItem.TheVariants.{Entered}
 use Rattle.thread_machine.specs.SectionOrder.{LeavesAll}
 use Rattle.thread_machine.specs.Standing.{Standing}
 
 -- the lock and the place of a section
 abbrev pub section_in : TraceItem → List Section
-section_in (Paused ms) = []
-section_in (Sampled sample interval) = []
-section_in (Null sampler) = []
 section_in (Entered lock place) = (lock, place) ∷ []
-section_in (Left lock) = []
-section_in (Ended end) = []
+section_in item = []
 
 -- the lock and the place of each section of a trace, in its order
 abbrev pub entered_in : List TraceItem → List Section

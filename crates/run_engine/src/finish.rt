@@ -1,6 +1,6 @@
 // The end of a run: the books, and the last report.
 
-ghost use Rattle.std.specs.Prelude.{◌≡◌, ◌<◌, ◌≤◌, ◌*◌, [], List, ℕ, Option, length, IfOk, IfErr, OnOk, OnErr};
+ghost use Rattle.std.specs.Prelude.{◌≡◌, ◌<◌, ◌≤◌, ◌*◌, List, ℕ, Option, length, IfOk, IfErr, OnOk, OnErr};
 ghost use Rattle.std.specs.Io.KnownBytes.{Appends};
 ghost use Rattle.element_tree.specs.Names.{labels_of};
 ghost use Rattle.interval_tables.specs.Rows.{sum_of, IsInBounds};
@@ -13,8 +13,8 @@ ghost use Rattle.reporter_loop.specs.Counted.{CountsAll};
 ghost use Rattle.reporter_loop.specs.Failing.{IsCause};
 ghost use Rattle.reporter_loop.specs.Reported.{Reported};
 ghost use Rattle.reporter_loop.specs.ReportsWritten.{texts_of, WritesPrefix};
-ghost use Rattle.run_engine.specs.Keeps.{AllKeep, all_entries};
-ghost use Rattle.run_engine.specs.Paired.{pairs_of};
+ghost use Rattle.phaser_core.specs.Keeps.{AllKeep, all_entries};
+ghost use Rattle.thread_machine.specs.Paired.{pairs_of};
 
 use crate::ask::RunAsk;
 use crate::books::RunBooks;

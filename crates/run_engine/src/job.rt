@@ -2,7 +2,7 @@
 
 ghost use Rattle.std.specs.Prelude.{◌≡◌};
 ghost use Rattle.recorder_core.specs.RecorderSeats.{writes};
-ghost use Rattle.run_engine.specs.Paired.{pairs};
+ghost use Rattle.thread_machine.specs.Paired.{pairs};
 ghost use Rattle.run_engine.specs.SectionsRun.{KeepsSections};
 
 use critical_section::{SectionSeat, Sections};

@@ -1,6 +1,6 @@
 // All workers are taken in, in the order of their numbers.
 
-ghost use Rattle.std.specs.Prelude.{◌≡◌, ◌<◌, ◌≤◌, ◌*◌, ◌++◌, [], true, length, map, vec_capacity};
+ghost use Rattle.std.specs.Prelude.{◌≡◌, ◌<◌, ◌≤◌, ◌++◌, [], true, length, map, vec_capacity};
 ghost use Rattle.std.specs.List.{range_with_len};
 ghost use Rattle.element_tree.specs.Names.{labels_of};
 ghost use Rattle.critical_section.specs.Book.{IsFirst};
@@ -12,9 +12,9 @@ ghost use Rattle.run_engine.specs.Asked.{options_of};
 ghost use Rattle.run_engine.specs.Followed.{AllFollow};
 ghost use Rattle.run_engine.specs.JobsRan.{AllAmong};
 ghost use Rattle.run_engine.specs.Joins.{joined_of, numbers_in, trace_of, OnlyJoined, AllDone, AllEnd, AllLabelled};
-ghost use Rattle.run_engine.specs.Keeps.{AllKeep};
+ghost use Rattle.phaser_core.specs.Keeps.{AllKeep};
 ghost use Rattle.run_engine.specs.Marks.{AllMarked};
-ghost use Rattle.run_engine.specs.Paired.{pairs_of};
+ghost use Rattle.thread_machine.specs.Paired.{pairs_of};
 ghost use Rattle.run_engine.specs.SectionsRun.{sections_of_all, AllRise, AllLeave, HasTaken};
 
 use crate::ask::RunAsk;

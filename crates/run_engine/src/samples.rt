@@ -1,6 +1,6 @@
 // The loop of one worker.
 
-ghost use Rattle.std.specs.Prelude.{◌≡◌, ◌<◌, ◌≤◌, ◌+◌, ◌∷◌, ◌++◌, ℕ, [], length, false, true, None, IfSome};
+ghost use Rattle.std.specs.Prelude.{◌≡◌, ◌<◌, ◌≤◌, ◌+◌, ◌∷◌, ◌++◌, [], length, false, true, None, IfSome};
 ghost use Rattle.element_tree.specs.Names.{labels_of};
 ghost use Rattle.jm_base.specs.Outside.{Account};
 ghost use Rattle.jm_meaning.specs.Beginning.{Options};
@@ -10,8 +10,8 @@ ghost use Rattle.phaser_core.specs.declared.view.Stage.TheVariants.{Out};
 ghost use Rattle.critical_section.specs.Book.{closed};
 ghost use Rattle.critical_section.specs.SectionSeats.{view_of, IsSeatOf, locks_of};
 ghost use Rattle.recorder_core.specs.RecorderSeats.{writes, numbers_of, IsWriter};
-ghost use Rattle.run_engine.specs.Keeps.{KeepsTo};
-ghost use Rattle.run_engine.specs.Paired.{pairs};
+ghost use Rattle.phaser_core.specs.Keeps.{KeepsTo};
+ghost use Rattle.thread_machine.specs.Paired.{pairs};
 ghost use Rattle.run_engine.specs.Followed.{EndsWith};
 ghost use Rattle.run_engine.specs.Marks.{SameWriter, is_stopped};
 ghost use Rattle.run_engine.specs.JobsRan.{SameOutside, RunsToEnd};

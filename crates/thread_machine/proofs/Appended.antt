@@ -3,7 +3,7 @@
 use Rattle.std.proofs.Common.{◌≡◌, ℕ, zero, suc, List, [], ◌∷◌, ◌++◌, Option, Some, None, refl, sym, ap, ◌∙◌, subst, append_assoc, inl, inr}
 use Rattle.std.proofs.lemmas.List.{append-nil}
 use Rattle.jm_base.specs.declared.types.End.{End}
-use Rattle.jm_base.specs.declared.types.End.TheVariants.{Completed, StopThread, StopTest, Stopped, SampleLimit, RoundLimit, ValueLimit, NoMemory}
+use Rattle.jm_base.specs.declared.types.End.TheVariants.{Stopped, NoMemory}
 use Rattle.jm_base.specs.Run.{Run}
 use Rattle.jm_base.specs.Outside.{Account}
 use Rattle.thread_machine.specs.declared.trace.TraceItem.{TraceItem}
@@ -51,14 +51,9 @@ module _ {R : List TraceItem → List TraceItem → Type 0} (holds : HoldsOn R) 
       after_over end o = seen (old.trace ++ EndedItem end ∷ []) (ap (λ s. s.trace) o.new_is) (holds.ended old.trace end)
 
       after_ends : (end : End) → Ends a b run old new end → R old.trace new.trace
-      after_ends Completed o = after_over Completed o
-      after_ends StopThread o = after_over StopThread o
-      after_ends StopTest o = after_over StopTest o
       after_ends Stopped o = absurd o
-      after_ends SampleLimit o = after_over SampleLimit o
-      after_ends RoundLimit o = after_over RoundLimit o
-      after_ends ValueLimit o = after_over ValueLimit o
       after_ends NoMemory o = seen (old.trace ++ (left_traced old.section ++ EndedItem NoMemory ∷ [])) (ap (λ s. s.trace) o.new_is) (after_end old.trace old.section NoMemory)
+      after_ends end o = after_over end o
 
       after_gives : (step : Step) → Gives a b run old new step → R old.trace new.trace
       after_gives (Sampled entry) g = seen (trace_paused old.trace g.paused) (ap (λ s. s.trace) g.new_is) (after_pause old.trace g.paused)

@@ -7,7 +7,7 @@ use Rattle.std.proofs.lemmas.List.Elements.{All-nil, All-cons, All-head, All-tai
 use Rattle.jm_base.specs.declared.types.Entry.{Entry}
 use Rattle.jm_base.specs.declared.types.Sample.{Sample}
 use Rattle.jm_base.specs.declared.types.End.{End}
-use Rattle.jm_base.specs.declared.types.End.TheVariants.{Completed, StopThread, StopTest, Stopped, SampleLimit, RoundLimit, ValueLimit, NoMemory}
+use Rattle.jm_base.specs.declared.types.End.TheVariants.{Stopped, NoMemory}
 use Rattle.jm_base.specs.declared.types.Heard.{Heard}
 use Rattle.jm_base.specs.Run.{Run, over, give, Event, Waited, Sampled, Nothing, Entered, Left, Ended, over_value}
 use Rattle.jm_base.specs.Outside.{Account, Goes, Path, Scripts, Replays, list_form, script_form}
@@ -358,24 +358,13 @@ module _ (start now later : Account) (options : Options) (w new : Standing) (non
 
   -- the thread has ended
   pub has_run : (end : End) → Ends now later (rest w) w new end → HasRun start later w.plan w.thread options new.trace end
-  has_run Completed o = ran_over Completed o
-  has_run StopThread o = ran_over StopThread o
-  has_run StopTest o = ran_over StopTest o
   has_run Stopped o = o
-  has_run SampleLimit o = ran_over SampleLimit o
-  has_run RoundLimit o = ran_over RoundLimit o
-  has_run ValueLimit o = ran_over ValueLimit o
   has_run NoMemory cut = was_cut start now later options w new none free goes_on cut stands
+  has_run end o = ran_over end o
 
 over_ends : (a b : Account) (run : Run (Unit {0})) (old new : Standing) (end : End) → Ends a b run old new end → new.ended ≡ true
-over_ends a b run old new Completed o = ap (λ s. s.ended) o.new_is
-over_ends a b run old new StopThread o = ap (λ s. s.ended) o.new_is
-over_ends a b run old new StopTest o = ap (λ s. s.ended) o.new_is
 over_ends a b run old new Stopped o = absurd o
-over_ends a b run old new SampleLimit o = ap (λ s. s.ended) o.new_is
-over_ends a b run old new RoundLimit o = ap (λ s. s.ended) o.new_is
-over_ends a b run old new ValueLimit o = ap (λ s. s.ended) o.new_is
-over_ends a b run old new NoMemory o = ap (λ s. s.ended) o.new_is
+over_ends a b run old new end o = ap (λ s. s.ended) o.new_is
 
 -- a thread that says its end has ended
 pub over_with : (a b : Account) (old new : Standing) (end : End) → Steps a b old new (StepEnded end) → new.ended ≡ true
@@ -478,14 +467,9 @@ module _ (a b : Account) (run : Run (Unit {0})) (old new : Standing) where
   over_on end o = record { owed = ap (λ s. s.owed) o.new_is; entering = ap (λ s. s.entering) o.new_is; plan = ap (λ s. s.plan) o.new_is; thread = ap (λ s. s.thread) o.new_is; fewer = o.fewer }
 
   pub ended_on : (end : End) → Ends a b run old new end → EndedOn old new
-  ended_on Completed o = over_on Completed o
-  ended_on StopThread o = over_on StopThread o
-  ended_on StopTest o = over_on StopTest o
   ended_on Stopped o = absurd o
-  ended_on SampleLimit o = over_on SampleLimit o
-  ended_on RoundLimit o = over_on RoundLimit o
-  ended_on ValueLimit o = over_on ValueLimit o
   ended_on NoMemory o = record { owed = ap (λ s. s.owed) o.new_is; entering = ap (λ s. s.entering) o.new_is; plan = ap (λ s. s.plan) o.new_is; thread = ap (λ s. s.thread) o.new_is; fewer = o.fewer }
+  ended_on end o = over_on end o
 
   gives_thread : (step : Step) → Gives a b run old new step → SameThread old new
   gives_thread (StepSampled entry) g = record { plan = ap (λ s. s.plan) g.new_is; thread = ap (λ s. s.thread) g.new_is }

@@ -9,6 +9,7 @@ pub mod Summing
 pub mod Ends
 pub mod Sound
 pub mod Appended
+pub mod Pairs
 pub mod Intervals
 pub mod Counts
 pub mod PlaceLaws

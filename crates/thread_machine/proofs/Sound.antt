@@ -3,7 +3,7 @@ use Rattle.std.proofs.Common.{◌≡◌, ℕ, ◌+◌, ◌≤◌, zero, suc, ◌
 use Rattle.std.specs.Prelude.{All, IfSome}
 use Rattle.std.proofs.lemmas.List.Elements.{All-push}
 use Rattle.jm_base.specs.declared.types.End.{End}
-use Rattle.jm_base.specs.declared.types.End.TheVariants.{Completed, StopThread, StopTest, Stopped, SampleLimit, RoundLimit, ValueLimit, NoMemory}
+use Rattle.jm_base.specs.declared.types.End.TheVariants.{Stopped, NoMemory}
 use Rattle.jm_base.specs.declared.types.Sample.{Sample}
 use Rattle.jm_base.specs.Run.{Run, Giver}
 use Rattle.jm_base.specs.Outside.{Account}
@@ -106,14 +106,9 @@ module _ (a b : Account) (run : Run (Unit {0})) (s : Standing) (new : Runner) (n
       sound_ended s.plan s.trace s.section end new t (ap (λ s. s.plan) over.new_is) (ap (λ s. s.trace) over.new_is ∙ ap (λ xs. s.trace ++ xs) (sym same)) settled
 
   by_end : (end : End) → Ends a b run s (standing_of new true) end → HasSettled new → IsSound new true
-  by_end Completed over settled = over_sound Completed over settled
-  by_end StopThread over settled = over_sound StopThread over settled
-  by_end StopTest over settled = over_sound StopTest over settled
   by_end Stopped over settled = absurd over
-  by_end SampleLimit over settled = over_sound SampleLimit over settled
-  by_end RoundLimit over settled = over_sound RoundLimit over settled
-  by_end ValueLimit over settled = over_sound ValueLimit over settled
   by_end NoMemory cut settled = sound_ended s.plan s.trace s.section NoMemory new t (ap (λ s. s.plan) cut.new_is) (ap (λ s. s.trace) cut.new_is) settled
+  by_end end over settled = over_sound end over settled
 
   gives_sound : (step : Step) → Gives a b run s (standing_of new (is_end step)) step → GoesOnAfter new step → IsSound new (is_end step)
   gives_sound (Sampled entry) g on =

@@ -230,14 +230,9 @@ finished a b w mid new s end move step move_is is closed goes mid_is new_is item
 
 ends_behind : (a m b : Account) (run run' : Run (Unit {0})) (w : Standing) (begun : Bool) (user : UserState) (config : Config) (machine : Position) (new : Standing) (end : End) → Goes a run [] run' m
     → Ends m b run' (record w { begun = begun; user = user; config = config; machine = machine }) new end → Ends a b run w new end
-ends_behind a m b run run' w begun user config machine new Completed go g = record { goes = goes-append go g.goes; settled = g.settled; fewer = g.fewer; new_is = g.new_is }
-ends_behind a m b run run' w begun user config machine new StopThread go g = record { goes = goes-append go g.goes; settled = g.settled; fewer = g.fewer; new_is = g.new_is }
-ends_behind a m b run run' w begun user config machine new StopTest go g = record { goes = goes-append go g.goes; settled = g.settled; fewer = g.fewer; new_is = g.new_is }
 ends_behind a m b run run' w begun user config machine new Stopped go g = g
-ends_behind a m b run run' w begun user config machine new SampleLimit go g = record { goes = goes-append go g.goes; settled = g.settled; fewer = g.fewer; new_is = g.new_is }
-ends_behind a m b run run' w begun user config machine new RoundLimit go g = record { goes = goes-append go g.goes; settled = g.settled; fewer = g.fewer; new_is = g.new_is }
-ends_behind a m b run run' w begun user config machine new PastValueLimit go g = record { goes = goes-append go g.goes; settled = g.settled; fewer = g.fewer; new_is = g.new_is }
 ends_behind a m b run run' w begun user config machine new EndNoMemory go g = record { left = g.left; goes = goes-append go g.goes; fewer = g.fewer; new_is = g.new_is }
+ends_behind a m b run run' w begun user config machine new end go g = record { goes = goes-append go g.goes; settled = g.settled; fewer = g.fewer; new_is = g.new_is }
 
 step_behind : (a m b : Account) (run run' : Run (Unit {0})) (w : Standing) (begun : Bool) (user : UserState) (config : Config) (machine : Position) (new : Standing) (step : Step) → Goes a run [] run' m
     → Gives m b run' (record w { begun = begun; user = user; config = config; machine = machine }) new step → Gives a b run w new step

@@ -20,18 +20,10 @@ bare trace = map bare_item trace
 
 -- a sample was counted in this interval
 abbrev pub IsCountedIn : ℕ → TraceItem → Type 0
-IsCountedIn k (PausedItem ms) = Unit {0}
 IsCountedIn k (SampledItem sample interval) = interval ≡ k
-IsCountedIn k (NullItem sampler) = Unit {0}
-IsCountedIn k (EnteredItem lock place) = Unit {0}
-IsCountedIn k (LeftItem lock) = Unit {0}
-IsCountedIn k (EndedItem end) = Unit {0}
+IsCountedIn k item = Unit {0}
 
 -- a sample's label is one of this many labels
 abbrev pub IsLabelled : ℕ → TraceItem → Type 0
-IsLabelled labels (PausedItem ms) = Unit {0}
 IsLabelled labels (SampledItem sample interval) = sample.label < labels
-IsLabelled labels (NullItem sampler) = Unit {0}
-IsLabelled labels (EnteredItem lock place) = Unit {0}
-IsLabelled labels (LeftItem lock) = Unit {0}
-IsLabelled labels (EndedItem end) = Unit {0}
+IsLabelled labels item = Unit {0}

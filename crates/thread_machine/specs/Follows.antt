@@ -1,7 +1,7 @@
 -- What the trace of a thread that has ended says.
 use Rattle.std.specs.Prelude.{◌≡◌, ◌⊎◌, ℕ, List, [], ◌∷◌, ◌++◌, map, All, Some, None}
 use Rattle.jm_base.specs.declared.types.End.{End}
-use Rattle.jm_base.specs.declared.types.End.TheVariants.{Completed, StopThread, StopTest, Stopped, SampleLimit, RoundLimit, ValueLimit, NoMemory}
+use Rattle.jm_base.specs.declared.types.End.TheVariants.{Stopped, NoMemory}
 use Rattle.jm_base.specs.declared.types.Heard.{Heard}
 use Rattle.jm_base.specs.Run.{Run, Event, give, over_value}
 use Rattle.jm_base.specs.Outside.{Account, Scripts, list_form, script_form, Path}
@@ -93,11 +93,6 @@ pub record WasCut (start now : Account) (plan : Tree) (thread : ℕ) (options : 
 
 -- how the trace of a thread with this end stands, of one that wasn't stopped
 abbrev pub HasRun : Account → Account → Tree → ℕ → Options → List TraceItem → End → Type 0
-HasRun start now plan thread options trace Completed = Follows start now plan thread options trace Completed
-HasRun start now plan thread options trace StopThread = Follows start now plan thread options trace StopThread
-HasRun start now plan thread options trace StopTest = Follows start now plan thread options trace StopTest
 HasRun start now plan thread options trace Stopped = ⊥
-HasRun start now plan thread options trace SampleLimit = Follows start now plan thread options trace SampleLimit
-HasRun start now plan thread options trace RoundLimit = Follows start now plan thread options trace RoundLimit
-HasRun start now plan thread options trace ValueLimit = Follows start now plan thread options trace ValueLimit
 HasRun start now plan thread options trace NoMemory = WasCut start now plan thread options trace
+HasRun start now plan thread options trace end = Follows start now plan thread options trace end

@@ -3,6 +3,7 @@ pub mod Bare
 pub mod SectionOrder
 pub mod Standing
 pub mod Stepped
+pub mod Paired
 pub mod Follows
 pub mod Inside
 pub mod Ran

@@ -5,16 +5,12 @@ use Rattle.thread_machine.specs.SectionOrder.{sections_in}
 use Rattle.thread_machine.specs.Inside.{owed_count}
 use Rattle.thread_machine.specs.Standing.{Standing}
 use Rattle.thread_machine.specs.declared.trace.TraceItem.{TraceItem}
-use Rattle.thread_machine.specs.declared.trace.TraceItem.TheVariants.{Paused, Sampled, Null, Entered, Left, Ended}
+use Rattle.thread_machine.specs.declared.trace.TraceItem.TheVariants.{Sampled}
 
 -- 1 for a sample, and 0 for any other item
 abbrev pub one_if_sample : TraceItem → ℕ
-one_if_sample (Paused ms) = 0
 one_if_sample (Sampled sample interval) = 1
-one_if_sample (Null sampler) = 0
-one_if_sample (Entered lock place) = 0
-one_if_sample (Left lock) = 0
-one_if_sample (Ended end) = 0
+one_if_sample item = 0
 
 -- how many samples a trace has
 abbrev pub samples_in : List TraceItem → ℕ

@@ -3,7 +3,7 @@ use Rattle.std.specs.Prelude.{◌≡◌, ◌⊎◌, ℕ, zero, suc, ◌-◌, ◌
 use Rattle.jm_base.specs.declared.types.Entry.{Entry}
 use Rattle.jm_base.specs.declared.types.Sample.{Sample}
 use Rattle.jm_base.specs.declared.types.End.{End}
-use Rattle.jm_base.specs.declared.types.End.TheVariants.{Completed, StopThread, StopTest, Stopped, SampleLimit, RoundLimit, ValueLimit, NoMemory}
+use Rattle.jm_base.specs.declared.types.End.TheVariants.{Stopped, NoMemory}
 use Rattle.jm_base.specs.Run.{Run, over, give, Event, Waited, Sampled, Nothing, Entered, Left, Ended, Giver, Sampler, Transaction}
 use Rattle.jm_base.specs.Outside.{Account, Goes}
 use Rattle.element_tree.specs.declared.kinds.Element.{Element}
@@ -124,14 +124,9 @@ pub record IsCut (before after : Account) (run : Run (Unit {0})) (old new : Stan
   pub new_is : new ≡ record old { begun = new.begun; user = new.user; units = new.units; config = new.config; machine = new.machine; section = None; trace = old.trace ++ (left_traced old.section ++ EndedItem NoMemory ∷ []); ended = true }
 
 abbrev pub Ends : Account → Account → Run (Unit {0}) → Standing → Standing → End → Type 0
-Ends before after run old new Completed = IsOver before after run old new Completed
-Ends before after run old new StopThread = IsOver before after run old new StopThread
-Ends before after run old new StopTest = IsOver before after run old new StopTest
 Ends before after run old new Stopped = ⊥
-Ends before after run old new SampleLimit = IsOver before after run old new SampleLimit
-Ends before after run old new RoundLimit = IsOver before after run old new RoundLimit
-Ends before after run old new ValueLimit = IsOver before after run old new ValueLimit
 Ends before after run old new NoMemory = IsCut before after run old new
+Ends before after run old new end = IsOver before after run old new end
 
 -- what a step that answers so has done of this run, which was left after the pause
 abbrev pub Gives : Account → Account → Run (Unit {0}) → Standing → Standing → Step → Type 0

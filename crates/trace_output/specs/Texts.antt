@@ -11,16 +11,12 @@ use Rattle.output_lines.specs.Bulk.{LinesOf}
 use Rattle.output_lines.specs.Reports.{report_text}
 use Rattle.output_lines.specs.Lines.{result_text, end_text}
 use Rattle.thread_machine.specs.declared.trace.TraceItem.{TraceItem}
-use Rattle.thread_machine.specs.declared.trace.TraceItem.TheVariants.{Paused, Sampled, Null, Entered, Left, Ended}
+use Rattle.thread_machine.specs.declared.trace.TraceItem.TheVariants.{Sampled, Ended}
 
 -- the line of a sample, with the interval in which it was counted; other items have none
 abbrev pub line_of : Tree → ℕ → TraceItem → List ℕ
-line_of plan thread (Paused ms) = []
 line_of plan thread (Sampled sample interval) = result_text plan thread sample interval
-line_of plan thread (Null sampler) = []
-line_of plan thread (Entered lock place) = []
-line_of plan thread (Left lock) = []
-line_of plan thread (Ended end) = []
+line_of plan thread item = []
 
 -- the lines of a thread's trace
 abbrev pub trace_text : Tree → ℕ → List TraceItem → List ℕ
@@ -36,12 +32,8 @@ pub record AddsLines (lines : LinesOf) (items : List TraceItem) (most : ℕ) (ol
 
 -- how a thread has ended, by an item of its trace
 abbrev pub end_in : TraceItem → Option End
-end_in (Paused ms) = None
-end_in (Sampled sample interval) = None
-end_in (Null sampler) = None
-end_in (Entered lock place) = None
-end_in (Left lock) = None
 end_in (Ended end) = Some end
+end_in item = None
 
 -- how a thread has ended, by the last item of its trace
 abbrev pub end_of : List TraceItem → Option End

@@ -3,7 +3,7 @@ use Rattle.std.proofs.Common.{◌≡◌, inl, inr, ℕ, zero, suc, ◌+◌, ◌<
 use Rattle.std.specs.Prelude.{IfSome, Result, Ok, Err, OnOk, slice_get, ◌&&◌}
 use Rattle.std.proofs.lemmas.Option.{slice_get-get_or, slice_get_past}
 use Rattle.jm_base.specs.declared.types.End.{End}
-use Rattle.jm_base.specs.declared.types.End.TheVariants.{Completed, StopThread, StopTest, Stopped, SampleLimit, RoundLimit, ValueLimit, NoMemory}
+use Rattle.jm_base.specs.declared.types.End.TheVariants.{Stopped, NoMemory}
 use Rattle.jm_base.specs.declared.types.Entry.{Entry}
 use Rattle.jm_base.specs.declared.types.Sample.{Sample}
 use Rattle.jm_base.specs.Outside.{Account}
@@ -21,7 +21,7 @@ use Rattle.weave_engine.specs.Steps.{Thread}
 use Rattle.weave_engine.specs.Seats.{SeatIs, IsNoMemory, owed_after, StandsFor, SeatStands, KeepsOn, AllStand, AllKeepOn, AllClosed, traces_in, first_outside, AreSeats, all_seats_settled, is_settled, is_nothing}
 use Rattle.outside_world.specs.Scripted.{scripts_of}
 use Rattle.thread_machine.specs.declared.trace.TraceItem.{TraceItem}
-use Rattle.weave_engine.specs.Books.{Followed, AllFollow}
+use Rattle.weave_engine.specs.Followed.{Followed, AllFollow}
 use Rattle.weave_engine.proofs.StartLaws.{pushed}
 use Rattle.thread_machine.proofs.Ends.{begun_on, ended_on, thread_same}
 use Rattle.weave_engine.proofs.SeatLaws.{none_owed, record_of, enters_by, worker_entered}
@@ -159,14 +159,9 @@ all_closed seats ts are quiet k x there = closed_at 0 seats ts k x are there (se
 -- a thread that has run to an end which is not out of memory shows all of its events
 script_of : (now : Account) (plan : Tree) (options : Options) (d : ℕ) (trace : List TraceItem) (end : End) → (IsNoMemory end → ⊥) → HasRun (first_outside plan) now plan d options trace end
     → IsScripted plan d options (scripts_of plan) trace
-script_of now plan options d trace Completed memory f = f.scripted (scripts_of plan) refl
-script_of now plan options d trace StopThread memory f = f.scripted (scripts_of plan) refl
-script_of now plan options d trace StopTest memory f = f.scripted (scripts_of plan) refl
 script_of now plan options d trace Stopped memory f = absurd f
-script_of now plan options d trace SampleLimit memory f = f.scripted (scripts_of plan) refl
-script_of now plan options d trace RoundLimit memory f = f.scripted (scripts_of plan) refl
-script_of now plan options d trace ValueLimit memory f = f.scripted (scripts_of plan) refl
 script_of now plan options d trace NoMemory memory f = absurd (memory tt)
+script_of now plan options d trace end memory f = f.scripted (scripts_of plan) refl
 
 same_trace : {a b : List TraceItem} → Some a ≡ Some b → b ≡ a
 same_trace h = cc

@@ -25,7 +25,7 @@ use Rattle.phaser_core.proofs.Lists.{set_here, set_else}
 use Rattle.weave_engine.specs.declared.seat.Seat.{Seat}
 use Rattle.weave_engine.specs.Turns.{Weave, is_idle, closing_in}
 use Rattle.weave_engine.specs.Seats.{Runs, StageOf, all_seats_settled, lists_of, JoinsTo, IsJoined}
-use Rattle.weave_engine.specs.Books.{pairs_of}
+use Rattle.thread_machine.specs.Paired.{pairs}
 use Rattle.weave_engine.proofs.ReporterLaws.{closing_is, settled_owes, some_seat, reporter_there}
 use Rattle.weave_engine.proofs.StartLaws.{below_or}
 
@@ -84,9 +84,9 @@ joins_none n seats core s runs quiet idle =
 
 -- One more
 
-lists_push : (xs : List Seat) (x : Seat) → lists_of (xs ++ x ∷ []) ≡ lists_of xs ++ pairs_of x.worker.trace ∷ []
+lists_push : (xs : List Seat) (x : Seat) → lists_of (xs ++ x ∷ []) ≡ lists_of xs ++ pairs x.worker.trace ∷ []
 lists_push [] x = refl
-lists_push (y ∷ ys) x = ap (λ l. pairs_of y.worker.trace ∷ l) (lists_push ys x)
+lists_push (y ∷ ys) x = ap (λ l. pairs y.worker.trace ∷ l) (lists_push ys x)
 
 pub joins_more : (n : Numbers) (k : ℕ) (seats : List Seat) (state : CoreState) → k < length seats → JoinsTo k seats state.1 → JoinsTo (k + 1) seats (next_state n state (Join k)).1
 joins_more n k seats state within h =

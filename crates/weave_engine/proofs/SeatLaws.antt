@@ -328,14 +328,9 @@ module _ (seat new : Seat) (t : Thread) (is : SeatIs seat t) (free : seat.owed �
         }
 
     made_ended : (end : End) → Ends m new.outside (rest between) between new.worker end → (IsNoMemory end → ⊥) → new.owed ≡ owed_after end → new.ended ≡ true → new.section ≡ seat.section → MakesStep t None new
-    made_ended Completed g memory owed ended open_ = made_end Completed g owed ended open_
-    made_ended StopThread g memory owed ended open_ = made_end StopThread g owed ended open_
-    made_ended StopTest g memory owed ended open_ = made_end StopTest g owed ended open_
     made_ended Stopped g memory owed ended open_ = absurd g
-    made_ended SampleLimit g memory owed ended open_ = made_end SampleLimit g owed ended open_
-    made_ended RoundLimit g memory owed ended open_ = made_end RoundLimit g owed ended open_
-    made_ended ValueLimit g memory owed ended open_ = made_end ValueLimit g owed ended open_
     made_ended NoMemory g memory owed ended open_ = absurd (memory tt)
+    made_ended end g memory owed ended open_ = made_end end g owed ended open_
 
   pub step_sample : (entry : Entry) → Steps seat.outside new.outside seat.worker new.worker (SampledStep entry) → new.owed ≡ by.Record entry 0 0 → new.ended ≡ seat.ended → new.section ≡ seat.section → MakesStep t None new
   step_sample entry s owed ended open_ = made_sample s.begun s.between s.begins entry s.gives owed ended open_
@@ -570,14 +565,9 @@ left_section a b old new lock s =
 
 -- of a thread that ended, unless it was out of memory
 end_section : (m b : Account) (run : Run (Unit {0})) (between new : Standing) (end : End) → (IsNoMemory end → ⊥) → Ends m b run between new end → new.section ≡ between.section
-end_section m b run between new Completed memory g = ap (λ w. w.section) g.new_is
-end_section m b run between new StopThread memory g = ap (λ w. w.section) g.new_is
-end_section m b run between new StopTest memory g = ap (λ w. w.section) g.new_is
 end_section m b run between new Stopped memory g = absurd g
-end_section m b run between new SampleLimit memory g = ap (λ w. w.section) g.new_is
-end_section m b run between new RoundLimit memory g = ap (λ w. w.section) g.new_is
-end_section m b run between new ValueLimit memory g = ap (λ w. w.section) g.new_is
 end_section m b run between new NoMemory memory g = absurd (memory tt)
+end_section m b run between new end memory g = ap (λ w. w.section) g.new_is
 
 pub ended_section : (a b : Account) (old new : Standing) (end : End) → (IsNoMemory end → ⊥) → Steps a b old new (EndedStep end) → new.section ≡ old.section
 ended_section a b old new end memory s = end_section s.begun b (rest s.between) s.between new end memory s.gives ∙ (begun_on a s.begun old s.between s.begins).section

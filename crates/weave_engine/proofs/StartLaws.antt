@@ -20,7 +20,7 @@ use Rattle.weave_engine.specs.Steps.{Nought, Thread, steps_of}
 use Rattle.weave_engine.specs.Turns.{Weave}
 use Rattle.weave_engine.specs.Woven.{Runs, AllRun, at_end, first, thread_at_start, numbers_of}
 use Rattle.weave_engine.specs.Seats.{OwesSame, SeatIs, AreSeats, CoreIs, events_over, IsFresh, AllFresh, HasRoom, Writes, AreWriters, StageOf, LabelIn, pending_of, units_in, Runs as SeatsRun}
-use Rattle.weave_engine.specs.Books.{pairs_of}
+use Rattle.thread_machine.specs.Paired.{pairs}
 use Rattle.std.specs.Prelude.{slice_get, unwrap_or, nat_lt, ◌-◌}
 use Rattle.std.proofs.lemmas.Option.{slice_get_past}
 use Rattle.std.proofs.lemmas.List.{length-append, length-set}
@@ -174,10 +174,10 @@ writers_start plan options seats fresh count some_thread =
       within k x there = let p = past seats k x there in omega (arith, p, count, some_thread)
 
       by_fresh : (m : ℕ) → SplitViews m (split_to (numbers_of plan options) m).1 → (k : ℕ) (x : Seat) → IsFresh plan options.budget x → k < m + 1
-          → HasRoom (numbers_of plan options) x × Writes (split_to (numbers_of plan options) m).1 k x.owed (pairs_of x.worker.trace)
+          → HasRoom (numbers_of plan options) x × Writes (split_to (numbers_of plan options) m).1 k x.owed (pairs x.worker.trace)
       by_fresh m split k x f less =
           let w = writer_there m (split_to (numbers_of plan options) m).1 split k less in
-          let none : length (pairs_of x.worker.trace) ≡ 0 = ap (λ t. length (pairs_of t)) f.no_items in
+          let none : length (pairs x.worker.trace) ≡ 0 = ap (λ t. length (pairs t)) f.no_items in
           let pends : pending_of x.owed ≡ 0 = ap pending_of f.owes_nothing in
           let left : units_in x.ended x.worker.units ≡ options.budget = ap (λ b. units_in b x.worker.units) f.goes_on ∙ f.units in (
             record {
@@ -190,7 +190,7 @@ writers_start plan options seats fresh count some_thread =
               there = w.1;
               number = w.2;
               stage = subst (λ o. StageOf o w.0.stage) (sym f.owes_nothing) w.3;
-              list_is = w.4 ∙ ap pairs_of (sym f.no_items);
+              list_is = w.4 ∙ ap pairs (sym f.no_items);
             },
           )
 

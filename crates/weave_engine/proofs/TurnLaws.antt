@@ -18,7 +18,7 @@ use Rattle.phaser_core.specs.Cells.{is_odd}
 use Rattle.weave_engine.specs.Steps.{Owed, Nought, Record, Section, Stop, Thread, record_steps, shows, owes, opens, all_happen, stopped}
 use Rattle.weave_engine.specs.Turns.{Weave, thread_turn, turn_of, owed_turn, record_turn, interval_after, recorded, try_turn, free_turn, looked_turn, step_turn, lock_left, with_thread, with_locks, core_moves}
 use Rattle.weave_engine.specs.Seats.{SeatIs, MakesStep, RecordedAs, Records, OwesSame, CoreIs, AreSeats, Runs, RunsOn, Turned, HasRoom, Writes, Wrote, AreWriters, StepsOut, RecordsOn, IsNext, owed_then, pair_then, pending_of, LabelIn}
-use Rattle.weave_engine.specs.Books.{pairs_of}
+use Rattle.thread_machine.specs.Paired.{pairs}
 use Rattle.phaser_core.specs.declared.view.View.{View}
 use Rattle.weave_engine.proofs.StageLaws.{record_wrote, looked_out, raised_out}
 use Rattle.weave_engine.proofs.SeatLaws.{going_on, none_to_come, none_owed, record_of, enters_by}
@@ -34,9 +34,9 @@ module _ (n : Numbers) (s : Weave) (d : ℕ) (t : Thread) (there : slice_get s.t
   turned_with t' state locks = record { threads = slice_set s.threads d t'; core = state; locks = locks }
 
   module _ (seat new : Seat) (core after : Shape) (is : SeatIs seat t) (core_is : CoreIs core n s.core)
-      (has_room : HasRoom n seat) (writes : Writes s.core.1 d seat.owed (pairs_of seat.worker.trace)) where
-    out_by : (e : CoreEvent) → Wrote s.core.1 (next_state n s.core e).1 d by.Nothing (pairs_of seat.worker.trace) → StepsOut seat new
-        → Wrote s.core.1 (next_state n s.core e).1 d new.owed (pairs_of new.worker.trace)
+      (has_room : HasRoom n seat) (writes : Writes s.core.1 d seat.owed (pairs seat.worker.trace)) where
+    out_by : (e : CoreEvent) → Wrote s.core.1 (next_state n s.core e).1 d by.Nothing (pairs seat.worker.trace) → StepsOut seat new
+        → Wrote s.core.1 (next_state n s.core e).1 d new.owed (pairs new.worker.trace)
     out_by e w o = record {
       writes = record {
         writer = w.writes.writer;
@@ -68,13 +68,13 @@ module _ (n : Numbers) (s : Weave) (d : ℕ) (t : Thread) (there : slice_get s.t
           wrote =
               (let pends : pending_of seat.owed ≡ 1 = ap pending_of owed in
               let room = has_room.room in
-              let stands : Writes s.core.1 d (by.Record entry done interval) (pairs_of seat.worker.trace) = subst (λ o. Writes s.core.1 d o (pairs_of seat.worker.trace)) owed writes in
+              let stands : Writes s.core.1 d (by.Record entry done interval) (pairs seat.worker.trace) = subst (λ o. Writes s.core.1 d o (pairs seat.worker.trace)) owed writes in
               let label : entry.label < n.labels = subst (LabelIn n.labels) owed has_room.label in
-              let one = record_wrote n s.core d entry done interval (pairs_of seat.worker.trace) event rest last stands r.more (omega (arith, pends, room)) label
+              let one = record_wrote n s.core d entry done interval (pairs seat.worker.trace) event rest last stands r.more (omega (arith, pends, room)) label
               (subst (λ k. IsNext (drop done (record_steps k entry)) event rest last) number is_next) in
-              let two : Wrote s.core.1 (next_state n s.core event).1 d (owed_then last entry (done + 1) found) (pairs_of seat.worker.trace ++ pair_then last entry found) =
-              subst (λ k. Wrote s.core.1 (next_state n s.core event).1 d (owed_then last entry (done + 1) k) (pairs_of seat.worker.trace ++ pair_then last entry k)) (sym found_there) one in
-              subst (λ o. Wrote s.core.1 (next_state n s.core event).1 d o (pairs_of new.worker.trace)) (sym on.owed)
+              let two : Wrote s.core.1 (next_state n s.core event).1 d (owed_then last entry (done + 1) found) (pairs seat.worker.trace ++ pair_then last entry found) =
+              subst (λ k. Wrote s.core.1 (next_state n s.core event).1 d (owed_then last entry (done + 1) k) (pairs seat.worker.trace ++ pair_then last entry k)) (sym found_there) one in
+              subst (λ o. Wrote s.core.1 (next_state n s.core event).1 d o (pairs new.worker.trace)) (sym on.owed)
               (subst (Wrote s.core.1 (next_state n s.core event).1 d (owed_then last entry (done + 1) found)) (sym on.list) two));
         }
 
@@ -103,8 +103,8 @@ module _ (n : Numbers) (s : Weave) (d : ℕ) (t : Thread) (there : slice_get s.t
               (let pends : pending_of seat.owed ≡ 0 = ap pending_of owed in
               let room = has_room.room in
               subst (HasRoom n) (sym new_is) (record { room = omega (arith, pends, room); labels = has_room.labels; label = tt }));
-          wrote = subst (λ (x : Seat). Wrote s.core.1 (next_state n s.core (RaiseStop d)).1 d x.owed (pairs_of x.worker.trace)) (sym new_is)
-              (raised_out n s.core.0 s.core.1 d (pairs_of seat.worker.trace) (subst (λ o. Writes s.core.1 d o (pairs_of seat.worker.trace)) owed writes));
+          wrote = subst (λ (x : Seat). Wrote s.core.1 (next_state n s.core (RaiseStop d)).1 d x.owed (pairs x.worker.trace)) (sym new_is)
+              (raised_out n s.core.0 s.core.1 d (pairs seat.worker.trace) (subst (λ o. Writes s.core.1 d o (pairs seat.worker.trace)) owed writes));
         }
 
     -- a try to enter
@@ -123,7 +123,7 @@ module _ (n : Numbers) (s : Weave) (d : ℕ) (t : Thread) (there : slice_get s.t
       core_is = subst (λ c. CoreIs c n s.core) (sym after_is) core_is;
       room = subst (HasRoom n) (sym new_is) has_room;
       wrote = record {
-        writes = subst (λ (x : Seat). Writes s.core.1 d x.owed (pairs_of x.worker.trace)) (sym new_is) writes;
+        writes = subst (λ (x : Seat). Writes s.core.1 d x.owed (pairs x.worker.trace)) (sym new_is) writes;
         others = λ k ne. refl;
         ports = refl;
       };
@@ -133,7 +133,7 @@ module _ (n : Numbers) (s : Weave) (d : ℕ) (t : Thread) (there : slice_get s.t
     pub entered_turned : (locks : List ℕ) → s.locks ≡ locks → (lock : ℕ) → seat.owed ≡ by.Enter lock → is_odd (slice_index locks lock) ≡ false
         → SeatIs new (opens (Some lock) (owes Nought (shows (EnteredItem lock (slice_index locks lock / 2)) t))) → StepsOut seat new → after ≡ core → Turned n d s new after (lock_left (Some lock) locks)
     entered_turned locks words lock owed even seat_is out after_is =
-        let stands : Writes s.core.1 d (by.Enter lock) (pairs_of seat.worker.trace) = subst (λ o. Writes s.core.1 d o (pairs_of seat.worker.trace)) owed writes in
+        let stands : Writes s.core.1 d (by.Enter lock) (pairs seat.worker.trace) = subst (λ o. Writes s.core.1 d o (pairs seat.worker.trace)) owed writes in
         record {
           thread = opens (Some lock) (owes Nought (shows (EnteredItem lock (slice_index locks lock / 2)) t));
           state = s.core;
@@ -170,14 +170,14 @@ module _ (n : Numbers) (s : Weave) (d : ℕ) (t : Thread) (there : slice_get s.t
         core_is = subst (λ c. CoreIs c n s.core) (sym after_is) core_is;
         room = subst (HasRoom n) (sym new_is) has_room;
         wrote = record {
-          writes = subst (λ (x : Seat). Writes s.core.1 d x.owed (pairs_of x.worker.trace)) (sym new_is) writes;
+          writes = subst (λ (x : Seat). Writes s.core.1 d x.owed (pairs x.worker.trace)) (sym new_is) writes;
           others = λ k ne. refl;
           ports = refl;
         };
       }
 
-      looked_wrote : StepsOut seat new → Wrote s.core.1 (next_state n s.core (LookStop d)).1 d new.owed (pairs_of new.worker.trace)
-      looked_wrote o = out_by (LookStop d) (looked_out n s.core.0 s.core.1 d (pairs_of seat.worker.trace) (subst (λ o. Writes s.core.1 d o (pairs_of seat.worker.trace)) free writes)) o
+      looked_wrote : StepsOut seat new → Wrote s.core.1 (next_state n s.core (LookStop d)).1 d new.owed (pairs new.worker.trace)
+      looked_wrote o = out_by (LookStop d) (looked_out n s.core.0 s.core.1 d (pairs seat.worker.trace) (subst (λ o. Writes s.core.1 d o (pairs seat.worker.trace)) free writes)) o
 
       -- after the look at the stop word
       looked : seat.ended ≡ false → (b : Bool) → (slice_index core.words 4 == 1) ≡ b → thread_turn n d s ≡ looked_turn b d t (core_moves n (LookStop d) s)
@@ -255,7 +255,7 @@ set_at (z ∷ zs) (suc d) (suc k) y x h = elim (set_at zs d k y x h) [
 ]
 
 writes_else : (before after : List View) (d k : ℕ) (owed : OwedBy) (list : List Pair) (w : Wrote before after d owed list) (x : Seat) → (k ≡ d → ⊥)
-    → Writes before k x.owed (pairs_of x.worker.trace) → Writes after k x.owed (pairs_of x.worker.trace)
+    → Writes before k x.owed (pairs x.worker.trace) → Writes after k x.owed (pairs x.worker.trace)
 writes_else before after d k owed list w x ne h = record {
   writer = h.writer;
   there = w.others (k + 1) (λ e. ne (omega (arith, e))) ∙ h.there;
@@ -264,14 +264,14 @@ writes_else before after d k owed list w x ne h = record {
   list_is = h.list_is;
 }
 
-writers_set : (n : Numbers) (seats : List Seat) (before after : List View) (d : ℕ) (new : Seat) → AreWriters n seats before → HasRoom n new → Wrote before after d new.owed (pairs_of new.worker.trace)
+writers_set : (n : Numbers) (seats : List Seat) (before after : List View) (d : ℕ) (new : Seat) → AreWriters n seats before → HasRoom n new → Wrote before after d new.owed (pairs new.worker.trace)
     → AreWriters n (set seats d new) after
 writers_set n seats before after d new are room w = record {
   ports = w.ports ∙ are.ports ∙ ap (λ k. k + 1) (sym (length-set seats d new));
   each = λ k x there. elim (set_at seats d k new x there) [
-    | inl p ↦ subst (λ (y : Seat). HasRoom n y × Writes after k y.owed (pairs_of y.worker.trace)) (sym p.1)
-        (room, subst (λ j. Writes after j new.owed (pairs_of new.worker.trace)) (sym p.0) w.writes)
-    | inr q ↦ (let h = are.each k x q.1 in (h.0, writes_else before after d k new.owed (pairs_of new.worker.trace) w x q.0 h.1))
+    | inl p ↦ subst (λ (y : Seat). HasRoom n y × Writes after k y.owed (pairs y.worker.trace)) (sym p.1)
+        (room, subst (λ j. Writes after j new.owed (pairs new.worker.trace)) (sym p.0) w.writes)
+    | inr q ↦ (let h = are.each k x q.1 in (h.0, writes_else before after d k new.owed (pairs new.worker.trace) w x q.0 h.1))
   ];
 }
 

@@ -27,7 +27,8 @@ use Rattle.jm_base.specs.Run.{Event}
 use Rattle.weave_engine.specs.Turns.{Weave, thread_turn, turn_of, owed_turn, try_turn, free_turn, looked_turn, step_turn, core_moves, reporter_turn, turns_to, ends_rounds, closing_of, is_idle, joined_to, reports_in, reports_of}
 use Rattle.weave_engine.specs.Woven.{Runs as RunsAs, AllRun, at_end, first, at_start, numbers_of, CloseIf, Woven}
 use Rattle.weave_engine.specs.Seats.{AreSeats, CoreIs, Runs, RunsOn, Starts, IsJoined, lists_of, traces_in}
-use Rattle.weave_engine.specs.Books.{pairs_of, lists_in, AllKeep}
+use Rattle.thread_machine.specs.Paired.{pairs, pairs_of}
+use Rattle.phaser_core.specs.Keeps.{AllKeep}
 use Rattle.weave_engine.proofs.JoinLaws.{joined_as}
 
 -- No turn changes how many threads there are
@@ -118,9 +119,9 @@ parted n seats core state reports j h =
     subst (λ l. Partition n.labels l reports) (joined_as n seats core state j)
     (subst (λ (m : Numbers). Partition m.labels (joined_lists state.1) reports) j.core_is.numbers (h state.1 j.core_is.shows held))
 
-lists_as : (seats : List Seat) → lists_of seats ≡ lists_in (traces_in seats)
+lists_as : (seats : List Seat) → lists_of seats ≡ pairs_of (traces_in seats)
 lists_as [] = refl
-lists_as (x ∷ xs) = ap (λ l. pairs_of x.worker.trace ∷ l) (lists_as xs)
+lists_as (x ∷ xs) = ap (λ l. pairs x.worker.trace ∷ l) (lists_as xs)
 
 -- the recorder keeps every joined list to its numbers
 all_keep : (n : Numbers) (made : ℕ) (js : List Joined) → AllKept n made js → AllLow js → AllKeep n.labels n.budget (map (λ (j : Joined). j.list) js)
@@ -227,10 +228,10 @@ module _ {plan : Tree} {options : Options} {tokens : List Token} {seats : List S
   }
 
   pub partition : ((views : List View) → Shows core views → RecorderInvariant core.numbers core.words views → Partition core.numbers.labels (joined_lists views) reports)
-      → Partition (length (labels_of plan.elements)) (lists_in (traces_in seats)) reports
+      → Partition (length (labels_of plan.elements)) (pairs_of (traces_in seats)) reports
   partition h = subst (λ l. Partition (length (labels_of plan.elements)) l reports) (lists_as seats)
       (parted (numbers_of plan options) seats core (joined_to (numbers_of plan options) (length (threads_of plan)) before.state.core) reports joined h)
 
-  pub keep : AllKeep (length (labels_of plan.elements)) options.budget (lists_in (traces_in seats))
+  pub keep : AllKeep (length (labels_of plan.elements)) options.budget (pairs_of (traces_in seats))
   keep = subst (AllKeep (length (labels_of plan.elements)) options.budget) (lists_as seats)
       (kept (numbers_of plan options) seats core (joined_to (numbers_of plan options) (length (threads_of plan)) before.state.core) joined)

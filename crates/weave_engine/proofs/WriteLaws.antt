@@ -1,5 +1,5 @@
 -- What steps, stops and records of a thread leave of its writer.
-use Rattle.std.proofs.Common.{◌≡◌, ℕ, ◌+◌, ◌-◌, ◌<◌, ◌≤◌, true, false, List, [], ◌∷◌, ◌++◌, None, Some, length, append-nil, append_assoc, refl, sym, ap, ◌∙◌, subst, arith}
+use Rattle.std.proofs.Common.{◌≡◌, ℕ, ◌+◌, ◌-◌, ◌<◌, ◌≤◌, true, false, [], ◌∷◌, ◌++◌, None, Some, length, append-nil, refl, sym, ap, ◌∙◌, subst, arith}
 use Rattle.std.specs.Prelude.{IfSome, Result, Ok, Err, OnOk}
 use Rattle.std.proofs.lemmas.List.{length-append}
 use Rattle.jm_base.specs.declared.types.End.{End}
@@ -12,34 +12,27 @@ use Rattle.element_tree.specs.Names.{labels_of}
 use Rattle.phaser_core.specs.declared.view.Numbers.{Numbers}
 use Rattle.phaser_core.specs.declared.view.Stage.{Stage}
 use Rattle.phaser_core.specs.declared.view.Stage.TheVariants.{Out}
-use Rattle.thread_machine.specs.declared.trace.TraceItem.{TraceItem}
 use Rattle.thread_machine.specs.declared.trace.TraceItem.TheVariants.{Sampled as SampledItem, Entered as EnteredItem, Ended as EndedItem}
 use Rattle.thread_machine.specs.declared.step.Step.TheVariants.{Sampled as SampledStep, Null as NullStep, Enter as EnterStep, Leave as LeaveStep, Ended as EndedStep}
 use Rattle.thread_machine.specs.SectionOrder.{left_traced}
 use Rattle.thread_machine.specs.Stepped.{IsGiver, Steps}
-use Rattle.thread_machine.proofs.Appended.{HoldsOn, after_step, after_end, no_more, gathered}
+use Rattle.thread_machine.proofs.Appended.{after_end, no_more}
+use Rattle.thread_machine.proofs.Pairs.{pairs_snoc, pairs_step, same_pairs}
 use Rattle.thread_machine.proofs.Ends.{begun_on, thread_same}
 use Rattle.thread_machine.proofs.Labels.{label_within}
 use Rattle.weave_engine.specs.declared.seat.Owed.TheVariants as by
 use Rattle.weave_engine.specs.declared.seat.Seat.{Seat}
 use Rattle.weave_engine.specs.Steps.{Thread}
 use Rattle.weave_engine.specs.Seats.{SeatIs, HasRoom, StageOf, LabelIn, pending_of, units_in, owed_after, StepsOut, RecordsOn}
-use Rattle.weave_engine.specs.Books.{pair_of, pairs_of}
+use Rattle.thread_machine.specs.Paired.{pairs_in, pairs}
 use Rattle.weave_engine.proofs.SeatLaws.{record_of, worker_entered}
-
-pairs_push : (xs : List TraceItem) (item : TraceItem) → pairs_of (xs ++ item ∷ []) ≡ pairs_of xs ++ pair_of item
-pairs_push [] item = append-nil (pair_of item)
-pairs_push (x ∷ xs) item = ap (λ l. pair_of x ++ l) (pairs_push xs item) ∙ sym (append_assoc (pair_of x) (pairs_of xs) (pair_of item))
-
-same_pairs : HoldsOn (λ s t. pairs_of t ≡ pairs_of s)
-same_pairs = gathered pairs_of pair_of pairs_push (λ ms. refl) (λ number. refl) (λ lock. refl) (λ end. refl)
 
 label_in : (giver : Giver) (plan : Tree) (number label : ℕ) → IsGiver giver plan number label → label < length (labels_of plan.elements)
 label_in giver plan number label s = subst (λ k. k < length (labels_of plan.elements)) (sym s.label_is) (label_within plan.elements number s.element giver s.there s.kind_is)
 
 -- room is kept where the plan is, and what is used is no more
 room_kept : (n : Numbers) (old new : Seat) → HasRoom n old → new.worker.plan ≡ old.worker.plan
-    → length (pairs_of new.worker.trace) + pending_of new.owed + units_in new.ended new.worker.units ≤ length (pairs_of old.worker.trace) + pending_of old.owed + units_in old.ended old.worker.units
+    → length (pairs new.worker.trace) + pending_of new.owed + units_in new.ended new.worker.units ≤ length (pairs old.worker.trace) + pending_of old.owed + units_in old.ended old.worker.units
     → LabelIn (length (labels_of new.worker.plan.elements)) new.owed → HasRoom n new
 room_kept n old new h plan less label =
     let labels : n.labels ≡ length (labels_of new.worker.plan.elements) = h.labels ∙ ap (λ p. length (labels_of p.elements)) (sym plan) in
@@ -93,8 +86,8 @@ module _ (seat new : Seat) (going : seat.ended ≡ false) (free : seat.owed ≡ 
       let after : units_in new.ended new.worker.units ≡ new.worker.units = ap (λ b. units_in b new.worker.units) (ended ∙ going) in
       let on = begun_on a s.begun seat.worker s.between s.begins in
       let plan : new.worker.plan ≡ seat.worker.plan = (thread_same a b seat.worker new.worker (SampledStep entry) s).plan in
-      let list : pairs_of new.worker.trace ≡ pairs_of seat.worker.trace = after_step same_pairs a b seat.worker new.worker (SampledStep entry) s in
-      let lists : length (pairs_of new.worker.trace) ≡ length (pairs_of seat.worker.trace) = ap length list in
+      let list : pairs new.worker.trace ≡ pairs seat.worker.trace = pairs_step a b seat.worker new.worker (SampledStep entry) s in
+      let lists : length (pairs new.worker.trace) ≡ length (pairs seat.worker.trace) = ap length list in
       let units : new.worker.units ≡ s.between.units - 1 = ap (λ w. w.units) s.gives.new_is in
       let begun : s.between.units ≡ seat.worker.units = on.units in
       let used = s.gives.unit in
@@ -116,8 +109,8 @@ module _ (seat new : Seat) (going : seat.ended ≡ false) (free : seat.owed ≡ 
       let after : units_in new.ended new.worker.units ≡ new.worker.units = ap (λ b. units_in b new.worker.units) (ended ∙ going) in
       let on = begun_on a s.begun seat.worker s.between s.begins in
       let plan : new.worker.plan ≡ seat.worker.plan = (thread_same a b seat.worker new.worker NullStep s).plan in
-      let list : pairs_of new.worker.trace ≡ pairs_of seat.worker.trace = after_step same_pairs a b seat.worker new.worker NullStep s in
-      let lists : length (pairs_of new.worker.trace) ≡ length (pairs_of seat.worker.trace) = ap length list in
+      let list : pairs new.worker.trace ≡ pairs seat.worker.trace = pairs_step a b seat.worker new.worker NullStep s in
+      let lists : length (pairs new.worker.trace) ≡ length (pairs seat.worker.trace) = ap length list in
       let units : new.worker.units ≡ s.between.units - 1 = ap (λ w. w.units) s.gives.new_is in
       let begun : s.between.units ≡ seat.worker.units = on.units in
       let now : pending_of new.owed ≡ pending_of seat.owed = ap pending_of owed in
@@ -133,8 +126,8 @@ module _ (seat new : Seat) (going : seat.ended ≡ false) (free : seat.owed ≡ 
       let after : units_in new.ended new.worker.units ≡ new.worker.units = ap (λ b. units_in b new.worker.units) (ended ∙ going) in
       let on = begun_on a s.begun seat.worker s.between s.begins in
       let plan : new.worker.plan ≡ seat.worker.plan = (thread_same a b seat.worker new.worker (EnterStep lock) s).plan in
-      let list : pairs_of new.worker.trace ≡ pairs_of seat.worker.trace = after_step same_pairs a b seat.worker new.worker (EnterStep lock) s in
-      let lists : length (pairs_of new.worker.trace) ≡ length (pairs_of seat.worker.trace) = ap length list in
+      let list : pairs new.worker.trace ≡ pairs seat.worker.trace = pairs_step a b seat.worker new.worker (EnterStep lock) s in
+      let lists : length (pairs new.worker.trace) ≡ length (pairs seat.worker.trace) = ap length list in
       let units : new.worker.units ≡ s.between.units - 1 = ap (λ w. w.units) s.gives.new_is in
       let begun : s.between.units ≡ seat.worker.units = on.units in
       let was = pends in
@@ -151,8 +144,8 @@ module _ (seat new : Seat) (going : seat.ended ≡ false) (free : seat.owed ≡ 
       let after : units_in new.ended new.worker.units ≡ new.worker.units = ap (λ b. units_in b new.worker.units) (ended ∙ going) in
       let on = begun_on a s.begun seat.worker s.between s.begins in
       let plan : new.worker.plan ≡ seat.worker.plan = (thread_same a b seat.worker new.worker (LeaveStep lock) s).plan in
-      let list : pairs_of new.worker.trace ≡ pairs_of seat.worker.trace = after_step same_pairs a b seat.worker new.worker (LeaveStep lock) s in
-      let lists : length (pairs_of new.worker.trace) ≡ length (pairs_of seat.worker.trace) = ap length list in
+      let list : pairs new.worker.trace ≡ pairs seat.worker.trace = pairs_step a b seat.worker new.worker (LeaveStep lock) s in
+      let lists : length (pairs new.worker.trace) ≡ length (pairs seat.worker.trace) = ap length list in
       let units : new.worker.units ≤ s.between.units = s.gives.fewer in
       let begun : s.between.units ≡ seat.worker.units = on.units in
       let now : pending_of new.owed ≡ pending_of seat.owed = ap pending_of owed in
@@ -165,8 +158,8 @@ module _ (seat new : Seat) (going : seat.ended ≡ false) (free : seat.owed ≡ 
   pub stop_out : new.worker ≡ record seat.worker { section = None; ended = true; trace = seat.worker.trace ++ (left_traced seat.worker.section ++ EndedItem Stopped ∷ []) } → new.ended ≡ true → new.owed ≡ by.Nothing → StepsOut seat new
   stop_out worker ended owed =
       let after : units_in new.ended new.worker.units ≡ 0 = ap (λ b. units_in b new.worker.units) ended in
-      let list : pairs_of new.worker.trace ≡ pairs_of seat.worker.trace = ap (λ w. pairs_of w.trace) worker ∙ after_end same_pairs seat.worker.trace seat.worker.section Stopped in
-      let lists : length (pairs_of new.worker.trace) ≡ length (pairs_of seat.worker.trace) = ap length list in
+      let list : pairs new.worker.trace ≡ pairs seat.worker.trace = ap (λ w. pairs w.trace) worker ∙ after_end same_pairs seat.worker.trace seat.worker.section Stopped in
+      let lists : length (pairs new.worker.trace) ≡ length (pairs seat.worker.trace) = ap length list in
       let now : pending_of new.owed ≡ 0 = ap pending_of owed in
       record {
         room = λ n h. room_kept n seat new h (ap (λ w. w.plan) worker) (omega (arith, lists, now, after)) (subst (LabelIn (length (labels_of new.worker.plan.elements))) (sym owed) tt);
@@ -177,8 +170,8 @@ module _ (seat new : Seat) (going : seat.ended ≡ false) (free : seat.owed ≡ 
   end_out_by : (a b : Account) (end : End) → Steps a b seat.worker new.worker (EndedStep end) → new.ended ≡ true → new.owed ≡ owed_after end → StepsOut seat new
   end_out_by a b end s ended owed =
       let plan : new.worker.plan ≡ seat.worker.plan = (thread_same a b seat.worker new.worker (EndedStep end) s).plan in
-      let list : pairs_of new.worker.trace ≡ pairs_of seat.worker.trace = after_step same_pairs a b seat.worker new.worker (EndedStep end) s in
-      let lists : length (pairs_of new.worker.trace) ≡ length (pairs_of seat.worker.trace) = ap length list in
+      let list : pairs new.worker.trace ≡ pairs seat.worker.trace = pairs_step a b seat.worker new.worker (EndedStep end) s in
+      let lists : length (pairs new.worker.trace) ≡ length (pairs seat.worker.trace) = ap length list in
       let after : units_in new.ended new.worker.units ≡ 0 = ap (λ b. units_in b new.worker.units) ended in
       let now : pending_of new.owed ≡ 0 = ap pending_of owed ∙ end_pends end in
       record {
@@ -198,8 +191,8 @@ pub entered_out : (seat new : Seat) (lock place : ℕ) → ((t : Thread) × Seat
     → new.ended ≡ seat.ended → new.owed ≡ by.Nothing → StepsOut seat new
 entered_out seat new lock place is owed_is entered ended owed =
     let worker = worker_entered seat new.worker lock place is owed_is entered in
-    let list : pairs_of new.worker.trace ≡ pairs_of seat.worker.trace = ap (λ w. pairs_of w.trace) worker ∙ no_more pairs_of pair_of pairs_push seat.worker.trace (EnteredItem lock place) refl in
-    let lists : length (pairs_of new.worker.trace) ≡ length (pairs_of seat.worker.trace) = ap length list in
+    let list : pairs new.worker.trace ≡ pairs seat.worker.trace = ap (λ w. pairs w.trace) worker ∙ no_more pairs pairs_in pairs_snoc seat.worker.trace (EnteredItem lock place) refl in
+    let lists : length (pairs new.worker.trace) ≡ length (pairs seat.worker.trace) = ap length list in
     let units : units_in new.ended new.worker.units ≡ units_in seat.ended seat.worker.units = ap (λ w. units_in new.ended w.units) worker ∙ ap (λ b. units_in b seat.worker.units) ended in
     let now : pending_of new.owed ≡ 0 = ap pending_of owed in
     record {
@@ -219,7 +212,7 @@ module _ (seat new : Seat) (entry : Entry) (done old interval : ℕ) (is : (t : 
 
   pub more_on : new.worker ≡ seat.worker → new.ended ≡ seat.ended → new.owed ≡ by.Record entry (done + 1) interval → RecordsOn false entry (done + 1) interval seat new
   more_on worker ended owed =
-      let lists : length (pairs_of new.worker.trace) ≡ length (pairs_of seat.worker.trace) = ap (λ w. length (pairs_of w.trace)) worker in
+      let lists : length (pairs new.worker.trace) ≡ length (pairs seat.worker.trace) = ap (λ w. length (pairs w.trace)) worker in
       let units : units_in new.ended new.worker.units ≡ units_in seat.ended seat.worker.units = ap (λ w. units_in new.ended w.units) worker ∙ ap (λ b. units_in b seat.worker.units) ended in
       let now : pending_of new.owed ≡ 1 = ap pending_of owed in
       let was = pends_one in
@@ -230,7 +223,7 @@ module _ (seat new : Seat) (entry : Entry) (done old interval : ℕ) (is : (t : 
           label = subst (LabelIn n.labels) (sym owed) (label_there n h);
         });
         owed = owed;
-        list = ap (λ w. pairs_of w.trace) worker ∙ sym (append-nil (pairs_of seat.worker.trace));
+        list = ap (λ w. pairs w.trace) worker ∙ sym (append-nil (pairs seat.worker.trace));
       }
 
   pub last_on : IfSome seat.worker.owed (λ s. new.worker ≡ record seat.worker { owed = None; trace = seat.worker.trace ++ SampledItem s interval ∷ [] }) → new.ended ≡ seat.ended → new.owed ≡ by.Nothing
@@ -239,9 +232,9 @@ module _ (seat new : Seat) (entry : Entry) (done old interval : ℕ) (is : (t : 
       let r = record_of seat.owed entry done old seat.worker (is.0).owed owed_is (is.1).owed in
       let worker : new.worker ≡ record seat.worker { owed = None; trace = seat.worker.trace ++ SampledItem r.sample interval ∷ [] } =
       subst (λ o. IfSome o (λ s. new.worker ≡ record seat.worker { owed = None; trace = seat.worker.trace ++ SampledItem s interval ∷ [] })) r.there noted in
-      let list : pairs_of new.worker.trace ≡ pairs_of seat.worker.trace ++ (interval, entry) ∷ [] =
-      ap (λ w. pairs_of w.trace) worker ∙ pairs_push seat.worker.trace (SampledItem r.sample interval) ∙ ap (λ (e : Entry). pairs_of seat.worker.trace ++ (interval, e) ∷ []) (sym r.entry_is) in
-      let lists : length (pairs_of new.worker.trace) ≡ length (pairs_of seat.worker.trace) + 1 = ap length list ∙ length-append (pairs_of seat.worker.trace) ((interval, entry) ∷ []) in
+      let list : pairs new.worker.trace ≡ pairs seat.worker.trace ++ (interval, entry) ∷ [] =
+      ap (λ w. pairs w.trace) worker ∙ pairs_snoc seat.worker.trace (SampledItem r.sample interval) ∙ ap (λ (e : Entry). pairs seat.worker.trace ++ (interval, e) ∷ []) (sym r.entry_is) in
+      let lists : length (pairs new.worker.trace) ≡ length (pairs seat.worker.trace) + 1 = ap length list ∙ length-append (pairs seat.worker.trace) ((interval, entry) ∷ []) in
       let units : units_in new.ended new.worker.units ≡ units_in seat.ended seat.worker.units = ap (λ w. units_in new.ended w.units) worker ∙ ap (λ b. units_in b seat.worker.units) ended in
       let now : pending_of new.owed ≡ 0 = ap pending_of owed in
       let was = pends_one in

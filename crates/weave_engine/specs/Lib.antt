@@ -4,4 +4,4 @@ pub mod Turns
 pub mod Woven
 pub mod Exclusive
 pub mod Seats
-pub mod Books
+pub mod Followed

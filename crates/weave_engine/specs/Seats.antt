@@ -38,7 +38,9 @@ use Rattle.weave_engine.specs.Steps.{Owed, Nought, Record, Section, Stop, Thread
 use Rattle.weave_engine.specs.Turns.{Weave, locks_left, lock_left, recorded, thread_turn}
 use Rattle.weave_engine.specs.Exclusive.{Exclusive}
 use Rattle.phaser_core.specs.Cells.{is_odd}
-use Rattle.weave_engine.specs.Books.{pairs_of, lists_in, AllKeep, AllFollow}
+use Rattle.thread_machine.specs.Paired.{pairs, pairs_of}
+use Rattle.phaser_core.specs.Keeps.{AllKeep}
+use Rattle.weave_engine.specs.Followed.{AllFollow}
 use Rattle.weave_engine.specs.Woven.{numbers_of, at_start, Woven}
 use Rattle.interval_tables.specs.declared.report.Report.{Report}
 use Rattle.phaser_core.specs.Shares.{Partition}
@@ -171,14 +173,14 @@ units_in false units = units
 
 -- what the seat still records has room, and the labels are those of its plan
 pub record HasRoom (n : Numbers) (seat : Seat) : Type 0 where
-  pub room : length (pairs_of seat.worker.trace) + pending_of seat.owed + units_in seat.ended seat.worker.units ≤ n.budget
+  pub room : length (pairs seat.worker.trace) + pending_of seat.owed + units_in seat.ended seat.worker.units ≤ n.budget
   pub labels : n.labels ≡ length (labels_of seat.worker.plan.elements)
   pub label : LabelIn n.labels seat.owed
 
 -- port d + 1 is that of the writer of seat d, and there are no others
 pub record AreWriters (n : Numbers) (seats : List Seat) (views : List View) : Type 0 where
   pub ports : length views ≡ length seats + 1
-  pub each : (k : ℕ) (x : Seat) → slice_get seats k ≡ Some x → HasRoom n x × Writes views k x.owed (pairs_of x.worker.trace)
+  pub each : (k : ℕ) (x : Seat) → slice_get seats k ≡ Some x → HasRoom n x × Writes views k x.owed (pairs x.worker.trace)
 
 -- an event of writer d changes its port alone
 pub record Wrote (before after : List View) (d : ℕ) (owed : OwedBy) (list : List Pair) : Type 0 where
@@ -190,7 +192,7 @@ pub record Wrote (before after : List View) (d : ℕ) (owed : OwedBy) (list : Li
 pub record StepsOut (old new : Seat) : Type 0 where
   pub room : (n : Numbers) → HasRoom n old → HasRoom n new
   pub out : (stage : Stage) → stage ≡ Out → StageOf new.owed stage
-  pub list : pairs_of new.worker.trace ≡ pairs_of old.worker.trace
+  pub list : pairs new.worker.trace ≡ pairs old.worker.trace
 
 abbrev pub owed_then : Bool → Entry → ℕ → ℕ → OwedBy
 owed_then true entry done interval = by.Nothing
@@ -204,7 +206,7 @@ pair_then false entry interval = []
 pub record RecordsOn (last : Bool) (entry : Entry) (done interval : ℕ) (old new : Seat) : Type 0 where
   pub room : (n : Numbers) → HasRoom n old → HasRoom n new
   pub owed : new.owed ≡ owed_then last entry done interval
-  pub list : pairs_of new.worker.trace ≡ pairs_of old.worker.trace ++ pair_then last entry interval
+  pub list : pairs new.worker.trace ≡ pairs old.worker.trace ++ pair_then last entry interval
 
 -- seats and a core stand for a run of a schedule
 pub record Runs (n : Numbers) (seats : List Seat) (core : Shape) (s : Weave) : Type 0 where
@@ -256,13 +258,13 @@ pub record Turned (n : Numbers) (d : ℕ) (s : Weave) (seat : Seat) (core : Shap
   pub seat_is : SeatIs seat thread
   pub core_is : CoreIs core n state
   pub room : HasRoom n seat
-  pub wrote : Wrote s.core.1 state.1 d seat.owed (pairs_of seat.worker.trace)
+  pub wrote : Wrote s.core.1 state.1 d seat.owed (pairs seat.worker.trace)
 
 -- In whatever run the seat, the core and the words stand, the seat has had its turn.
 abbrev pub TurnsIn : Seat → Shape → List ℕ → Seat → Shape → List ℕ → Type 0
 TurnsIn old core locks new core' locks' =
     (n : Numbers) (s : Weave) (t : Thread) → slice_get s.threads old.worker.thread ≡ Some t → SeatIs old t → CoreIs core n s.core → s.locks ≡ locks → HasRoom n old
-    → Writes s.core.1 old.worker.thread old.owed (pairs_of old.worker.trace) → Turned n old.worker.thread s new core' locks'
+    → Writes s.core.1 old.worker.thread old.owed (pairs old.worker.trace) → Turned n old.worker.thread s new core' locks'
 
 -- the next of a record's steps, and whether it is the last
 abbrev pub IsNext : List CoreEvent → CoreEvent → List CoreEvent → Bool → Type 0
@@ -382,7 +384,7 @@ AllFresh plan budget seats = (k : ℕ) (x : Seat) → slice_get seats k ≡ Some
 -- the entries of each thread's trace
 abbrev pub lists_of : List Seat → List (List Pair)
 lists_of [] = []
-lists_of (x ∷ xs) = pairs_of x.worker.trace ∷ lists_of xs
+lists_of (x ∷ xs) = pairs x.worker.trace ∷ lists_of xs
 
 -- that many writers are joined, and the others are out
 pub record JoinsTo (k : ℕ) (seats : List Seat) (views : List View) : Type 0 where
@@ -392,7 +394,7 @@ pub record JoinsTo (k : ℕ) (seats : List Seat) (views : List View) : Type 0 wh
   pub idle : reader.closing ≡ Idle
   pub joined : map (λ (j : Joined). j.list) reader.joined ≡ lists_of (take k seats)
   pub gone : (j : ℕ) → j < k → get_elem? views (j + 1) ≡ some Gone
-  pub out : (j : ℕ) (x : Seat) → k ≤ j → slice_get seats j ≡ Some x → (w : WriterView) × (get_elem? views (j + 1) ≡ some (Writer w)) × (w.stage ≡ Out) × (w.list ≡ pairs_of x.worker.trace)
+  pub out : (j : ℕ) (x : Seat) → k ≤ j → slice_get seats j ≡ Some x → (w : WriterView) × (get_elem? views (j + 1) ≡ some (Writer w)) × (w.stage ≡ Out) × (w.list ≡ pairs x.worker.trace)
 
 -- all writers are joined: the core is done, and has an entry for each sample of the traces
 pub record IsJoined (n : Numbers) (seats : List Seat) (core : Shape) (state : CoreState) : Type 0 where
@@ -447,8 +449,8 @@ AllClosed seats = (k : ℕ) (x : Seat) → slice_get seats k ≡ Some x → x.wo
 pub record IsFinished (plan : Tree) (options : Options) (schedule : List Token) (seats : List Seat) (reports : List Report) : Type 0 where
   pub woven : Woven plan options schedule (traces_in seats) reports
   pub follows : AllFollow plan options (traces_in seats)
-  pub partition : Partition (length (labels_of plan.elements)) (lists_in (traces_in seats)) reports
-  pub keep : AllKeep (length (labels_of plan.elements)) options.budget (lists_in (traces_in seats))
+  pub partition : Partition (length (labels_of plan.elements)) (pairs_of (traces_in seats)) reports
+  pub keep : AllKeep (length (labels_of plan.elements)) options.budget (pairs_of (traces_in seats))
   pub plans : AllOf plan seats
   pub closed : AllClosed seats
   pub count : length seats ≡ length (threads_of plan)

@@ -1,12 +1,14 @@
 // The run of a schedule.
 
-ghost use Rattle.std.specs.Prelude.{◌≡◌, true, ◌-◌, ◌*◌, ◌<◌, ◌≤◌, ℕ, List, All, None, length, IfOk, OnOk};
+ghost use Rattle.std.specs.Prelude.{◌≡◌, true, ◌-◌, ◌*◌, ◌<◌, ◌≤◌, All, None, length, IfOk, OnOk};
 ghost use Rattle.element_tree.specs.Tree.{threads_of};
 ghost use Rattle.phaser_core.specs.declared.view.Numbers.{Numbers};
 ghost use Rattle.jm_meaning.specs.Beginning.{Options};
 ghost use Rattle.thread_machine.specs.Bare.{IsLabelled};
 ghost use Rattle.thread_machine.specs.SectionOrder.{LeavesAll};
-ghost use Rattle.weave_engine.specs.Books.{lists_in, AllKeep, AllFollow};
+ghost use Rattle.thread_machine.specs.Paired.{pairs_of};
+ghost use Rattle.phaser_core.specs.Keeps.{AllKeep};
+ghost use Rattle.weave_engine.specs.Followed.{AllFollow};
 ghost use Rattle.weave_engine.specs.Seats.{SeatIs, AreSeats, CoreIs, IsFresh, AllFresh, Runs, IsJoined, all_seats_settled, SeatStands, AllStand, AllOf, AllClosed, traces_in, first_outside, Starts, IsFinished};
 ghost use Rattle.weave_engine.specs.Turns.{Weave, is_idle, joined_to};
 ghost use Rattle.phaser_core.specs.CoreShape.{IsDone};
@@ -209,10 +211,10 @@ pub fn weave(
     // Each trace is all events of its thread over the plan's replies, or a prefix of them and the stop.
     ensures follows { IfOk result (λ b. AllFollow plan.now (record { seed = seed; props = props.now; budget = budget }) b.traces) }
     // Each sample of each trace counts in exactly one report, that of its interval.
-    ensures partition { IfOk result (λ b. Partition (length (labels_of plan.now.elements)) (lists_in b.traces) b.reports) }
+    ensures partition { IfOk result (λ b. Partition (length (labels_of plan.now.elements)) (pairs_of b.traces) b.reports) }
     // There is a trace for each thread, with no more samples than the budget, and the labels are those of the plan.
     ensures threads { IfOk result (λ b. length b.traces ≡ length (threads_of plan.now)) }
-    ensures keep { IfOk result (λ b. AllKeep (length (labels_of plan.now.elements)) budget (lists_in b.traces)) }
+    ensures keep { IfOk result (λ b. AllKeep (length (labels_of plan.now.elements)) budget (pairs_of b.traces)) }
     ensures labelled { IfOk result (λ b. All (All (IsLabelled (length (labels_of plan.now.elements)))) b.traces) }
     // Each trace enters a section where none is open, leaves the one that is, and ends with none open.
     ensures sections { IfOk result (λ b. All LeavesAll b.traces) }

@@ -11,8 +11,8 @@ use Rattle.recorder_core.specs.RecorderSeats.{reports, numbers_of, all_reports_o
 use Rattle.reporter_loop.specs.ReportsWritten.{texts_of, AppendsPrefix}
 use Rattle.reporter_loop.proofs.Judging.{cut_after}
 use Rattle.reporter_loop.proofs.Texts.{written_more}
-use Rattle.run_engine.specs.Keeps.{all_entries}
-use Rattle.run_engine.specs.Paired.{pairs_of}
+use Rattle.phaser_core.specs.Keeps.{all_entries}
+use Rattle.thread_machine.specs.Paired.{pairs_of}
 use Rattle.run_engine.proofs.Totalling.{few_lists, all_counted, all_fit}
 use Rattle.run_engine.proofs.finish.finish_run.Goals as goal
 

@@ -5,10 +5,11 @@ use Rattle.thread_machine.proofs.Ends.{begun_on, noted_on, noted_is, entered_is}
 use Rattle.thread_machine.proofs.PlaceLaws.{fewer_sampled, fewer_null, fewer_enters, fewer_leaves}
 use Rattle.recorder_core.specs.RecorderSeats.{writes, numbers_of}
 use Rattle.thread_machine.proofs.Ends.{over_with}
-use Rattle.run_engine.specs.Keeps.{KeepsTo}
+use Rattle.phaser_core.specs.Keeps.{KeepsTo}
 use Rattle.run_engine.proofs.Finishing.{has_ended}
 use Rattle.run_engine.proofs.Placing.{holding_first, holding_same, sections_noted, sections_same, lock_low, none_inside, few_own, holding_entered, known_so, open_so, holding_left, keeps_ended, rises_ended, keeps_stopped, rises_stopped}
-use Rattle.run_engine.proofs.Traces.{same_outside, same_then, pairs_entered, units_entered, units_leave, same_steps, pairs_noted, pairs_step, ends_with, not_stopped, label_low, label_fits, units_left, units_null, pairs_stopped, ends_stopped}
+use Rattle.thread_machine.proofs.Pairs.{pairs_step}
+use Rattle.run_engine.proofs.Traces.{same_outside, same_then, pairs_entered, units_entered, units_leave, same_steps, pairs_noted, ends_with, not_stopped, label_low, label_fits, units_left, units_null, pairs_stopped, ends_stopped}
 use Rattle.run_engine.proofs.Writing.{looked, seen, same_marked, writing_same, writing_more, writing_first, keeps_to}
 use Rattle.run_engine.proofs.samples.run_samples.Goals as goal
 

@@ -4,7 +4,7 @@ use Rattle.std.proofs.lemmas.List.{get_or_default}
 use Rattle.weave_engine.specs.Turns.{turn_of, thread_turn}
 use Rattle.weave_engine.specs.Seats.{RunsOn, SeatIs, Turned, Lightens, TakesTurn, HasRoom, Writes}
 use Rattle.weave_engine.proofs.LockedLaws.{words_for, turn_locked}
-use Rattle.weave_engine.specs.Books.{pairs_of}
+use Rattle.thread_machine.specs.Paired.{pairs}
 use Rattle.weave_engine.specs.declared.seat.Seat.{Seat}
 use Rattle.std.proofs.lemmas.Option.{slice_get-get_or}
 use Rattle.weave_engine.proofs.TurnLaws.{none_there, seat_at, turned_runs}
@@ -71,8 +71,8 @@ returns-clause-turned c = on_both c.seat_turn.result c.seat_turn.ensures.turned 
     let seat_is : SeatIs c.index_mut.result.now r.0 = subst (λ x. SeatIs x r.0) (sym c.index_mut.ensures.value) r.2 in
     let mine = runs.runs.writers.each i (get_or items i c.index_mut.result.now) (slice_get-get_or items i c.index_mut.result.now within) in
     let h : Turned n i s c.seat_turn.new.seat c.seat_turn.new.core locks' = subst (λ k. Turned n k s c.seat_turn.new.seat c.seat_turn.new.core locks') number (turned n s r.0 there seat_is runs.runs.core_is runs.words
-    (subst (HasRoom n) (sym c.index_mut.ensures.value) mine.0) (subst (λ k. Writes s.core.1 k c.index_mut.result.now.owed (pairs_of c.index_mut.result.now.worker.trace)) (sym number)
-    (subst (λ (x : Seat). Writes s.core.1 i x.owed (pairs_of x.worker.trace)) (sym c.index_mut.ensures.value) mine.1))) in
+    (subst (HasRoom n) (sym c.index_mut.ensures.value) mine.0) (subst (λ k. Writes s.core.1 k c.index_mut.result.now.owed (pairs c.index_mut.result.now.worker.trace)) (sym number)
+    (subst (λ (x : Seat). Writes s.core.1 i x.owed (pairs x.worker.trace)) (sym c.index_mut.ensures.value) mine.1))) in
     subst (λ k. RunsOn n (set items i c.seat_turn.new.seat) c.seat_turn.new.core locks' (thread_turn n k s)) c.from-index.ensures
     (turned_runs n s items c.args.core.now c.seat_turn.new.core locks' i c.seat_turn.new.seat runs.runs h (stays.number ∙ number)))
 
