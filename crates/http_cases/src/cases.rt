@@ -6,7 +6,7 @@ use crate::mirrors::{mirrored, mirrored_in, mirrored_with_faults};
 use crate::requests::requested;
 use crate::shown::{write_fed, write_finish};
 use crate::ways::{all_ways, prefixes, read_through, sized};
-use crate::words::{at, bytes_of, fields_of};
+use case_words::{at, bytes_of, fields_of};
 use std::alloc::Global;
 
 /// What the lines so far have set.

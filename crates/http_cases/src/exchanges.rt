@@ -3,7 +3,7 @@
 use crate::calls;
 use crate::shown::{error_name, request_shown, write_reply};
 use crate::streams::TextStream;
-use crate::words::{at, bytes_of, text_of};
+use case_words::{at, bytes_of, text_of};
 use http_text::{Target, WireError};
 use jm_base::{M, NoMemory, Outcome};
 use std::alloc::{AllocError, Global};

@@ -32,7 +32,6 @@ mod requests;
 mod shown;
 mod streams;
 mod ways;
-mod words;
 
 use cases::Cases;
 use std::alloc::Global;

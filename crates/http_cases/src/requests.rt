@@ -2,7 +2,7 @@
 
 use crate::calls;
 use crate::shown::{request_shown, target_error_name};
-use crate::words::{at, text_of};
+use case_words::{at, text_of};
 use http_text::{HttpSettings, NamedText, Target, TargetError};
 use jm_base::{Items, Method};
 use std::alloc::{AllocError, Global};

@@ -2,8 +2,9 @@
 
 use crate::calls::{holds, holds_with};
 use crate::extractors_read::field_of;
-use crate::words::{at, bytes_of, pattern_of, text_of};
+use crate::words::pattern_of;
 use assertions::Answer;
+use case_words::{at, bytes_of, text_of};
 use element_props::{Pattern, choice_of};
 use element_tree::{Assertion, Comparison, TestKind};
 use jm_base::{Items, M, Reply, Text};

@@ -1,6 +1,7 @@
 // The extractors of lines.
 
-use crate::words::{at, bytes_of, pattern_of, text_at, text_of};
+use crate::words::{pattern_of, text_at};
+use case_words::{at, bytes_of, text_of};
 use element_props::choice_of;
 use element_tree::{BoundaryExtractor, Field, JsonExtractor, RegexExtractor};
 use std::alloc::Global;
