@@ -33,10 +33,8 @@ fn time_of<O: Outside>(
     ensures later { IsLater state.old.fns state.new.fns }
     ensures vars { state.new.vars ≡ state.old.vars }
 {
-    match expand(alloc, template, state, outside) {
-        Ok(text) => Ok(milliseconds(text.bytes())),
-        Err(error) => Err(error),
-    }
+    let text = expand(alloc, template, state, outside)?;
+    Ok(milliseconds(text.bytes()))
 }
 
 // A time below a range, at random; of no range it is 0, and no word is drawn.
@@ -66,16 +64,10 @@ fn uniform<O: Outside>(
     ensures later { IsLater state.old.fns state.new.fns }
     ensures vars { state.new.vars ≡ state.old.vars }
 {
-    match time_of(alloc, offset, state, outside) {
-        Ok(offset) => match time_of(alloc, range, state, outside) {
-            Ok(range) => {
-                let more = within(range, state);
-                Ok(u64::from(offset) + u64::from(more))
-            }
-            Err(error) => Err(error),
-        },
-        Err(error) => Err(error),
-    }
+    let offset = time_of(alloc, offset, state, outside)?;
+    let range = time_of(alloc, range, state, outside)?;
+    let more = within(range, state);
+    Ok(u64::from(offset) + u64::from(more))
 }
 
 // The delay of a timer; another element has none.
@@ -91,10 +83,10 @@ fn timer<O: Outside>(
     ensures vars { state.new.vars ≡ state.old.vars }
 {
     match kind {
-        Kind::ConstantTimer { delay } => match time_of(alloc, delay, state, outside) {
-            Ok(ms) => Ok(u64::from(ms)),
-            Err(error) => Err(error),
-        },
+        Kind::ConstantTimer { delay } => {
+            let ms = time_of(alloc, delay, state, outside)?;
+            Ok(u64::from(ms))
+        }
         Kind::UniformTimer { offset, range } => uniform(alloc, offset, range, state, outside),
         _ => Ok(0),
     }
@@ -151,10 +143,8 @@ fn delay_of<O: Outside>(
 {
     let mut sum = 0;
     'timers: for number in numbers {
-        match timer_at(alloc, plan, *number, state, outside) {
-            Ok(ms) => sum = sum_of(sum, ms),
-            Err(error) => return Err(error),
-        }
+        let ms = timer_at(alloc, plan, *number, state, outside)?;
+        sum = sum_of(sum, ms);
     }
     Ok(sum)
 }

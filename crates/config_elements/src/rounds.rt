@@ -174,18 +174,14 @@ fn feed_one(
     ensures fns { state.new.fns ≡ state.old.fns }
 {
     let place = place_of(places, feed.number);
-    let Ok(advance) = advanced(alloc, plan, feed, place) else {
-        return Err(VarError::NoMemory);
-    };
+    let advance = advanced(alloc, plan, feed, place)?;
     let Advance { sets, place: next } = advance;
     match sets {
-        Some(sets) => match put_all(sets.into_vec(), &mut state.vars) {
-            Ok(()) => {
-                set_place(places, feed.number, next);
-                Ok(true)
-            }
-            Err(error) => Err(error),
-        },
+        Some(sets) => {
+            put_all(sets.into_vec(), &mut state.vars)?;
+            set_place(places, feed.number, next);
+            Ok(true)
+        }
         None => Ok(false),
     }
 }
@@ -221,10 +217,9 @@ fn feed_all(
     ensures fns { state.new.fns ≡ state.old.fns }
 {
     'feeds: for feed in feeds {
-        match feed_one(alloc, plan, feed, places, state) {
-            Ok(true) => {}
-            Ok(false) => return Ok(false),
-            Err(error) => return Err(error),
+        let fed = feed_one(alloc, plan, feed, places, state)?;
+        if !fed {
+            return Ok(false);
         }
     }
     Ok(true)

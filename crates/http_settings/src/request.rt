@@ -91,10 +91,8 @@ fn param_texts<O: Outside>(
         (λ texts. over (fine texts state.new)) (over (past_limit state.new)) result }
     ensures stands { StandsLater state.old state.new }
 {
-    match pairs_of(alloc, params_at(plan, sampler)) {
-        Ok(pairs) => texts_of(alloc, pairs.as_slice(), state, outside),
-        Err(_) => Err(VarError::NoMemory),
-    }
+    let pairs = pairs_of(alloc, params_at(plan, sampler))?;
+    texts_of(alloc, pairs.as_slice(), state, outside)
 }
 
 fn header_texts<O: Outside>(
@@ -108,10 +106,8 @@ fn header_texts<O: Outside>(
         (λ texts. over (fine texts state.new)) (over (past_limit state.new)) result }
     ensures stands { StandsLater state.old state.new }
 {
-    match merged_headers(alloc, plan, config) {
-        Ok(pairs) => texts_of(alloc, pairs.as_slice(), state, outside),
-        Err(_) => Err(VarError::NoMemory),
-    }
+    let pairs = merged_headers(alloc, plan, config)?;
+    texts_of(alloc, pairs.as_slice(), state, outside)
 }
 
 fn address_of<O: Outside>(
@@ -126,28 +122,10 @@ fn address_of<O: Outside>(
         (λ a. over (fine a state.new)) (over (past_limit state.new)) result }
     ensures stands { StandsLater state.old state.new }
 {
-    match property_text(alloc, Property::Host, plan, config, sampler, state, outside) {
-        Ok(host) => {
-            match property_text(alloc, Property::Port, plan, config, sampler, state, outside) {
-                Ok(port) => {
-                    match property_text(
-                        alloc,
-                        Property::Path,
-                        plan,
-                        config,
-                        sampler,
-                        state,
-                        outside,
-                    ) {
-                        Ok(path) => Ok(Address { host, port, path }),
-                        Err(error) => Err(error),
-                    }
-                }
-                Err(error) => Err(error),
-            }
-        }
-        Err(error) => Err(error),
-    }
+    let host = property_text(alloc, Property::Host, plan, config, sampler, state, outside)?;
+    let port = property_text(alloc, Property::Port, plan, config, sampler, state, outside)?;
+    let path = property_text(alloc, Property::Path, plan, config, sampler, state, outside)?;
+    Ok(Address { host, port, path })
 }
 
 fn content_of<O: Outside>(
@@ -162,15 +140,9 @@ fn content_of<O: Outside>(
         (λ c. over (fine c state.new)) (over (past_limit state.new)) result }
     ensures stands { StandsLater state.old state.new }
 {
-    match param_texts(alloc, plan, sampler, state, outside) {
-        Ok(params) => {
-            match property_text(alloc, Property::Body, plan, config, sampler, state, outside) {
-                Ok(body) => Ok(Content { params, body }),
-                Err(error) => Err(error),
-            }
-        }
-        Err(error) => Err(error),
-    }
+    let params = param_texts(alloc, plan, sampler, state, outside)?;
+    let body = property_text(alloc, Property::Body, plan, config, sampler, state, outside)?;
+    Ok(Content { params, body })
 }
 
 fn settings_of(
@@ -204,16 +176,10 @@ fn settings_with<O: Outside>(
         (λ s. over (fine s state.new)) (over (past_limit state.new)) result }
     ensures stands { StandsLater state.old state.new }
 {
-    match address_of(alloc, plan, config, sampler, state, outside) {
-        Ok(address) => match content_of(alloc, plan, config, sampler, state, outside) {
-            Ok(content) => match header_texts(alloc, plan, config, state, outside) {
-                Ok(headers) => Ok(settings_of(method_at(plan, sampler), address, content, headers)),
-                Err(error) => Err(error),
-            },
-            Err(error) => Err(error),
-        },
-        Err(error) => Err(error),
-    }
+    let address = address_of(alloc, plan, config, sampler, state, outside)?;
+    let content = content_of(alloc, plan, config, sampler, state, outside)?;
+    let headers = header_texts(alloc, plan, config, state, outside)?;
+    Ok(settings_of(method_at(plan, sampler), address, content, headers))
 }
 
 /// The settings of the HTTP sampler of this number, which has this package, with every template expanded.

@@ -41,13 +41,9 @@ fn add_text<O: Outside>(
         (λ u. texts_after texts.new.items more state.new) (over (past_limit state.new)) result }
     ensures stands { StandsLater state.old state.new }
 {
-    match expand(alloc, &pair.value, state, outside) {
-        Ok(value) => match push_text(alloc, pair, value, texts) {
-            Ok(()) => Ok(()),
-            Err(_) => Err(VarError::NoMemory),
-        },
-        Err(error) => Err(error),
-    }
+    let value = expand(alloc, &pair.value, state, outside)?;
+    push_text(alloc, pair, value, texts)?;
+    Ok(())
 }
 
 /// The names and the texts of pairs, each expanded when its turn comes.
@@ -63,10 +59,7 @@ pub(crate) fn texts_of<O: Outside>(
 {
     let mut texts = Vec::new(alloc);
     'pairs: for pair in pairs {
-        match add_text(alloc, *pair, &mut texts, state, outside) {
-            Ok(()) => {}
-            Err(error) => return Err(error),
-        }
+        add_text(alloc, *pair, &mut texts, state, outside)?;
     }
     Ok(Items::of(texts))
 }

@@ -167,10 +167,7 @@ pub(crate) fn post_process<'p>(
     ensures cut { (a : Account) → result ≡ Err VarError.NoMemory → cut_post plan.now.elements reply.now numbers.now a state.old a state.new }
 {
     'numbers: for number in numbers {
-        match extract_at(alloc, plan, *number, reply, state, searches) {
-            Ok(()) => {}
-            Err(error) => return Err(error),
-        }
+        extract_at(alloc, plan, *number, reply, state, searches)?;
     }
     Ok(())
 }

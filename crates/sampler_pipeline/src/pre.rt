@@ -70,10 +70,7 @@ pub(crate) fn pre_process<O: Outside>(
     ensures cut { result ≡ Err VarError.NoMemory → cut_pre plan.now.elements numbers.now (O.account outside.old) state.old (O.account outside.new) state.new }
 {
     'numbers: for number in numbers {
-        match prepare(alloc, plan, *number, state, outside) {
-            Ok(()) => {}
-            Err(error) => return Err(error),
-        }
+        prepare(alloc, plan, *number, state, outside)?;
     }
     Ok(())
 }
@@ -86,10 +83,8 @@ pub(crate) fn pause<O: Outside>(ms: u32, state: &UserState, outside: &mut O) -> 
     if ms == 0 {
         return Ok(());
     }
-    match outside.pause(ms) {
-        Ok(()) => Ok(()),
-        Err(_) => Err(VarError::NoMemory),
-    }
+    outside.pause(ms)?;
+    Ok(())
 }
 
 // What an HTTP sampler of this number asks for, if its settings have a target.
@@ -107,13 +102,9 @@ fn target_request<O: Outside>(
     ensures later { IsLater state.old.fns state.new.fns }
     ensures vars { state.new.vars ≡ state.old.vars }
 {
-    match settings(alloc, plan, scope, sampler, state, outside) {
-        Ok(found) => match request_of(alloc, &found) {
-            Ok(request) => Ok(request),
-            Err(_) => Err(VarError::NoMemory),
-        },
-        Err(error) => Err(error),
-    }
+    let found = settings(alloc, plan, scope, sampler, state, outside)?;
+    let request = request_of(alloc, &found)?;
+    Ok(request)
 }
 
 // What a sampler of this kind and number asks for.
@@ -132,10 +123,10 @@ fn request_by<O: Outside>(
     ensures vars { state.new.vars ≡ state.old.vars }
 {
     match kind {
-        Kind::Script { request, .. } => match expand(alloc, request, state, outside) {
-            Ok(text) => Ok(Some(Request::Script(text))),
-            Err(error) => Err(error),
-        },
+        Kind::Script { request, .. } => {
+            let text = expand(alloc, request, state, outside)?;
+            Ok(Some(Request::Script(text)))
+        }
         Kind::Http { .. } => target_request(alloc, plan, scope, sampler, state, outside),
         _ => Ok(None),
     }

@@ -139,23 +139,17 @@ fn sample_answer<'p>(
     ensures later { IsLater state.old.fns state.new.fns }
     ensures cut { (a : Account) → result ≡ Err VarError.NoMemory → cut_answering plan.now.elements scope.now answer a state.old a state.new }
 {
-    match post_process(
+    post_process(
         alloc,
         plan,
         scope.post.as_slice(),
         &answer.reply,
         state,
         searches,
-    ) {
-        Ok(()) => match assert_all(alloc, plan, scope, sampler, stamp, answer, searches) {
-            Ok(sample) => match note(alloc, sample.ok, state) {
-                Ok(()) => Ok(sample),
-                Err(error) => Err(error),
-            },
-            Err(_) => Err(VarError::NoMemory),
-        },
-        Err(error) => Err(error),
-    }
+    )?;
+    let sample = assert_all(alloc, plan, scope, sampler, stamp, answer, searches)?;
+    note(alloc, sample.ok, state)?;
+    Ok(sample)
 }
 
 // What follows from an answer, if there is one.
@@ -176,12 +170,12 @@ fn sample<'p>(
     ensures cut { (a : Account) → result ≡ Err VarError.NoMemory → cut_sampling plan.now.elements scope.now answer a state.old a state.new }
 {
     match answer {
-        Some(answer) => match sample_answer(
-            alloc, plan, scope, sampler, stamp, answer, state, searches,
-        ) {
-            Ok(sample) => Ok(Some(sample)),
-            Err(error) => Err(error),
-        },
+        Some(answer) => {
+            let sample = sample_answer(
+                alloc, plan, scope, sampler, stamp, answer, state, searches,
+            )?;
+            Ok(Some(sample))
+        }
         None => Ok(None),
     }
 }
@@ -217,10 +211,8 @@ fn exchange_for<O: Outside>(
     ensures came { CameTo (O.account outside.old) (exchanging sampler request state.now) (O.account outside.new)
         (λ x. over (fine x state.now)) (over (past_limit state.now)) result }
 {
-    match exchange_if(alloc, sampler, request, outside) {
-        Ok(exchange) => Ok(exchange),
-        Err(_) => Err(VarError::NoMemory),
-    }
+    let exchange = exchange_if(alloc, sampler, request, outside)?;
+    Ok(exchange)
 }
 
 // The request, and what follows from its reply.
@@ -240,13 +232,9 @@ fn ask<'p, O: Outside>(
     ensures cut { result ≡ Err VarError.NoMemory
         → cut_asking plan.now.elements scope.now sampler (O.account outside.old) state.old (O.account outside.new) state.new }
 {
-    match request(alloc, plan, scope, sampler, state, outside) {
-        Ok(request) => match exchange_for(alloc, sampler, request, state, outside) {
-            Ok(exchange) => follow(alloc, plan, scope, sampler, exchange, state, searches),
-            Err(error) => Err(error),
-        },
-        Err(error) => Err(error),
-    }
+    let request = request(alloc, plan, scope, sampler, state, outside)?;
+    let exchange = exchange_for(alloc, sampler, request, state, outside)?;
+    follow(alloc, plan, scope, sampler, exchange, state, searches)
 }
 
 /// The whole of a sampler.
@@ -266,19 +254,11 @@ pub(crate) fn run_pipeline<'p, O: Outside>(
     ensures cut { result ≡ Err VarError.NoMemory
         → cut_pipeline plan.now.elements scope.now sampler (O.account outside.old) state.old (O.account outside.new) state.new }
 {
-    match pre_process(alloc, plan, scope.pre.as_slice(), state, outside) {
-        Ok(()) => match delay(alloc, plan, scope, state, outside) {
-            Ok(paused) => match pause(paused, state, outside) {
-                Ok(()) => match ask(alloc, plan, scope, sampler, state, outside, searches) {
-                    Ok(sample) => Ok(Done { sample, paused }),
-                    Err(error) => Err(error),
-                },
-                Err(error) => Err(error),
-            },
-            Err(error) => Err(error),
-        },
-        Err(error) => Err(error),
-    }
+    pre_process(alloc, plan, scope.pre.as_slice(), state, outside)?;
+    let paused = delay(alloc, plan, scope, state, outside)?;
+    pause(paused, state, outside)?;
+    let sample = ask(alloc, plan, scope, sampler, state, outside, searches)?;
+    Ok(Done { sample, paused })
 }
 
 // The elements that took part, in their order.
@@ -327,14 +307,8 @@ pub fn run_one<O: Outside>(
     ensures later { IsLater state.old.fns state.new.fns }
 {
     let mut samplers = Pipeline::new(alloc);
-    match samplers.run(plan, scope, sampler, state, outside) {
-        Ok(done) => match list_order(alloc, scope, sampler, &done.sample) {
-            Ok(list) => {
-                *order = list;
-                Ok(done)
-            }
-            Err(_) => Err(VarError::NoMemory),
-        },
-        Err(error) => Err(error),
-    }
+    let done = samplers.run(plan, scope, sampler, state, outside)?;
+    let list = list_order(alloc, scope, sampler, &done.sample)?;
+    *order = list;
+    Ok(done)
 }

@@ -1,3 +1,4 @@
+use Rattle.std.proofs.lemmas.Result.{err_from_is_err_and}
 use Rattle.std.specs.Prelude.{Ok, Err, List, ℕ}
 use Rattle.jm_base.specs.Run.{over}
 use Rattle.jm_base.proofs.RunLaws.{goes-nothing}
@@ -23,60 +24,63 @@ module _ (es : List Element) (cs : List ℕ) (n : ℕ) where
   abbrev after_host : List ℕ → Try Address
   after_host host = property_text Port es cs n >=> after_port host
 
-pub returns-in-Ok-property_text-2-clause-came : goal.returns-in-Ok-property_text-2-clause-came
-returns-in-Ok-property_text-2-clause-came g c =
+pub returns-clause-came : goal.returns-clause-came
+returns-clause-came g c =
     let es = c.args.plan.now.elements in
     let cs = c.args.config.now in
     let n = c.args.sampler in
-    let new = c.property_text-in-Ok-property_text.new.state in
-    let host = c.in-Ok.host in
-    let port = c.in-Ok-property_text.port in
-    let path = c.in-Ok-property_text-2.path in
-    then-came _ _ _ (property_text Host es cs n) (after_host es cs n) c.args.state.now c.property_text.new.state host (λ (x : Address). over (fine x new)) (over (past_limit new)) (Ok (made host port path)) c.in-Ok.ensures.came
-    (then-came _ _ _ (property_text Port es cs n) (after_port es cs n host) c.property_text.new.state c.property_text-in-Ok.new.state port (λ (x : Address). over (fine x new)) (over (past_limit new)) (Ok (made host port path)) c.in-Ok-property_text.ensures.came
-    (then-came _ _ _ (property_text Path es cs n) (after_path es cs n host port) c.property_text-in-Ok.new.state new path (λ (x : Address). over (fine x new)) (over (past_limit new)) (Ok (made host port path)) c.in-Ok-property_text-2.ensures.came (goes-nothing _ _)))
+    let new = c.property_text-3.new.state in
+    let host = c.in_ok-host.host in
+    let port = c.in_ok-port.port in
+    let path = c.in_ok-path.path in
+    then-came _ _ _ (property_text Host es cs n) (after_host es cs n) c.args.state.now c.property_text.new.state host (λ (x : Address). over (fine x new)) (over (past_limit new)) (Ok (made host port path)) c.in_ok-host.ensures.came
+    (then-came _ _ _ (property_text Port es cs n) (after_port es cs n host) c.property_text.new.state c.property_text-2.new.state port (λ (x : Address). over (fine x new)) (over (past_limit new)) (Ok (made host port path)) c.in_ok-port.ensures.came
+    (then-came _ _ _ (property_text Path es cs n) (after_path es cs n host port) c.property_text-2.new.state new path (λ (x : Address). over (fine x new)) (over (past_limit new)) (Ok (made host port path)) c.in_ok-path.ensures.came (goes-nothing _ _)))
 
-pub returns-in-Err-property_text-2-clause-came : goal.returns-in-Err-property_text-2-clause-came
-returns-in-Err-property_text-2-clause-came g c =
+pub returns-in_err-path-clause-came : goal.returns-in_err-path-clause-came
+returns-in_err-path-clause-came g c =
     let es = c.args.plan.now.elements in
     let cs = c.args.config.now in
     let n = c.args.sampler in
-    let new = c.property_text-in-Ok-property_text.new.state in
-    let host = c.in-Ok.host in
-    let port = c.in-Ok-property_text.port in
-    let e = c.in-Err-property_text-2.error in
-    then-came _ _ _ (property_text Host es cs n) (after_host es cs n) c.args.state.now c.property_text.new.state host (λ (x : Address). over (fine x new)) (over (past_limit new)) (Err e) c.in-Ok.ensures.came
-    (then-came _ _ _ (property_text Port es cs n) (after_port es cs n host) c.property_text.new.state c.property_text-in-Ok.new.state port (λ (x : Address). over (fine x new)) (over (past_limit new)) (Err e) c.in-Ok-property_text.ensures.came
-    (then-refused _ _ (property_text Path es cs n) (after_path es cs n host port) c.property_text-in-Ok.new.state new e c.in-Err-property_text-2.ensures.came))
+    let new = c.property_text-3.new.state in
+    let host = c.in_ok-host.host in
+    let port = c.in_ok-port.port in
+    let e = c.in_err-path.field-0.0 in
+    let out = err_from_is_err_and c.from_residual-in_err-path.result c.from_residual-in_err-path.ensures.1 in
+    rw (out.1, out.2) (then-came _ _ _ (property_text Host es cs n) (after_host es cs n) c.args.state.now c.property_text.new.state host (λ (x : Address). over (fine x new)) (over (past_limit new)) (Err e) c.in_ok-host.ensures.came
+    (then-came _ _ _ (property_text Port es cs n) (after_port es cs n host) c.property_text.new.state c.property_text-2.new.state port (λ (x : Address). over (fine x new)) (over (past_limit new)) (Err e) c.in_ok-port.ensures.came
+    (then-refused _ _ (property_text Path es cs n) (after_path es cs n host port) c.property_text-2.new.state new e c.in_err-path.ensures.came)))
 
-pub returns-in-Err-property_text-clause-came : goal.returns-in-Err-property_text-clause-came
-returns-in-Err-property_text-clause-came g c =
+pub returns-in_err-port-clause-came : goal.returns-in_err-port-clause-came
+returns-in_err-port-clause-came g c =
     let es = c.args.plan.now.elements in
     let cs = c.args.config.now in
     let n = c.args.sampler in
-    let new = c.property_text-in-Ok.new.state in
-    let host = c.in-Ok.host in
-    let e = c.in-Err-property_text.error in
-    then-came _ _ _ (property_text Host es cs n) (after_host es cs n) c.args.state.now c.property_text.new.state host (λ (x : Address). over (fine x new)) (over (past_limit new)) (Err e) c.in-Ok.ensures.came
-    (then-refused _ _ (property_text Port es cs n) (after_port es cs n host) c.property_text.new.state new e c.in-Err-property_text.ensures.came)
+    let new = c.property_text-2.new.state in
+    let host = c.in_ok-host.host in
+    let e = c.in_err-port.field-0.0 in
+    let out = err_from_is_err_and c.from_residual-in_err-port.result c.from_residual-in_err-port.ensures.1 in
+    rw (out.1, out.2) (then-came _ _ _ (property_text Host es cs n) (after_host es cs n) c.args.state.now c.property_text.new.state host (λ (x : Address). over (fine x new)) (over (past_limit new)) (Err e) c.in_ok-host.ensures.came
+    (then-refused _ _ (property_text Port es cs n) (after_port es cs n host) c.property_text.new.state new e c.in_err-port.ensures.came))
 
-pub returns-in-Err-clause-came : goal.returns-in-Err-clause-came
-returns-in-Err-clause-came g c =
+pub returns-in_err-host-clause-came : goal.returns-in_err-host-clause-came
+returns-in_err-host-clause-came g c =
     let es = c.args.plan.now.elements in
     let cs = c.args.config.now in
     let n = c.args.sampler in
-    then-refused _ _ (property_text Host es cs n) (after_host es cs n) c.args.state.now c.property_text.new.state c.in-Err.error c.in-Err.ensures.came
+    let out = err_from_is_err_and c.from_residual.result c.from_residual.ensures.1 in
+    rw (out.1, out.2) (then-refused _ _ (property_text Host es cs n) (after_host es cs n) c.args.state.now c.property_text.new.state c.in_err-host.field-0.0 c.in_err-host.ensures.came)
 
-pub returns-in-Ok-property_text-2-clause-stands : goal.returns-in-Ok-property_text-2-clause-stands
-returns-in-Ok-property_text-2-clause-stands g c =
-    stands-then c.args.state.now c.property_text.new.state c.property_text-in-Ok-property_text.new.state c.in-Ok.ensures.stands
-    (stands-then c.property_text.new.state c.property_text-in-Ok.new.state c.property_text-in-Ok-property_text.new.state c.in-Ok-property_text.ensures.stands c.in-Ok-property_text-2.ensures.stands)
+pub returns-clause-stands : goal.returns-clause-stands
+returns-clause-stands g c =
+    stands-then c.args.state.now c.property_text.new.state c.property_text-3.new.state c.in_ok-host.ensures.stands
+    (stands-then c.property_text.new.state c.property_text-2.new.state c.property_text-3.new.state c.in_ok-port.ensures.stands c.in_ok-path.ensures.stands)
 
-pub returns-in-Err-property_text-2-clause-stands : goal.returns-in-Err-property_text-2-clause-stands
-returns-in-Err-property_text-2-clause-stands g c =
-    stands-then c.args.state.now c.property_text.new.state c.property_text-in-Ok-property_text.new.state c.in-Ok.ensures.stands
-    (stands-then c.property_text.new.state c.property_text-in-Ok.new.state c.property_text-in-Ok-property_text.new.state c.in-Ok-property_text.ensures.stands c.in-Err-property_text-2.ensures.stands)
+pub returns-in_err-path-clause-stands : goal.returns-in_err-path-clause-stands
+returns-in_err-path-clause-stands g c =
+    stands-then c.args.state.now c.property_text.new.state c.property_text-3.new.state c.in_ok-host.ensures.stands
+    (stands-then c.property_text.new.state c.property_text-2.new.state c.property_text-3.new.state c.in_ok-port.ensures.stands c.in_err-path.ensures.stands)
 
-pub returns-in-Err-property_text-clause-stands : goal.returns-in-Err-property_text-clause-stands
-returns-in-Err-property_text-clause-stands g c =
-    stands-then c.args.state.now c.property_text.new.state c.property_text-in-Ok.new.state c.in-Ok.ensures.stands c.in-Err-property_text.ensures.stands
+pub returns-in_err-port-clause-stands : goal.returns-in_err-port-clause-stands
+returns-in_err-port-clause-stands g c =
+    stands-then c.args.state.now c.property_text.new.state c.property_text-2.new.state c.in_ok-host.ensures.stands c.in_err-port.ensures.stands

@@ -1,3 +1,4 @@
+use Rattle.std.proofs.lemmas.Result.{err_from_is_err_and}
 use Rattle.std.proofs.Common.{ap, ◌∙◌, refl, inl, inr}
 use Rattle.element_tree.specs.Scope.{Scope}
 use Rattle.std.specs.Prelude.{Ok, Err}
@@ -15,110 +16,123 @@ use Rattle.thread_vars.specs.declared.error.VarError.TheVariants.{NoMemory}
 use Rattle.sampler_pipeline.proofs.StageLaws.{same-error}
 use Rattle.sampler_pipeline.proofs.run.run_pipeline.Goals as goal
 
-pub returns-in-Ok-ask-clause-came : goal.returns-in-Ok-ask-clause-came
+pub returns-clause-came : goal.returns-clause-came
 unfolding pipeline
-returns-in-Ok-ask-clause-came g c =
+returns-clause-came g c =
     let es = c.args.plan.now.elements in
     let sc = c.args.scope.now in
     let new = c.ask.new.state in
-    let done : Done = record { sample = c.in-Ok-ask.sample; paused = c.in-Ok-delay.paused } in
-    then-came _ _ _ (pre_process es sc.pre) (λ u. after_pre es sc c.args.sampler) c.args.state.now c.pre_process.new.state tt (λ (x : Done). over (fine x new)) (over (past_limit new)) (Ok done) (rw (c.as_slice.ensures.value ∙ ap (λ (s : Scope). s.pre) c.scope.view_is) at c.in-Ok.ensures.came)
-    (then-came _ _ _ (delay es sc.timers) (after_delay es sc c.args.sampler) c.pre_process.new.state c.delay.new.state c.in-Ok-delay.paused (λ (x : Done). over (fine x new)) (over (past_limit new)) (Ok done) c.in-Ok-delay.ensures.came
-    (then-came _ _ _ (pausing c.in-Ok-delay.paused) (λ u. after_pause es sc c.args.sampler c.in-Ok-delay.paused) c.delay.new.state c.delay.new.state tt (λ (x : Done). over (fine x new)) (over (past_limit new)) (Ok done) c.in-Ok-pause.ensures.came
-    (then-came _ _ _ (asking es sc c.args.sampler) (after_request es sc c.args.sampler c.in-Ok-delay.paused) c.delay.new.state new c.in-Ok-ask.sample (λ (x : Done). over (fine x new)) (over (past_limit new)) (Ok done) c.in-Ok-ask.ensures.came
+    let done : Done = record { sample = c.in_ok-sample.sample; paused = c.in_ok-paused.paused } in
+    then-came _ _ _ (pre_process es sc.pre) (λ u. after_pre es sc c.args.sampler) c.args.state.now c.pre_process.new.state tt (λ (x : Done). over (fine x new)) (over (past_limit new)) (Ok done) (rw (c.as_slice.ensures.value ∙ ap (λ (s : Scope). s.pre) c.scope.view_is) at c.in_ok-pre_process.ensures.came)
+    (then-came _ _ _ (delay es sc.timers) (after_delay es sc c.args.sampler) c.pre_process.new.state c.delay.new.state c.in_ok-paused.paused (λ (x : Done). over (fine x new)) (over (past_limit new)) (Ok done) c.in_ok-paused.ensures.came
+    (then-came _ _ _ (pausing c.in_ok-paused.paused) (λ u. after_pause es sc c.args.sampler c.in_ok-paused.paused) c.delay.new.state c.delay.new.state tt (λ (x : Done). over (fine x new)) (over (past_limit new)) (Ok done) c.in_ok-pause.ensures.came
+    (then-came _ _ _ (asking es sc c.args.sampler) (after_request es sc c.args.sampler c.in_ok-paused.paused) c.delay.new.state new c.in_ok-sample.sample (λ (x : Done). over (fine x new)) (over (past_limit new)) (Ok done) c.in_ok-sample.ensures.came
     (goes-nothing _ _))))
 
-pub returns-in-Err-clause-came : goal.returns-in-Err-clause-came
+pub returns-in_err-pre_process-clause-came : goal.returns-in_err-pre_process-clause-came
 unfolding pipeline
-returns-in-Err-clause-came g c = then-refused _ _ (pre_process c.args.plan.now.elements c.args.scope.now.pre) _ c.args.state.now c.pre_process.new.state c.in-Err.error (rw (c.as_slice.ensures.value ∙ ap (λ (s : Scope). s.pre) c.scope.view_is) at c.in-Err.ensures.came)
+returns-in_err-pre_process-clause-came g c =
+    let out = err_from_is_err_and c.from_residual.result c.from_residual.ensures.1 in
+    rw (out.1, out.2) (then-refused _ _ (pre_process c.args.plan.now.elements c.args.scope.now.pre) _ c.args.state.now c.pre_process.new.state c.in_err-pre_process.field-0.0 (rw (c.as_slice.ensures.value ∙ ap (λ (s : Scope). s.pre) c.scope.view_is) at c.in_err-pre_process.ensures.came))
 
-pub returns-in-Err-delay-clause-came : goal.returns-in-Err-delay-clause-came
+pub returns-in_err-paused-clause-came : goal.returns-in_err-paused-clause-came
 unfolding pipeline
-returns-in-Err-delay-clause-came g c =
+returns-in_err-paused-clause-came g c =
     let es = c.args.plan.now.elements in
     let sc = c.args.scope.now in
     let new = c.delay.new.state in
-    then-came _ _ _ (pre_process es sc.pre) (λ u. after_pre es sc c.args.sampler) c.args.state.now c.pre_process.new.state tt (λ done. over (fine done new)) (over (past_limit new)) (Err c.in-Err-delay.error) (rw (c.as_slice.ensures.value ∙ ap (λ (s : Scope). s.pre) c.scope.view_is) at c.in-Ok.ensures.came)
-    (then-refused _ _ (delay es sc.timers) (after_delay es sc c.args.sampler) c.pre_process.new.state new c.in-Err-delay.error c.in-Err-delay.ensures.came)
+    let out = err_from_is_err_and c.from_residual-in_err-paused.result c.from_residual-in_err-paused.ensures.1 in
+    rw (out.1, out.2) (then-came _ _ _ (pre_process es sc.pre) (λ u. after_pre es sc c.args.sampler) c.args.state.now c.pre_process.new.state tt (λ done. over (fine done new)) (over (past_limit new)) (Err c.in_err-paused.field-0.0) (rw (c.as_slice.ensures.value ∙ ap (λ (s : Scope). s.pre) c.scope.view_is) at c.in_ok-pre_process.ensures.came)
+    (then-refused _ _ (delay es sc.timers) (after_delay es sc c.args.sampler) c.pre_process.new.state new c.in_err-paused.field-0.0 c.in_err-paused.ensures.came))
 
-pub returns-in-Err-pause-clause-came : goal.returns-in-Err-pause-clause-came
+pub returns-in_err-pause-clause-came : goal.returns-in_err-pause-clause-came
 unfolding pipeline
-returns-in-Err-pause-clause-came g c =
+returns-in_err-pause-clause-came g c =
     let es = c.args.plan.now.elements in
     let sc = c.args.scope.now in
     let new = c.delay.new.state in
-    then-came _ _ _ (pre_process es sc.pre) (λ u. after_pre es sc c.args.sampler) c.args.state.now c.pre_process.new.state tt (λ done. over (fine done new)) (over (past_limit new)) (Err c.in-Err-pause.error) (rw (c.as_slice.ensures.value ∙ ap (λ (s : Scope). s.pre) c.scope.view_is) at c.in-Ok.ensures.came)
-    (then-came _ _ _ (delay es sc.timers) (after_delay es sc c.args.sampler) c.pre_process.new.state new c.in-Ok-delay.paused (λ done. over (fine done new)) (over (past_limit new)) (Err c.in-Err-pause.error) c.in-Ok-delay.ensures.came
-    (then-refused _ _ (pausing c.in-Ok-delay.paused) (λ u. after_pause es sc c.args.sampler c.in-Ok-delay.paused) new new c.in-Err-pause.error c.in-Err-pause.ensures.came))
+    let out = err_from_is_err_and c.from_residual-in_err-pause.result c.from_residual-in_err-pause.ensures.1 in
+    rw (out.1, out.2) (then-came _ _ _ (pre_process es sc.pre) (λ u. after_pre es sc c.args.sampler) c.args.state.now c.pre_process.new.state tt (λ done. over (fine done new)) (over (past_limit new)) (Err c.in_err-pause.field-0.0) (rw (c.as_slice.ensures.value ∙ ap (λ (s : Scope). s.pre) c.scope.view_is) at c.in_ok-pre_process.ensures.came)
+    (then-came _ _ _ (delay es sc.timers) (after_delay es sc c.args.sampler) c.pre_process.new.state new c.in_ok-paused.paused (λ done. over (fine done new)) (over (past_limit new)) (Err c.in_err-pause.field-0.0) c.in_ok-paused.ensures.came
+    (then-refused _ _ (pausing c.in_ok-paused.paused) (λ u. after_pause es sc c.args.sampler c.in_ok-paused.paused) new new c.in_err-pause.field-0.0 c.in_err-pause.ensures.came)))
 
-pub returns-in-Err-ask-clause-came : goal.returns-in-Err-ask-clause-came
+pub returns-in_err-sample-clause-came : goal.returns-in_err-sample-clause-came
 unfolding pipeline
-returns-in-Err-ask-clause-came g c =
+returns-in_err-sample-clause-came g c =
     let es = c.args.plan.now.elements in
     let sc = c.args.scope.now in
     let new = c.ask.new.state in
-    then-came _ _ _ (pre_process es sc.pre) (λ u. after_pre es sc c.args.sampler) c.args.state.now c.pre_process.new.state tt (λ done. over (fine done new)) (over (past_limit new)) (Err c.in-Err-ask.error) (rw (c.as_slice.ensures.value ∙ ap (λ (s : Scope). s.pre) c.scope.view_is) at c.in-Ok.ensures.came)
-    (then-came _ _ _ (delay es sc.timers) (after_delay es sc c.args.sampler) c.pre_process.new.state c.delay.new.state c.in-Ok-delay.paused (λ done. over (fine done new)) (over (past_limit new)) (Err c.in-Err-ask.error) c.in-Ok-delay.ensures.came
-    (then-came _ _ _ (pausing c.in-Ok-delay.paused) (λ u. after_pause es sc c.args.sampler c.in-Ok-delay.paused) c.delay.new.state c.delay.new.state tt (λ done. over (fine done new)) (over (past_limit new)) (Err c.in-Err-ask.error) c.in-Ok-pause.ensures.came
-    (then-refused _ _ (asking es sc c.args.sampler) (after_request es sc c.args.sampler c.in-Ok-delay.paused) c.delay.new.state new c.in-Err-ask.error c.in-Err-ask.ensures.came)))
+    let out = err_from_is_err_and c.from_residual-in_err-sample.result c.from_residual-in_err-sample.ensures.1 in
+    rw (out.1, out.2) (then-came _ _ _ (pre_process es sc.pre) (λ u. after_pre es sc c.args.sampler) c.args.state.now c.pre_process.new.state tt (λ done. over (fine done new)) (over (past_limit new)) (Err c.in_err-sample.field-0.0) (rw (c.as_slice.ensures.value ∙ ap (λ (s : Scope). s.pre) c.scope.view_is) at c.in_ok-pre_process.ensures.came)
+    (then-came _ _ _ (delay es sc.timers) (after_delay es sc c.args.sampler) c.pre_process.new.state c.delay.new.state c.in_ok-paused.paused (λ done. over (fine done new)) (over (past_limit new)) (Err c.in_err-sample.field-0.0) c.in_ok-paused.ensures.came
+    (then-came _ _ _ (pausing c.in_ok-paused.paused) (λ u. after_pause es sc c.args.sampler c.in_ok-paused.paused) c.delay.new.state c.delay.new.state tt (λ done. over (fine done new)) (over (past_limit new)) (Err c.in_err-sample.field-0.0) c.in_ok-pause.ensures.came
+    (then-refused _ _ (asking es sc c.args.sampler) (after_request es sc c.args.sampler c.in_ok-paused.paused) c.delay.new.state new c.in_err-sample.field-0.0 c.in_err-sample.ensures.came))))
 
-pub returns-in-Ok-ask-clause-later : goal.returns-in-Ok-ask-clause-later
-returns-in-Ok-ask-clause-later g c =
-    later_then c.args.state.now.fns c.pre_process.new.state.fns c.ask.new.state.fns c.in-Ok.ensures.later
-    (later_then c.pre_process.new.state.fns c.delay.new.state.fns c.ask.new.state.fns c.in-Ok-delay.ensures.later c.in-Ok-ask.ensures.later)
+pub returns-clause-later : goal.returns-clause-later
+returns-clause-later g c =
+    later_then c.args.state.now.fns c.pre_process.new.state.fns c.ask.new.state.fns c.in_ok-pre_process.ensures.later
+    (later_then c.pre_process.new.state.fns c.delay.new.state.fns c.ask.new.state.fns c.in_ok-paused.ensures.later c.in_ok-sample.ensures.later)
 
-pub returns-in-Err-delay-clause-later : goal.returns-in-Err-delay-clause-later
-returns-in-Err-delay-clause-later g c = later_then c.args.state.now.fns c.pre_process.new.state.fns c.delay.new.state.fns c.in-Ok.ensures.later c.in-Err-delay.ensures.later
+pub returns-in_err-paused-clause-later : goal.returns-in_err-paused-clause-later
+returns-in_err-paused-clause-later g c = later_then c.args.state.now.fns c.pre_process.new.state.fns c.delay.new.state.fns c.in_ok-pre_process.ensures.later c.in_err-paused.ensures.later
 
-pub returns-in-Err-pause-clause-later : goal.returns-in-Err-pause-clause-later
-returns-in-Err-pause-clause-later g c = later_then c.args.state.now.fns c.pre_process.new.state.fns c.delay.new.state.fns c.in-Ok.ensures.later c.in-Ok-delay.ensures.later
+pub returns-in_err-pause-clause-later : goal.returns-in_err-pause-clause-later
+returns-in_err-pause-clause-later g c = later_then c.args.state.now.fns c.pre_process.new.state.fns c.delay.new.state.fns c.in_ok-pre_process.ensures.later c.in_ok-paused.ensures.later
 
-pub returns-in-Err-ask-clause-later : goal.returns-in-Err-ask-clause-later
-returns-in-Err-ask-clause-later g c =
-    later_then c.args.state.now.fns c.pre_process.new.state.fns c.ask.new.state.fns c.in-Ok.ensures.later
-    (later_then c.pre_process.new.state.fns c.delay.new.state.fns c.ask.new.state.fns c.in-Ok-delay.ensures.later c.in-Err-ask.ensures.later)
+pub returns-in_err-sample-clause-later : goal.returns-in_err-sample-clause-later
+returns-in_err-sample-clause-later g c =
+    later_then c.args.state.now.fns c.pre_process.new.state.fns c.ask.new.state.fns c.in_ok-pre_process.ensures.later
+    (later_then c.pre_process.new.state.fns c.delay.new.state.fns c.ask.new.state.fns c.in_ok-paused.ensures.later c.in_err-sample.ensures.later)
 
-pub returns-in-Err-clause-cut : goal.returns-in-Err-clause-cut
-returns-in-Err-clause-cut g c = λ none. inl (rw (c.as_slice.ensures.value ∙ ap (λ (s : Scope). s.pre) c.scope.view_is) at (c.in-Err.ensures.cut (same-error c.in-Err.error NoMemory none)))
+pub returns-in_err-pre_process-clause-cut : goal.returns-in_err-pre_process-clause-cut
+returns-in_err-pre_process-clause-cut g c =
+    let out = err_from_is_err_and c.from_residual.result c.from_residual.ensures.1 in
+    rw (out.1, out.2) (λ none. inl (rw (c.as_slice.ensures.value ∙ ap (λ (s : Scope). s.pre) c.scope.view_is) at (c.in_err-pre_process.ensures.cut (same-error c.in_err-pre_process.field-0.0 NoMemory none))))
 
-pub returns-in-Err-delay-clause-cut : goal.returns-in-Err-delay-clause-cut
-returns-in-Err-delay-clause-cut g c = λ none. inr (record {
-  came = tt;
-  between = c.pre_process.new.state;
-  moment = _;
-  whole = rw (c.as_slice.ensures.value ∙ ap (λ (s : Scope). s.pre) c.scope.view_is) at c.in-Ok.ensures.came;
-  next = inl (record {
-    stands = record { vars = c.in-Err-delay.ensures.vars; fns = c.in-Err-delay.ensures.later };
-    rest = refused-left c.in-Err-delay.ensures.came;
-  });
-})
+pub returns-in_err-paused-clause-cut : goal.returns-in_err-paused-clause-cut
+returns-in_err-paused-clause-cut g c =
+    let out = err_from_is_err_and c.from_residual-in_err-paused.result c.from_residual-in_err-paused.ensures.1 in
+    rw (out.1, out.2) (λ none. inr (record {
+      came = tt;
+      between = c.pre_process.new.state;
+      moment = _;
+      whole = rw (c.as_slice.ensures.value ∙ ap (λ (s : Scope). s.pre) c.scope.view_is) at c.in_ok-pre_process.ensures.came;
+      next = inl (record {
+        stands = record { vars = c.in_err-paused.ensures.vars; fns = c.in_err-paused.ensures.later };
+        rest = refused-left c.in_err-paused.ensures.came;
+      });
+    }))
 
-pub returns-in-Err-pause-clause-cut : goal.returns-in-Err-pause-clause-cut
-returns-in-Err-pause-clause-cut g c = λ none. inr (record {
-  came = tt;
-  between = c.pre_process.new.state;
-  moment = _;
-  whole = rw (c.as_slice.ensures.value ∙ ap (λ (s : Scope). s.pre) c.scope.view_is) at c.in-Ok.ensures.came;
-  next = inr (record {
-    came = c.in-Ok-delay.paused;
-    between = c.delay.new.state;
-    moment = _;
-    whole = c.in-Ok-delay.ensures.came;
-    next = inl (record { stands = record { vars = refl; fns = later_same _ }; rest = refused-left c.in-Err-pause.ensures.came });
-  });
-})
+pub returns-in_err-pause-clause-cut : goal.returns-in_err-pause-clause-cut
+returns-in_err-pause-clause-cut g c =
+    let out = err_from_is_err_and c.from_residual-in_err-pause.result c.from_residual-in_err-pause.ensures.1 in
+    rw (out.1, out.2) (λ none. inr (record {
+      came = tt;
+      between = c.pre_process.new.state;
+      moment = _;
+      whole = rw (c.as_slice.ensures.value ∙ ap (λ (s : Scope). s.pre) c.scope.view_is) at c.in_ok-pre_process.ensures.came;
+      next = inr (record {
+        came = c.in_ok-paused.paused;
+        between = c.delay.new.state;
+        moment = _;
+        whole = c.in_ok-paused.ensures.came;
+        next = inl (record { stands = record { vars = refl; fns = later_same _ }; rest = refused-left c.in_err-pause.ensures.came });
+      });
+    }))
 
-pub returns-in-Err-ask-clause-cut : goal.returns-in-Err-ask-clause-cut
-returns-in-Err-ask-clause-cut g c = λ none. inr (record {
-  came = tt;
-  between = c.pre_process.new.state;
-  moment = _;
-  whole = rw (c.as_slice.ensures.value ∙ ap (λ (s : Scope). s.pre) c.scope.view_is) at c.in-Ok.ensures.came;
-  next = inr (record {
-    came = c.in-Ok-delay.paused;
-    between = c.delay.new.state;
-    moment = _;
-    whole = c.in-Ok-delay.ensures.came;
-    next = inr (record { came = tt; between = c.delay.new.state; moment = _; whole = c.in-Ok-pause.ensures.came; next = c.in-Err-ask.ensures.cut (same-error c.in-Err-ask.error NoMemory none) });
-  });
-})
+pub returns-in_err-sample-clause-cut : goal.returns-in_err-sample-clause-cut
+returns-in_err-sample-clause-cut g c =
+    let out = err_from_is_err_and c.from_residual-in_err-sample.result c.from_residual-in_err-sample.ensures.1 in
+    rw (out.1, out.2) (λ none. inr (record {
+      came = tt;
+      between = c.pre_process.new.state;
+      moment = _;
+      whole = rw (c.as_slice.ensures.value ∙ ap (λ (s : Scope). s.pre) c.scope.view_is) at c.in_ok-pre_process.ensures.came;
+      next = inr (record {
+        came = c.in_ok-paused.paused;
+        between = c.delay.new.state;
+        moment = _;
+        whole = c.in_ok-paused.ensures.came;
+        next = inr (record { came = tt; between = c.delay.new.state; moment = _; whole = c.in_ok-pause.ensures.came; next = c.in_err-sample.ensures.cut (same-error c.in_err-sample.field-0.0 NoMemory none) });
+      });
+    }))

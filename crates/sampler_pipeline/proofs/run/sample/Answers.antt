@@ -1,3 +1,4 @@
+use Rattle.std.proofs.lemmas.Result.{err_from_is_err_and}
 use Rattle.std.specs.Prelude.{Some, Ok}
 use Rattle.jm_base.specs.Run.{over}
 use Rattle.jm_base.proofs.RunLaws.{goes-nothing}
@@ -9,14 +10,16 @@ use Rattle.thread_vars.specs.declared.error.VarError.TheVariants.{NoMemory}
 use Rattle.sampler_pipeline.proofs.StageLaws.{same-error}
 use Rattle.sampler_pipeline.proofs.run.sample.Goals as goal
 
-pub returns-in-Ok-clause-came : goal.returns-in-Ok-clause-came
-returns-in-Ok-clause-came c = λ a. rw c.in-Some.is
-    (then-came a a _ (answering c.args.plan.now.elements c.args.scope.now c.args.sampler c.args.stamp c.in-Some.answer) (λ sample. giving (Some sample)) c.args.state.now c.sample_answer.new.state c.in-Ok.sample
-    (λ s. over (fine s c.sample_answer.new.state)) (over (past_limit c.sample_answer.new.state)) (Ok (Some c.in-Ok.sample)) (c.in-Ok.ensures.came a) (goes-nothing a _))
+pub returns-in_ok-sample-in-Some-clause-came : goal.returns-in_ok-sample-in-Some-clause-came
+returns-in_ok-sample-in-Some-clause-came c = λ a. rw c.in-Some.is
+    (then-came a a _ (answering c.args.plan.now.elements c.args.scope.now c.args.sampler c.args.stamp c.in-Some.answer) (λ sample. giving (Some sample)) c.args.state.now c.sample_answer.new.state c.in_ok-sample-in-Some.sample
+    (λ s. over (fine s c.sample_answer.new.state)) (over (past_limit c.sample_answer.new.state)) (Ok (Some c.in_ok-sample-in-Some.sample)) (c.in_ok-sample-in-Some.ensures.came a) (goes-nothing a _))
 
-pub returns-in-Err-clause-came : goal.returns-in-Err-clause-came
-returns-in-Err-clause-came c = λ a. rw c.in-Some.is
-    (then-refused a a (answering c.args.plan.now.elements c.args.scope.now c.args.sampler c.args.stamp c.in-Some.answer) (λ sample. giving (Some sample)) c.args.state.now c.sample_answer.new.state c.in-Err.error (c.in-Err.ensures.came a))
+pub returns-in_err-sample-in-Some-clause-came : goal.returns-in_err-sample-in-Some-clause-came
+returns-in_err-sample-in-Some-clause-came c =
+    let out = err_from_is_err_and c.from_residual.result c.from_residual.ensures.1 in
+    rw (out.1, out.2) (λ a. rw c.in-Some.is
+    (then-refused a a (answering c.args.plan.now.elements c.args.scope.now c.args.sampler c.args.stamp c.in-Some.answer) (λ sample. giving (Some sample)) c.args.state.now c.sample_answer.new.state c.in_err-sample-in-Some.field-0.0 (c.in_err-sample-in-Some.ensures.came a)))
 
 pub returns-in-None-clause-came : goal.returns-in-None-clause-came
 returns-in-None-clause-came c = λ a. rw c.in-None.is (goes-nothing a _)
@@ -24,5 +27,7 @@ returns-in-None-clause-came c = λ a. rw c.in-None.is (goes-nothing a _)
 pub returns-in-None-clause-later : goal.returns-in-None-clause-later
 returns-in-None-clause-later c = later_same _
 
-pub returns-in-Err-clause-cut : goal.returns-in-Err-clause-cut
-returns-in-Err-clause-cut c = λ a none. rw c.in-Some.is (c.in-Err.ensures.cut a (same-error c.in-Err.error NoMemory none))
+pub returns-in_err-sample-in-Some-clause-cut : goal.returns-in_err-sample-in-Some-clause-cut
+returns-in_err-sample-in-Some-clause-cut c =
+    let out = err_from_is_err_and c.from_residual.result c.from_residual.ensures.1 in
+    rw (out.1, out.2) (λ a none. rw c.in-Some.is (c.in_err-sample-in-Some.ensures.cut a (same-error c.in_err-sample-in-Some.field-0.0 NoMemory none)))
