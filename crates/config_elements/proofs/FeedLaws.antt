@@ -4,9 +4,8 @@ use Rattle.std.specs.Prelude.{Result, Ok, Err, Bool, slice_get, slice_set, slice
 use Rattle.std.proofs.Math.ListN.{get_or}
 use Rattle.std.proofs.Math.Seq.{drop-cons}
 use Rattle.std.specs.List.{filter, range_with_len}
-use Rattle.std.proofs.lemmas.List.{take_all, append-nil, map-append}
+use Rattle.std.proofs.lemmas.List.{take_all, append-nil, map-append, drop_all}
 use Rattle.scope_resolver.proofs.MemberLaws.{passed_step, left_step}
-use Rattle.csv.specs.Records.{field_at}
 use Rattle.jm_base.specs.Run.{over, ◌>>=◌}
 use Rattle.jm_base.specs.Outside.{Account, Goes}
 use Rattle.jm_base.proofs.RunLaws.{goes-nothing}
@@ -145,37 +144,24 @@ none-set elements n places state =
 
 -- ---- the fields of a row
 
-there-here : (xs : List (List ℕ)) (i : ℕ) (x : List ℕ) → Some x ≡ field_at xs i → drop i xs ≡ x ∷ drop (i + 1) xs
-unfolding field_at
-there-here [] zero x is = absurd (cc)
-there-here [] (suc i) x is = absurd (cc)
-there-here (y ∷ ys) zero x is = let e : x ≡ y = (cc) in rw e refl
-there-here (y ∷ ys) (suc i) x is = let e : suc i + 1 ≡ suc (i + 1) = omega arith in rw e (there-here ys i x is)
+item-here : (xs : List (List ℕ)) (i : ℕ) (x : List ℕ) → i < length xs → x ≡ get_or xs i x → drop i xs ≡ x ∷ drop (i + 1) xs
+item-here xs i x within is = (rw (add-one i) (drop-cons xs i x within)) ∙ ap (λ q. q ∷ drop (i + 1) xs) (sym is)
 
-none-after : (xs : List (List ℕ)) (i : ℕ) → None ≡ field_at xs i → drop i xs ≡ []
-unfolding field_at
-none-after [] zero is = refl
-none-after [] (suc i) is = refl
-none-after (y ∷ ys) zero is = absurd (cc)
-none-after (y ∷ ys) (suc i) is = none-after ys i is
-
-name-here : (xs : List (List ℕ)) (i : ℕ) (x : List ℕ) → i < length xs → x ≡ get_or xs i x → drop i xs ≡ x ∷ drop (i + 1) xs
-name-here xs i x within is = (rw (add-one i) (drop-cons xs i x within)) ∙ ap (λ q. q ∷ drop (i + 1) xs) (sym is)
-
-pub one-field : (names fields : List (List ℕ)) (i : ℕ) (name field : List ℕ) (acc all : List Variable) → i < length names → name ≡ get_or names i name → Some field ≡ field_at fields i
+pub one-field : (names fields : List (List ℕ)) (i : ℕ) (name field : List ℕ) (acc all : List Variable) → i < length names → name ≡ get_or names i name
+    → i < length fields → field ≡ get_or fields i field
     → acc ++ with_fields (drop i names) (drop i fields) ≡ all → (acc ++ variable name field ∷ []) ++ with_fields (drop (i + 1) names) (drop (i + 1) fields) ≡ all
-one-field names fields i name field acc all within is there so_far =
+one-field names fields i name field acc all within is there field_is so_far =
     append_assoc acc (variable name field ∷ []) (with_fields (drop (i + 1) names) (drop (i + 1) fields))
-    ∙ ap (λ fs. acc ++ with_fields (name ∷ drop (i + 1) names) fs) (sym (there-here fields i field there))
-    ∙ ap (λ ns. acc ++ with_fields ns (drop i fields)) (sym (name-here names i name within is)) ∙ so_far
+    ∙ ap (λ fs. acc ++ with_fields (name ∷ drop (i + 1) names) fs) (sym (item-here fields i field there field_is))
+    ∙ ap (λ ns. acc ++ with_fields ns (drop i fields)) (sym (item-here names i name within is)) ∙ so_far
 
 no-names : (names : List (List ℕ)) → with_fields names [] ≡ []
 no-names [] = refl
 no-names (n ∷ ns) = refl
 
-pub no-field : (names fields : List (List ℕ)) (i : ℕ) (acc all : List Variable) → None ≡ field_at fields i → acc ++ with_fields (drop i names) (drop i fields) ≡ all → acc ≡ all
+pub no-field : (names fields : List (List ℕ)) (i : ℕ) (acc all : List Variable) → length fields ≤ i → acc ++ with_fields (drop i names) (drop i fields) ≡ all → acc ≡ all
 no-field names fields i acc all none so_far =
-    sym (append-nil acc) ∙ ap (λ vs. acc ++ vs) (sym (no-names (drop i names))) ∙ ap (λ fs. acc ++ with_fields (drop i names) fs) (sym (none-after fields i none)) ∙ so_far
+    sym (append-nil acc) ∙ ap (λ vs. acc ++ vs) (sym (no-names (drop i names))) ∙ ap (λ fs. acc ++ with_fields (drop i names) fs) (sym (drop_all i fields none)) ∙ so_far
 
 -- ---- a feed of a list that is fed
 

@@ -3,14 +3,12 @@
 ghost use Rattle.std.specs.Prelude.{◌≡◌, ◌<◌, ◌∷◌, [], map, Err, IfOk, Some, ℕ, slice_get, slice_set, slice_index_or, decimal, codes};
 ghost use Rattle.jm_base.specs.Run.{over};
 ghost use Rattle.jm_base.specs.Outside.{Account};
-ghost use Rattle.csv.specs.Records.{fields_of};
 ghost use Rattle.cursor_steps.specs.CursorStep.{StepsTo};
 ghost use Rattle.config_elements.specs.RoundStart.{with_fields, next_row, counter_advance, at_the_end, set_advance, advance_at, advancing, begin_each, begin_round, feeds_of, rows_at, AreFed, FeedsOne};
 ghost use Rattle.config_elements.specs.RoundCut.{FeedsInPart, CutsRound};
 
 use crate::rows::Rows;
 use crate::state::{ConfigState, Feed};
-use csv::ByteRecord;
 use element_tree::{AtEnd, Kind, Plan};
 use itoa::Buffer;
 use jm_base::{Items, M, Outside, Text};
@@ -57,13 +55,13 @@ fn counted(alloc: Global, var: &Text, place: u64) -> M<Vec<Variable>>
 }
 
 // Each name with its field.
-fn with_fields(alloc: Global, names: &[Text], row: &ByteRecord) -> M<Vec<Variable>>
-    ensures { IfOk result (λ vs. vs.items ≡ with_fields names.now (fields_of row.now)) }
+fn with_fields(alloc: Global, names: &[Text], row: &[Text]) -> M<Vec<Variable>>
+    ensures { IfOk result (λ vs. vs.items ≡ with_fields names.now row.now) }
 {
     let mut variables = Vec::new(alloc);
     'names: for (place, name) in names.iter().enumerate() {
         match row.get(place) {
-            Some(field) => variables.push(variable(alloc, name, field)?)?,
+            Some(field) => variables.push(variable(alloc, name, field.bytes())?)?,
             None => return Ok(variables),
         }
     }
@@ -115,7 +113,7 @@ fn set_advance(alloc: Global, at_end: AtEnd, names: &[Text], rows: &Rows, place:
 {
     match rows.get(place) {
         Some(row) => Ok(Advance {
-            sets: Some(Items::of(with_fields(alloc, names, row)?)),
+            sets: Some(Items::of(with_fields(alloc, names, row.as_slice())?)),
             place: next_row(at_end, rows.count(), place),
         }),
         None => Ok(Advance {

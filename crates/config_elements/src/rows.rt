@@ -7,23 +7,33 @@ ghost use Rattle.element_props.specs.Tables.{rows_of};
 
 use csv::ByteRecord;
 use element_props::table_rows;
-use jm_base::M;
+use jm_base::{Items, M, Text};
 use std::alloc::Global;
 use std::marker::Model;
 
 /// Rows of fields.
 #[derive(Drop)]
 pub struct Rows {
-    records: Vec<ByteRecord>,
+    rows: Vec<Items<Text>>,
 }
 
 impl Model for Rows {
-    ghost use Rattle.std.specs.Prelude.{List, ℕ, map};
-    ghost use Rattle.csv.specs.Records.{fields_of};
+    ghost use Rattle.std.specs.Prelude.{List, ℕ};
 
     ghost Value = { List (List (List ℕ)) };
 
-    ghost view = { λ r. map fields_of r.records.items };
+    ghost view = { λ r. r.rows.items };
+}
+
+// The fields of a record, each a text of its own.
+fn fields_of(alloc: Global, row: &ByteRecord) -> M<Vec<Text>>
+    ensures { IfOk result (λ v. v.items ≡ fields_of row.now) }
+{
+    let mut fields = Vec::new(alloc);
+    'fields: for field in row {
+        fields.push(Text::new(alloc, field)?)?;
+    }
+    Ok(fields)
 }
 
 impl Rows {
@@ -32,7 +42,7 @@ impl Rows {
         ensures { result ≡ [] }
     {
         Rows {
-            records: Vec::new(alloc),
+            rows: Vec::new(alloc),
         }
     }
 
@@ -41,21 +51,25 @@ impl Rows {
         ensures { IfOk result (λ r. r ≡ rows_of text.now) }
     {
         let records = table_rows(alloc, text)?;
-        Ok(Rows { records })
+        let mut rows = Vec::new(alloc);
+        'records: for row in &records {
+            rows.push(Items::of(fields_of(alloc, row)?))?;
+        }
+        Ok(Rows { rows })
     }
 
     /// How many there are.
     pub(crate) fn count(&self) -> usize
         ensures { result ≡ length self.now }
     {
-        self.records.len()
+        self.rows.len()
     }
 
     /// The row at this place, from 0.
-    pub(crate) fn get(&self, place: u64) -> Option<&ByteRecord>
-        ensures row { option_map (λ r. fields_of r.now) result ≡ slice_get self.now place }
+    pub(crate) fn get(&self, place: u64) -> Option<&Items<Text>>
+        ensures row { option_map (λ r. r.now) result ≡ slice_get self.now place }
         ensures within { IfSome result (λ r. place < length self.now) }
     {
-        self.records.get(place as usize)
+        self.rows.get(place as usize)
     }
 }

@@ -1,7 +1,6 @@
 use Rattle.std.proofs.Common.{◌≡◌, ◌++◌, drop}
-use Rattle.csv.specs.Records.{fields_of}
 use Rattle.config_elements.specs.RoundStart.{with_fields}
 use Rattle.config_elements.proofs.rounds.with_fields.Given as goal
 
 abbrev pub invariant-names : goal.invariant-names
-invariant-names l = l.variables.items ++ with_fields (drop l.place l.names) (drop l.place (fields_of l.row)) ≡ with_fields l.names (fields_of l.row)
+invariant-names l = l.variables.items ++ with_fields (drop l.place l.names) (drop l.place l.row) ≡ with_fields l.names l.row
